@@ -1,0 +1,3 @@
+pub mod AscendingLemmas
+pub mod PairsLemmas
+mod SearchLemmas

@@ -1,0 +1,6 @@
+pub mod Ascending
+pub mod Equal
+pub mod Objects
+pub mod Pairs
+pub mod Settings
+pub mod Sum

@@ -1,0 +1,24 @@
+//! The words that every other crate speaks: ids, sets, pairs, places, cuts and settings.
+//!
+//! It promises that a set and a list of pairs ascend strictly, that settings are within the limits of
+//! this system, and that a clone equals what it was made of. It stands on nothing.
+//! Only the four `try_clone` take memory.
+#![tactic(auto)]
+
+mod cut;
+mod ids;
+mod memory;
+mod numbered;
+mod obj_set;
+mod pairs;
+mod places;
+mod settings;
+
+pub use cut::Cut;
+pub use ids::{Feeder, Mon, Obj};
+pub use memory::NoMemory;
+pub use numbered::NotAscending;
+pub use obj_set::ObjSet;
+pub use pairs::Pairs;
+pub use places::Places;
+pub use settings::{SettingFault, Settings};

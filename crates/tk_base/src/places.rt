@@ -1,0 +1,60 @@
+ghost use Rattle.std.specs.Prelude.{◌≡◌, ◌<◌, IfOk, length, slice_index};
+
+use crate::memory::NoMemory;
+use std::marker::Model;
+
+/// How many changes of each feeder of one monitor are reached, feeders ascending.
+#[derive(Debug, Drop, Clone)]
+pub struct Places {
+    list: Vec<u32>,
+}
+
+impl Model for Places {
+    ghost use Rattle.std.specs.Prelude.{ℕ, List};
+
+    ghost Value = { List ℕ };
+
+    ghost view = { λ p. p.list.items };
+}
+
+impl Places {
+    pub fn new(list: Vec<u32>) -> Places
+        ensures { result ≡ list.items }
+    {
+        Places { list }
+    }
+
+    pub fn len(&self) -> usize
+        ensures { result ≡ length self.now }
+    {
+        self.list.len()
+    }
+
+    pub fn at(&self, i: usize) -> u32
+        requires { i < length self.now }
+        ensures { result ≡ slice_index self.now i }
+    {
+        self.list[i]
+    }
+
+    pub fn try_clone(&self) -> Result<Places, NoMemory>
+        ensures { IfOk result (λ p. p ≡ self.now) }
+    {
+        let list = self.list.clone()?;
+        Ok(Places { list })
+    }
+}
+
+impl PartialEq for Places {
+    ghost use Rattle.std.specs.Prelude.{nat_eq};
+    ghost use Rattle.std.specs.Cmp.Lexicographic.{pointwise, lists_per};
+    ghost use Rattle.tk_base.specs.Equal.{numbers_equal};
+
+    ghost eq = { pointwise nat_eq };
+
+    ghost laws = { lists_per numbers_equal };
+
+    fn eq(&self, other: &Self) -> bool {
+        self.list == other.list
+    }
+}

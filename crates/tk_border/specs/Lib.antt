@@ -1,0 +1,2 @@
+pub mod Levels
+pub use Rattle.tk_base.specs.Objects

@@ -1,0 +1,2 @@
+//! Broken outsiders and borders over the levels of one node.
+#![tactic(auto)]

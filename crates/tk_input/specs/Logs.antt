@@ -1,0 +1,52 @@
+-- Logs and cuts: values, totals, and what makes a set valid.
+-- A part is a list of changes, each an object and a whole number. The logs have for each monitor a list
+-- of parts, one per feeder. A cut has for each monitor and feeder a place: so many changes are reached.
+use Rattle.std.specs.Prelude.{◌≡◌, ℕ, ◌-◌, ◌≤◌, ℤ, ◌+ℤ◌, ◌≤ℤ◌, List, [], length, map, filter, take, ◌==◌, slice_index_or, All, Contains}
+use Rattle.std.specs.List.{zip}
+use Rattle.tk_base.specs.Ascending.{IsAscending}
+use Rattle.tk_base.specs.Sum.{int_sum}
+
+-- the changes of one object, summed
+abbrev pub sum_for : ℕ → List (ℕ × ℤ) → ℤ
+sum_for o changes = int_sum (map (λ c. c.1) (filter (λ c. c.0 == o) changes))
+
+-- the value of an object at a monitor: the sum of its changes in the reached front of each part
+abbrev pub value_of : List (List (ℕ × ℤ)) → List ℕ → ℕ → ℤ
+value_of parts places o = int_sum (map (λ p. sum_for o (take p.1 p.0)) (zip parts places))
+
+-- the parts of a monitor, and its places in a cut
+abbrev pub parts_of : List (List (List (ℕ × ℤ))) → ℕ → List (List (ℕ × ℤ))
+parts_of logs mon = slice_index_or logs (mon - 1) []
+
+abbrev pub places_of : List (List ℕ) → ℕ → List ℕ
+places_of cut mon = slice_index_or cut (mon - 1) []
+
+-- the value of an object at monitor mon of the logs
+abbrev pub value : List (List (List (ℕ × ℤ))) → ℕ → ℕ → List (List ℕ) → ℤ
+value logs mon o cut = value_of (parts_of logs mon) (places_of cut mon) o
+
+-- the total of an object: its values over all monitors
+abbrev pub total : List (List (List (ℕ × ℤ))) → ℕ → List (List ℕ) → ℤ
+total logs o cut = int_sum (map (λ p. value_of p.0 p.1 o) (zip logs cut))
+
+-- one place per part, none past its end
+pub record ArePlaces (parts : List (List (ℕ × ℤ))) (places : List ℕ) : Type 0 where
+  pub shape : length places ≡ length parts
+  pub within : (f : ℕ) → slice_index_or places f 0 ≤ length (slice_index_or parts f [])
+
+-- a cut of the logs
+pub record IsCut (logs : List (List (List (ℕ × ℤ)))) (cut : List (List ℕ)) : Type 0 where
+  pub shape : length cut ≡ length logs
+  pub each : (j : ℕ) → ArePlaces (slice_index_or logs j []) (slice_index_or cut j [])
+
+-- the cut at the ends of all parts
+abbrev pub full_cut : List (List (List (ℕ × ℤ))) → List (List ℕ)
+full_cut logs = map (λ parts. map length parts) logs
+
+-- the set has k objects of a catalogue of n, and each one's total plus epsilon is at least that of
+-- every object outside
+pub record IsValid (logs : List (List (List (ℕ × ℤ)))) (n k : ℕ) (epsilon : ℤ) (cut : List (List ℕ)) (set : List ℕ) : Type 0 where
+  pub size : length set ≡ k
+  pub ascends : IsAscending set
+  pub within : All (λ t. t ≤ n) set
+  pub greatest : (t s : ℕ) → Contains set t → 1 ≤ s → s ≤ n → (Contains set s → ⊥) → total logs s cut ≤ℤ (total logs t cut +ℤ epsilon)
