@@ -1,3 +1,4 @@
 pub mod AscendingLemmas
+pub mod EqualLemmas
 pub mod PairsLemmas
 mod SearchLemmas

@@ -1,4 +1,4 @@
-ghost use Rattle.std.specs.Prelude.{◌≡◌, ◌<◌, IfOk, length, Some, slice_get};
+ghost use Rattle.std.specs.Prelude.{◌≡◌, ◌<◌, ◌↔◌, IsTrue, IfOk, length, Some, slice_get};
 
 use crate::memory::NoMemory;
 use crate::places::Places;
@@ -47,7 +47,7 @@ impl Cut {
 }
 
 impl PartialEq for Cut {
-    ghost use Rattle.std.specs.Prelude.{nat_eq};
+    ghost use Rattle.std.specs.Prelude.{◌≡◌, ◌↔◌, IsTrue, nat_eq};
     ghost use Rattle.std.specs.Cmp.Lexicographic.{pointwise, lists_per};
     ghost use Rattle.tk_base.specs.Equal.{numbers_equal};
 
@@ -55,7 +55,10 @@ impl PartialEq for Cut {
 
     ghost laws = { lists_per (lists_per numbers_equal) };
 
-    fn eq(&self, other: &Self) -> bool {
+    fn eq(&self, other: &Self) -> bool
+        ensures value { result ≡ pointwise (pointwise nat_eq) self.now other.now }
+        ensures same { IsTrue result ↔ (self.now ≡ other.now) }
+    {
         self.list == other.list
     }
 }

@@ -69,7 +69,7 @@ impl ObjSet {
 }
 
 impl PartialEq for ObjSet {
-    ghost use Rattle.std.specs.Prelude.{nat_eq};
+    ghost use Rattle.std.specs.Prelude.{◌≡◌, ◌↔◌, IsTrue, nat_eq};
     ghost use Rattle.std.specs.Cmp.Lexicographic.{pointwise, lists_per};
     ghost use Rattle.tk_base.specs.Equal.{numbers_equal};
 
@@ -77,7 +77,10 @@ impl PartialEq for ObjSet {
 
     ghost laws = { lists_per numbers_equal };
 
-    fn eq(&self, other: &Self) -> bool {
+    fn eq(&self, other: &Self) -> bool
+        ensures value { result ≡ pointwise nat_eq self.now other.now }
+        ensures same { IsTrue result ↔ (self.now ≡ other.now) }
+    {
         self.list == other.list
     }
 }

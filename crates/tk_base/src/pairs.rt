@@ -73,6 +73,7 @@ impl Pairs {
 }
 
 impl PartialEq for Pairs {
+    ghost use Rattle.std.specs.Prelude.{◌≡◌, ◌↔◌, IsTrue};
     ghost use Rattle.std.specs.Cmp.Lexicographic.{pointwise, lists_per};
     ghost use Rattle.tk_base.specs.Equal.{pair_eq, pairs_equal};
 
@@ -80,7 +81,10 @@ impl PartialEq for Pairs {
 
     ghost laws = { lists_per pairs_equal };
 
-    fn eq(&self, other: &Self) -> bool {
+    fn eq(&self, other: &Self) -> bool
+        ensures value { result ≡ pointwise pair_eq self.now other.now }
+        ensures same { IsTrue result ↔ (self.now ≡ other.now) }
+    {
         self.list == other.list
     }
 }

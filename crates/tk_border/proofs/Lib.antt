@@ -1,0 +1,5 @@
+pub mod LevelLemmas
+pub mod MembershipLemmas
+pub mod PassedLemmas
+pub mod RisingLemmas
+mod UnionLemmas

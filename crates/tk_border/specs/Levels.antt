@@ -1,10 +1,28 @@
 -- Levels of objects at one node: which outsiders are broken, and the border over some objects.
 -- The level of object i stands at place i - 1 of a list of levels. Members and resolution sets are
 -- lists of objects in ascending order.
-use Rattle.std.specs.Prelude.{ℕ, ◌-◌, ◌+◌, ℤ, pos, ◌+ℤ◌, Bool, false, not, ◌&&◌, ◌||◌, List, length, map, filter, fold, Option, Some, None, unwrap_or, slice_index_or}
+use Rattle.std.specs.Prelude.{ℕ, ◌-◌, ◌^◌, ◌<◌, ◌≤◌, ℤ, pos, ◌+ℤ◌, unsigned_abs, Bool, false, not, ◌||◌, List, length, map, filter, fold, All, Option, Some, None, unwrap_or, slice_index_or}
 use Rattle.std.specs.Int.{int_min, int_max}
+use Rattle.std.specs.List.{AllWithin, list_all}
 use Rattle.std.specs.Ordering.{int_cmp, is_lt}
 use Rattle.tk_base.specs.Objects.{objects, is_in}
+
+-- there are no more objects than this system allows
+abbrev pub AreObjects : List ℤ → Type 0
+AreObjects levels = length levels ≤ 65536
+
+-- each level is below 2^114 in size
+abbrev pub AreSmall : List ℤ → Type 0
+AreSmall levels = All (λ x. unsigned_abs x < 2 ^ 114) levels
+
+-- there is a member, and each is one of the n objects
+pub record AreMembers (n : ℕ) (members : List ℕ) : Type 0 where
+  pub some_member : 0 < length members
+  pub in_range : All (λ o. o ≤ n) members
+
+-- whether a set holds all of some members
+abbrev pub holds : List ℕ → List ℕ → Bool
+holds set members = list_all (is_in set) members
 
 -- the level of an object
 abbrev pub level_at : List ℤ → ℕ → ℤ
@@ -38,6 +56,10 @@ outside n set = filter (λ o. not (is_in set o)) (objects n)
 abbrev pub greatest_outside : List ℤ → List ℕ → Option ℤ
 greatest_outside levels set = greatest_of (map (level_at levels) (outside (length levels) set))
 
+-- the outsiders whose level is above a number
+abbrev pub above : List ℤ → List ℕ → ℤ → List ℕ
+above levels members x = filter (λ o. is_lt (int_cmp x (level_at levels o))) (outside (length levels) members)
+
 -- whether a number is above the least member level
 abbrev pub is_above : Option ℤ → ℤ → Bool
 is_above None y = false
@@ -65,3 +87,9 @@ own_border own members epsilon set =
 -- the resolution set: the members and the failed objects, of a catalogue of n
 abbrev pub resolution : ℕ → List ℕ → List ℕ → List ℕ
 resolution n members failed = filter (λ o. is_in members o || is_in failed o) (objects n)
+
+-- a walk along an ascending set that has come to an object: the places passed have lesser objects, the others not
+pub record IsPassed (set : List ℕ) (place : ℕ) (o : ℕ) : Type 0 where
+  pub within : place ≤ length set
+  pub passed : AllWithin (λ q. q < o) set 0 place
+  pub ahead : AllWithin (λ q. o ≤ q) set place (length set)

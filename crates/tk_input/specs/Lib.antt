@@ -1,4 +1,13 @@
+pub mod Catalog
+pub mod Files
+pub mod Judged
 pub mod Logs
+pub mod MapFiles
+pub mod Part
+pub mod Rows
+pub mod Sink
+pub mod Tallies
+pub mod VecSink
 pub use Rattle.tk_base.specs.Objects
 pub use Rattle.tk_base.specs.Settings
 pub use Rattle.tk_base.specs.Sum

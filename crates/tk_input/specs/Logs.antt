@@ -1,7 +1,7 @@
 -- Logs and cuts: values, totals, and what makes a set valid.
 -- A part is a list of changes, each an object and a whole number. The logs have for each monitor a list
 -- of parts, one per feeder. A cut has for each monitor and feeder a place: so many changes are reached.
-use Rattle.std.specs.Prelude.{◌≡◌, ℕ, ◌-◌, ◌≤◌, ℤ, ◌+ℤ◌, ◌≤ℤ◌, List, [], length, map, filter, take, ◌==◌, slice_index_or, All, Contains}
+use Rattle.std.specs.Prelude.{◌≡◌, ℕ, ◌-◌, ◌^◌, ◌≤◌, ℤ, ◌+ℤ◌, ◌≤ℤ◌, unsigned_abs, List, [], length, map, filter, take, sum_by, ◌==◌, slice_index_or, All, Contains}
 use Rattle.std.specs.List.{zip}
 use Rattle.tk_base.specs.Ascending.{IsAscending}
 use Rattle.tk_base.specs.Sum.{int_sum}
@@ -50,3 +50,51 @@ pub record IsValid (logs : List (List (List (ℕ × ℤ)))) (n k : ℕ) (epsilon
   pub ascends : IsAscending set
   pub within : All (λ t. t ≤ n) set
   pub greatest : (t s : ℕ) → Contains set t → 1 ≤ s → s ≤ n → (Contains set s → ⊥) → total logs s cut ≤ℤ (total logs t cut +ℤ epsilon)
+
+-- a number is an object of a catalogue of n
+abbrev pub IsObject : ℕ → ℕ → Type 0
+IsObject n o = (1 ≤ o) × (o ≤ n)
+
+-- the sizes of the changes of one object, summed
+abbrev pub weight_for : ℕ → List (ℕ × ℤ) → ℕ
+weight_for o changes = sum_by (λ c. unsigned_abs c.1) (filter (λ c. c.0 == o) changes)
+
+-- the sizes of its changes at one monitor
+abbrev pub weight_of : List (List (ℕ × ℤ)) → ℕ → ℕ
+weight_of parts o = sum_by (weight_for o) parts
+
+-- how many changes a monitor has
+abbrev pub updates_of : List (List (ℕ × ℤ)) → ℕ
+updates_of parts = sum_by length parts
+
+-- the parts of one monitor are within the limits, over a catalogue of n
+pub record AreParts (n : ℕ) (parts : List (List (ℕ × ℤ))) : Type 0 where
+  pub some_feeder : 1 ≤ length parts
+  pub feeders : length parts ≤ 8
+  pub objects : All (λ part. All (λ c. IsObject n c.0) part) parts
+  pub lengths : All (λ part. length part ≤ 1000000) parts
+  pub weights : (o : ℕ) → weight_of parts o ≤ 2 ^ 100
+
+-- the parts of each monitor, and how many objects there are
+pub record LogSet : Type 0 where
+  pub logs : List (List (List (ℕ × ℤ)))
+  pub objects : ℕ
+
+-- the logs are within the limits of this system
+pub record AreLogs (s : LogSet) : Type 0 where
+  pub some_monitor : 1 ≤ length s.logs
+  pub monitors : length s.logs ≤ 64
+  pub each : All (AreParts s.objects) s.logs
+  pub updates : sum_by updates_of s.logs ≤ 4000000
+
+-- a number is a monitor of the logs
+abbrev pub IsMonitor : LogSet → ℕ → Type 0
+IsMonitor s mon = (1 ≤ mon) × (mon ≤ length s.logs)
+
+-- a number is a feeder of a monitor of the logs
+abbrev pub IsFeeder : LogSet → ℕ → ℕ → Type 0
+IsFeeder s mon f = (1 ≤ f) × (f ≤ length (parts_of s.logs mon))
+
+-- the part of a feeder
+abbrev pub part_of : LogSet → ℕ → ℕ → List (ℕ × ℤ)
+part_of s mon f = slice_index_or (parts_of s.logs mon) (f - 1) []

@@ -1,2 +1,38 @@
 //! The catalogue, the logs and the order file, and the files and sinks that they come from and go to.
+//!
+//! It promises that what is read is what the bytes mean, or the first fault in them; that the logs are
+//! within the limits of this system; and that values and totals over a cut are the plain sums.
+//! It stands on tk_base, and on csv and indexmap. A file is at most 64 MiB.
 #![tactic(auto)]
+
+mod catalog;
+mod change;
+mod event;
+mod files;
+mod logs;
+mod map_files;
+mod number;
+mod order;
+mod part;
+mod rows;
+mod sink;
+mod std_sink;
+mod tallies;
+mod true_files;
+mod vec_sink;
+
+pub use catalog::{Catalog, CatalogFault};
+pub use change::Change;
+pub use event::Event;
+pub use files::{FileFault, Files};
+pub use logs::{Logs, LogsFault};
+pub use map_files::MapFiles;
+pub use order::{Order, OrderFault};
+pub use part::{Part, PartFault};
+pub use sink::{PutFailed, Sink};
+pub use std_sink::StdSink;
+pub use true_files::TrueFiles;
+pub use vec_sink::VecSink;
+
+#[cfg(test)]
+mod tests;

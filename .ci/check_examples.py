@@ -1,0 +1,86 @@
+"""Checks each example's expected text against plain sums over its logs, and the README's example.
+
+It knows nothing of the protocol: a printed set is right where each member's total over the printed
+prefixes, plus epsilon, is at least that of every object outside.
+"""
+import csv
+import pathlib
+import sys
+
+ROOT = pathlib.Path(__file__).resolve().parent.parent
+
+
+def words_of(folder):
+    words = (folder / "words").read_text().split("\n")
+    words = [word for word in words if word]
+    options, logs = {}, {}
+    place = 1
+    while place < len(words):
+        if words[place].startswith("--"):
+            options[words[place][2:]] = words[place + 1]
+            place += 2
+        else:
+            monitor, file = words[place].split("=", 1)
+            logs.setdefault(int(monitor), []).append(file)
+            place += 1
+    return options, logs
+
+
+def changes_of(path):
+    with path.open(newline="") as file:
+        return [(name, int(by)) for name, by in csv.reader(file)]
+
+
+def totals_at(names, logs, cut):
+    totals = dict.fromkeys(names, 0)
+    for monitor, places in cut.items():
+        for changes, place in zip(logs[monitor], places):
+            for name, by in changes[:place]:
+                totals[name] += by
+    return totals
+
+
+def cut_of(fields):
+    cut = {}
+    for field in fields:
+        monitor, places = field.split(":")
+        cut[int(monitor)] = [int(place) for place in places.split(",")]
+    return cut
+
+
+def check(folder):
+    options, files = words_of(folder)
+    names = [row[0] for row in csv.reader((folder / options["objects"]).open(newline=""))]
+    logs = {m: [changes_of(folder / file) for file in some] for m, some in files.items()}
+    epsilon, count = int(options["epsilon"]), int(options["k"])
+    final = None
+    for line in (folder / "expected.txt").read_text().splitlines():
+        fields = line.split()
+        if fields[0] not in ("set", "final"):
+            continue
+        middle = fields.index("members")
+        cut, members = cut_of(fields[3:middle]), fields[middle + 1:]
+        totals = totals_at(names, logs, cut)
+        least = min(totals[name] for name in members)
+        greatest = max((totals[name] for name in names if name not in members), default=least)
+        if len(set(members)) != count or least + epsilon < greatest:
+            return f"{folder.name}: not within epsilon: {line}"
+        final = cut if fields[0] == "final" else final
+    ends = {m: [len(changes) for changes in some] for m, some in logs.items()}
+    return None if final == ends else f"{folder.name}: the final set is not over the whole logs"
+
+
+def main():
+    faults = [check(folder) for folder in sorted((ROOT / "examples").iterdir()) if folder.is_dir()]
+    shown = (ROOT / "examples" / "two_monitors" / "expected.txt").read_text()
+    if shown not in (ROOT / "README.md").read_text():
+        faults.append("README.md: the example is not the expected text")
+    if shown != (ROOT / "crates" / "topk" / "stdout").read_text():
+        faults.append("crates/topk/stdout: not the expected text")
+    faults = [fault for fault in faults if fault]
+    print("\n".join(faults) or "examples: ok")
+    return 1 if faults else 0
+
+
+if __name__ == "__main__":
+    sys.exit(main())

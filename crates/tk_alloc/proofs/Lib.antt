@@ -1,0 +1,10 @@
+pub mod Counts
+pub mod MemberLemmas
+pub mod AscentLemmas
+pub mod PartLemmas
+pub mod DealtLemmas
+pub mod LeewayLemmas
+pub mod PickLemmas
+pub mod ReplacementLemmas
+pub mod WideLemmas
+pub mod TestLemmas

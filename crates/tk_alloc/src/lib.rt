@@ -1,0 +1,20 @@
+//! Reallocation: how a round chooses the members and moves the factors.
+//!
+//! It promises the leeways, the dealing and the choice of members exactly, that each object's factors keep
+//! their sum, and that afterwards the coordinator's constraint holds, and at the reported values the
+//! monitors' too. It stands on tk_share, tk_rows and the levels of tk_border.
+#![tactic(auto)]
+
+mod candidate;
+mod pair_list;
+mod picking;
+mod reallocating;
+mod reported;
+mod terms;
+#[cfg(test)]
+mod tests;
+mod wide_round;
+
+pub use picking::pick;
+pub use reported::Reported;
+pub use wide_round::wide;

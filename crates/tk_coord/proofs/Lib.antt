@@ -1,0 +1,6 @@
+mod GatheringLemmas
+mod IndexLemmas
+mod NotedLemmas
+mod ObjectsLemmas
+mod PickedLemmas
+mod ValuesLemmas

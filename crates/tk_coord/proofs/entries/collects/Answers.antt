@@ -1,0 +1,10 @@
+use Rattle.std.proofs.Common.{◌+◌, ◌<◌, ◌≤◌, arith}
+use Rattle.std.proofs.lemmas.List.Elements.{All-push}
+use Rattle.tk_journal.specs.Entries.{IsEntryOf}
+use Rattle.tk_coord.proofs.entries.collects.Goals as goal
+
+pub loop-j-preserved : goal.loop-j-preserved
+loop-j-preserved c = λ n.
+    rw c.in_ok-push.ensures.items
+    (All-push (IsEntryOf c.args.monitors n) c.loop-j.entries.items c.in_ok-sent.field-0 (c.loop-j.invariant n)
+    (c.in_ok-sent.ensures.monitor c.args.monitors n (omega arith) (omega arith)))

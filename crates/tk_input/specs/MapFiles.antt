@@ -1,0 +1,38 @@
+-- Files in memory: what each read of them gives.
+use Rattle.std.specs.Prelude.{◌≡◌, ℕ, List, length, map, find, Option, Some, None, option_map, bytes_eq, string_bytes, Bool, true, false, ◌==◌, nat_lt, if◌then◌else◌, Result, Ok, Err, Vec, String}
+use Rattle.std.specs.List.{list_any}
+use Rattle.tk_input.specs.Files.{one_more}
+use Rattle.tk_input.specs.Tallies.{Count}
+use Rattle.tk_input.specs.declared.files.FileFault.{FileFault}
+use Rattle.tk_input.specs.declared.files.FileFault.TheVariants.{Failed, TooLong, NoMemory}
+
+-- the files by name, the numbers of the reads that fail, how many reads there were, and what is counted
+pub record Remembered : Type 0 where
+  pub files : List (List ℕ × List ℕ)
+  pub fails : List ℕ
+  pub reads : ℕ
+  pub counts : List Count
+
+-- names and contents as bytes
+abbrev pub files_of : {A B : Type 0} → List (String A × Vec ℕ B) → List (List ℕ × List ℕ)
+files_of files = map (λ f. (string_bytes f.0, f.1.items)) files
+
+-- the content under a name, of the first file that has it
+abbrev pub content_of : List (List ℕ × List ℕ) → List ℕ → Option (List ℕ)
+content_of files name = option_map (λ f. f.1) (find (λ f. bytes_eq f.0 name) files)
+
+-- what a read gives: a failure where it fails or there is no file, else the content, unless it is too long
+abbrev pub given : Bool → Option (List ℕ) → Result (List ℕ) FileFault
+given true file = Err Failed
+given false None = Err Failed
+given false (Some bytes) = if nat_lt 67108864 (length bytes) then Err TooLong else Ok bytes
+
+-- what the next read of a name gives
+abbrev pub read_of : Remembered → List ℕ → Result (List ℕ) FileFault
+read_of m name = given (list_any (λ i. i == one_more m.reads) m.fails) (content_of m.files name)
+
+-- a fault is that of the read, but for want of memory
+abbrev pub Faults : {A : Type 0} → FileFault → Result A FileFault → Type 0
+Faults Failed meant = meant ≡ Err Failed
+Faults TooLong meant = meant ≡ Err TooLong
+Faults NoMemory meant = Unit

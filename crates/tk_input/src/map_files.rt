@@ -1,0 +1,128 @@
+ghost use Rattle.std.specs.Prelude.{◌≡◌, ◌≢◌, ℕ, ◌<◌, ◌≤◌, max, [], List, length, IfOk, IfErr, IfSome, IsErrOf, Ok, option_map, position, bytes_eq, string_bytes};
+ghost use Rattle.tk_input.specs.Files.{HasRisen, faults_after, one_more};
+ghost use Rattle.tk_input.specs.MapFiles.{Faults, content_of, files_of, given, read_of};
+ghost use Rattle.tk_input.specs.Tallies.{faults_of, longest_of};
+
+use crate::files::{FileFault, Files, MAX_LENGTH};
+use crate::tallies::Tallies;
+use std::alloc::Global;
+use std::marker::Model;
+
+/// Files in memory, some of whose reads fail.
+#[derive(Debug, Drop)]
+pub struct MapFiles {
+    files: Vec<(String, Vec<u8>)>,
+    fails: Vec<u64>,
+    reads: u64,
+    tallies: Tallies,
+}
+
+impl Model for MapFiles {
+    ghost use Rattle.tk_input.specs.MapFiles.{Remembered, files_of};
+
+    ghost Value = { Remembered };
+
+    ghost view = { λ m. record {
+      files = files_of m.files.items;
+      fails = m.fails.items;
+      reads = m.reads;
+      counts = m.tallies;
+    } };
+}
+
+impl MapFiles {
+    ghost use Rattle.tk_input.specs.MapFiles.{files_of};
+
+    /// Read i of all, from 1, fails where i is among `fails`, as does a read of a name that is not here.
+    /// Of two files of one name the first is read.
+    pub fn new(alloc: Global, files: Vec<(String, Vec<u8>)>, fails: Vec<u64>) -> MapFiles
+        ensures { result ≡ record { files = files_of files.items; fails = fails.items; reads = 0; counts = [] } }
+    {
+        MapFiles {
+            files,
+            fails,
+            reads: 0,
+            tallies: Tallies::new(alloc),
+        }
+    }
+}
+
+fn place_of(files: &[(String, Vec<u8>)], name: &str) -> Option<usize>
+    ensures { result ≡ position (λ f. bytes_eq (string_bytes f.0) name.now) files.now }
+{
+    files.iter().position(|file| file.0.as_str() == name)
+}
+
+fn file_of<'a>(files: &'a [(String, Vec<u8>)], name: &str) -> Option<&'a [u8]>
+    ensures { option_map (λ s. s.now) result ≡ content_of (files_of files.now) name.now }
+{
+    let place = place_of(files, name)?;
+    Some(files[place].1.as_slice())
+}
+
+fn copy_of(alloc: Global, fails: bool, file: Option<&[u8]>) -> Result<Vec<u8>, FileFault>
+    ensures ok { IfOk result (λ v. given fails (option_map (λ s. s.now) file.entry) ≡ Ok v.items) }
+    ensures err { IfErr result (λ e. Faults e (given fails (option_map (λ s. s.now) file.entry))) }
+{
+    match file {
+        Some(bytes) if !fails => {
+            if bytes.len() > MAX_LENGTH {
+                return Err(FileFault::TooLong);
+            }
+            Vec::from_slice(alloc, bytes).map_err(|_| FileFault::NoMemory)
+        }
+        _ => Err(FileFault::Failed),
+    }
+}
+
+impl Files for MapFiles {
+    ghost content = { λ m name. content_of m.files name };
+
+    ghost fault_count = { λ m name. faults_of m.counts name };
+
+    ghost most_taken = { λ m name. longest_of m.counts name };
+
+    fn faults(&self, name: &str) -> u64 {
+        self.tallies.faults(name)
+    }
+
+    fn longest(&self, name: &str) -> u64 {
+        self.tallies.longest(name)
+    }
+
+    fn read_all(&mut self, alloc: Global, name: &str) -> Result<Vec<u8>, FileFault>
+        // Which reads fail, and what the others give.
+        ensures ok { IfOk result (λ v. read_of self.old name.now ≡ Ok v.items) }
+        ensures err { IfErr result (λ e. Faults e (read_of self.old name.now)) }
+        ensures files { self.new.files ≡ self.old.files }
+        ensures fails { self.new.fails ≡ self.old.fails }
+        ensures reads { self.new.reads ≡ one_more self.old.reads }
+        // As every implementation of the trait.
+        ensures content { IfOk result (λ v. IfSome (content_of self.old.files name.now) (λ told. v.items ≡ told)) }
+        ensures told { (other : List ℕ) → content_of self.new.files other ≡ content_of self.old.files other }
+        ensures short { IfOk result (λ v. length v.items ≤ 67108864) }
+        ensures too_long { IsErrOf result FileFault.TooLong → IfSome (content_of self.old.files name.now) (λ told. 67108864 < length told) }
+        ensures too_much { IsErrOf result FileFault.TooLong → 67108864 < longest_of self.new.counts name.now }
+        ensures failed { IsErrOf result FileFault.Failed → HasRisen (faults_of self.old.counts name.now) (faults_of self.new.counts name.now) }
+        ensures counted { faults_of self.new.counts name.now ≡ faults_after result (faults_of self.old.counts name.now) }
+        ensures other_faults { (other : List ℕ) → other ≢ name.now → faults_of self.new.counts other ≡ faults_of self.old.counts other }
+        ensures taken { IfOk result (λ v. longest_of self.new.counts name.now ≡ max (longest_of self.old.counts name.now) (length v.items)) }
+        ensures rises { longest_of self.old.counts name.now ≤ longest_of self.new.counts name.now }
+        ensures bound { longest_of self.new.counts name.now ≤ max (longest_of self.old.counts name.now) 67108865 }
+        ensures other_taken { (other : List ℕ) → other ≢ name.now → longest_of self.new.counts other ≡ longest_of self.old.counts other }
+    {
+        self.reads = self.reads.saturating_add(1);
+        if self.tallies.reserve(alloc, name).is_err() {
+            return Err(FileFault::NoMemory);
+        }
+        let fails = self.fails.contains(&self.reads);
+        let outcome = copy_of(alloc, fails, file_of(self.files.as_slice(), name));
+        match &outcome {
+            Ok(copy) => self.tallies.note_length(name, copy.len() as u64),
+            Err(FileFault::Failed) => self.tallies.note_fault(name),
+            Err(FileFault::TooLong) => self.tallies.note_length(name, MAX_LENGTH as u64 + 1),
+            Err(FileFault::NoMemory) => {}
+        }
+        outcome
+    }
+}

@@ -1,0 +1,1 @@
+pub use Rattle.tk_story.specs.Told

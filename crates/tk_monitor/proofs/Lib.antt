@@ -1,0 +1,8 @@
+pub mod BoardLemmas
+pub mod KeptLemmas
+pub mod LogLemmas
+pub mod MessageLemmas
+pub mod PartsLemmas
+pub mod RefusalLemmas
+pub mod StartLemmas
+pub mod TakeLemmas

@@ -1,0 +1,21 @@
+use Rattle.std.proofs.Common.{◌≡◌, ℕ, ◌+◌, [], ◌∷◌, ◌++◌, length, arith, ap, sym, ◌∙◌, subst, List}
+use Rattle.std.proofs.lemmas.List.{length_push}
+use Rattle.tk_monitor.specs.Log.{Logged, ArePlacesSent}
+use Rattle.tk_trail.specs.declared.entry.Entry.{Entry}
+use Rattle.tk_trail.specs.declared.entry.Entry.TheVariants.{Sent}
+use Rattle.tk_monitor.proofs.LogLemmas.{places-sent}
+use Rattle.tk_monitor.proofs.log.Log.sent.Goals as goal
+
+pub invariant_of-self : goal.invariant_of-self
+invariant_of-self c =
+    let inside = c.self.inside in
+    let left : inside.spare ≡ c.args.self.now.spare = ap (λ (l : Logged). l.spare) c.self.view_is in
+    let grown : length c.push_reserved-2.new.self.items ≡ length inside.entries.items + 1 = rw c.push_reserved-2.ensures.items (length_push inside.entries.items (Sent c.args.frame)) in
+    let longer : length c.push_reserved.new.self.items ≡ length inside.sent_places.items + 1 = rw c.push_reserved.ensures.items (length_push inside.sent_places.items c.len.result) in
+    let here : c.len.result ≡ length inside.entries.items = omega (arith, c.len.ensures) in
+    let room = c.self.invariant.0 in
+    let place = c.self.invariant.1 in (
+      record { room = omega (arith, room.room, grown, c.push_reserved-2.ensures.capacity, c.requires, left); few = room.few },
+      record { room = omega (arith, place.room, longer, c.push_reserved.ensures.capacity, c.requires, left); few = place.few },
+      rw (c.push_reserved-2.ensures.items, c.push_reserved.ensures.items, here) (places-sent inside.entries.items inside.sent_places.items c.args.frame c.self.invariant.2),
+    )

@@ -1,0 +1,15 @@
+use Rattle.std.proofs.Common.{◌≡◌, ℕ, ◌==◌, ◌∙◌, List, length, ap, sym, arith, to_z, of_z}
+use Rattle.std.specs.Prelude.{FitsSigned}
+use Rattle.std.specs.Int.{w128}
+use Rattle.std.proofs.lemmas.Int.{ints, to_z-of_z}
+use Rattle.tk_trail.specs.Setup.{MonitorSetup}
+use Rattle.tk_monitor.specs.Monitored.{Monitored}
+use Rattle.tk_trail.specs.Readings.{at_ends}
+use Rattle.tk_monitor.proofs.KeptLemmas.{kept_ends}
+use Rattle.tk_monitor.proofs.monitor.Monitor.ended.Goals as goal
+
+pub returns : goal.returns
+returns c =
+    let inside = c.self.inside in
+    let setup : MonitorSetup = record { number = inside.number.0; objects = inside.objects; parts = inside.parts.items; from = inside.from } in
+    ap (λ n. n == 0) c.raises.ensures ∙ kept_ends setup inside.log inside.board inside.next.items inside.phase c.self.invariant ∙ ap (λ (m : Monitored). at_ends m.setup m.trail) c.self.view_is

@@ -1,0 +1,32 @@
+use Rattle.std.proofs.Common.{◌≡◌, ℕ, ◌<◌, ◌≤◌, ◌∷◌, ◌++◌, [], ◌∙◌, ◌==◌, List, length, true, false, None, ap, ap₂, sym, subst, arith}
+use Rattle.std.specs.Prelude.{All}
+use Rattle.tk_frames.specs.declared.frame.Frame.{Frame}
+use Rattle.tk_frames.specs.declared.frame.Frame.TheVariants as f
+use Rattle.tk_trail.specs.Setup.{MonitorSetup}
+use Rattle.tk_trail.specs.Readings.{at_ends, seq_of}
+use Rattle.tk_trail.specs.Frames.{report_at, settled_at, report_is_due, end_is_due}
+use Rattle.tk_trail.specs.Refusal.{refusal_of}
+use Rattle.tk_trail.specs.Legal.{after_take, after_check}
+use Rattle.tk_trail.specs.declared.entry.Entry.{Entry}
+use Rattle.tk_trail.specs.declared.entry.Entry.TheVariants as e
+use Rattle.tk_monitor.specs.Board.{Standing}
+use Rattle.tk_monitor.specs.Log.{Logged}
+use Rattle.tk_monitor.specs.Kept.{report_on}
+use Rattle.tk_monitor.specs.Monitored.{Monitored, checked_at}
+use Rattle.tk_monitor.specs.declared.phase.Phase.{Phase}
+use Rattle.tk_monitor.proofs.TakeLemmas.{shown_made}
+use Rattle.tk_monitor.proofs.monitor.Monitor.refusal.Goals as goal
+
+pub returns-clause-value : goal.returns-clause-value
+returns-clause-value c =
+    let inside = c.self.inside in
+    let kept = c.self.invariant in
+    let setup : MonitorSetup = record { number = inside.number.0; objects = inside.objects; parts = inside.parts.items; from = inside.from } in
+    let trail : List Entry = inside.log.entries in
+    c.refusal_of.ensures
+    ∙ shown_made setup trail inside.phase.seq c.members.result.now inside.phase.told inside.phase.stopped c.args.frame.now
+    (ap (λ (p : Phase). p.seq) kept.phase_is)
+    (c.members.ensures.value ∙ ap (λ (s : Standing). s.members) kept.standing)
+    (ap (λ (p : Phase). p.told) kept.phase_is)
+    (ap (λ (p : Phase). p.stopped) kept.phase_is)
+    ∙ ap (λ (m : Monitored). refusal_of m.setup m.trail c.args.frame.now) c.self.view_is

@@ -1,0 +1,13 @@
+pub mod Board
+pub mod Kept
+pub mod Log
+pub mod Monitored
+pub mod Refusals
+pub mod Start
+pub use Rattle.tk_trail.specs.Assigns
+pub use Rattle.tk_trail.specs.Frames
+pub use Rattle.tk_trail.specs.Legal
+pub use Rattle.tk_trail.specs.Readings
+pub use Rattle.tk_trail.specs.Refusal
+pub use Rattle.tk_trail.specs.Setup
+pub use Rattle.tk_trail.specs.Slack

@@ -1,0 +1,153 @@
+ghost use Rattle.std.specs.Prelude.{◌≡◌, ◌<◌, length, IfOk, Some, slice_get};
+ghost use Rattle.tk_trail.specs.Readings.{places_at, at_ends, level_of, is_broken, seq_of, is_stopped, sent_by};
+ghost use Rattle.tk_trail.specs.Legal.{IsLegal};
+ghost use Rattle.tk_trail.specs.Slack.{slack_of};
+ghost use Rattle.tk_monitor.specs.Board.{IsOneOf};
+ghost use Rattle.tk_monitor.specs.Monitored.{IsFeederOf, Raises};
+
+mod check;
+mod make;
+mod take;
+
+use crate::board::Board;
+use crate::log::Log;
+use crate::outcome::Raised;
+use crate::parts::next_change;
+use crate::phase::Phase;
+use std::marker::Model;
+use tk_base::{Feeder, Mon, NoMemory, Obj, Places};
+use tk_frames::Frame;
+use tk_input::Part;
+use tk_trail::Entry;
+
+/// One monitor, which contracts see as what it was made of and its trail.
+#[derive(Drop)]
+pub struct Monitor {
+    number: Mon,
+    objects: u32,
+    parts: Vec<Part>,
+    from: Places,
+    next: Vec<u32>,
+    board: Board,
+    log: Log,
+    phase: Phase,
+}
+
+impl Model for Monitor {
+    ghost use Rattle.tk_monitor.specs.Monitored.{Monitored};
+    ghost use Rattle.tk_monitor.specs.Kept.{IsKept};
+
+    ghost Value = { Monitored };
+
+    ghost view = { λ m. record {
+      setup = record { number = m.number.0; objects = m.objects; parts = m.parts.items; from = m.from };
+      trail = m.log.entries;
+    } };
+
+    ghost invariant = { λ m.
+        IsKept
+        (record { number = m.number.0; objects = m.objects; parts = m.parts.items; from = m.from })
+        m.log
+        m.board
+        m.next.items
+        m.phase };
+}
+
+impl Monitor {
+    /// Counts the next change of a feeder, in the time of one update of the levels and with no memory.
+    pub fn raise(&mut self, f: Feeder) -> Raised
+        requires { IsFeederOf self.old.setup f.0 }
+        ensures answer { Raises self.old f result self.new }
+        ensures legal { IsLegal self.new.setup self.new.trail }
+    {
+        let i = (f.0 - 1) as usize;
+        match next_change(self.parts.as_slice(), self.next.as_slice(), i) {
+            None => Raised::Ended,
+            Some(change) => {
+                self.next[i] += 1;
+                self.board.shift(change.obj, change.by);
+                self.log.raised(f);
+                Raised::Done {
+                    broken: self.board.is_broken(),
+                }
+            }
+        }
+    }
+
+    /// Whether some outsider's level is above the least level of a member.
+    pub fn broken(&self) -> bool
+        ensures { result ≡ is_broken self.now.setup self.now.trail }
+    {
+        self.board.is_broken()
+    }
+
+    /// The least member level minus the greatest level of an outsider.
+    pub fn slack(&self) -> Option<i128>
+        ensures { result ≡ slack_of self.now.setup self.now.trail }
+    {
+        self.board.slack()
+    }
+
+    pub fn level(&self, o: Obj) -> i128
+        requires { IsOneOf self.now.setup.objects o.0 }
+        ensures { result ≡ level_of self.now.setup self.now.trail o.0 }
+    {
+        self.board.level(o)
+    }
+
+    /// How many changes of each feeder were raised, those before the start included.
+    pub fn places(&self) -> Result<Places, NoMemory>
+        ensures { IfOk result (λ p. p ≡ places_at self.now.setup self.now.trail) }
+    {
+        let list = Vec::from_slice(self.log.alloc(), self.next.as_slice())?;
+        Ok(Places::new(list))
+    }
+
+    /// The number of Assigns taken.
+    pub fn seq(&self) -> u64
+        ensures { result ≡ seq_of self.now.trail }
+    {
+        self.phase.seq
+    }
+
+    /// Whether all parts are at their ends.
+    pub fn ended(&self) -> bool
+        ensures { result ≡ at_ends self.now.setup self.now.trail }
+    {
+        self.log.raises() == 0
+    }
+
+    pub fn stopped(&self) -> bool
+        ensures { result ≡ is_stopped self.now.trail }
+    {
+        self.phase.stopped
+    }
+
+    pub fn number(&self) -> Mon
+        ensures { result.0 ≡ self.now.setup.number }
+    {
+        self.number
+    }
+
+    pub fn trail(&self) -> &[Entry]
+        ensures value { result.now ≡ self.now.trail }
+        ensures legal { IsLegal self.now.setup self.now.trail }
+    {
+        self.log.entries()
+    }
+
+    /// The number of frames sent, of every kind.
+    pub fn sent(&self) -> usize
+        ensures { result ≡ length (sent_by self.now.trail) }
+    {
+        self.log.sent_len()
+    }
+
+    /// One of them, in constant time.
+    pub fn sent_at(&self, i: usize) -> &Frame
+        requires { i < length (sent_by self.now.trail) }
+        ensures { slice_get (sent_by self.now.trail) i ≡ Some result.now }
+    {
+        self.log.sent_at(i)
+    }
+}

@@ -1,0 +1,54 @@
+ghost use Rattle.std.specs.Prelude.{◌≡◌, [], IfOk};
+ghost use Rattle.tk_input.specs.Logs.{AreParts, ArePlaces};
+ghost use Rattle.tk_trail.specs.Legal.{IsLegal};
+
+use crate::board::Board;
+use crate::log::Log;
+use crate::monitor::Monitor;
+use crate::parts::left_of;
+use crate::phase::Phase;
+use crate::start::start;
+use std::alloc::Global;
+use tk_base::{Mon, NoMemory, Places, Settings};
+use tk_input::Part;
+
+impl Monitor {
+    /// Takes the room for all raises, in the time of the objects and the changes before the start.
+    pub fn new(
+        alloc: Global,
+        settings: &Settings,
+        mon: Mon,
+        parts: Vec<Part>,
+        from: &Places,
+    ) -> Result<Monitor, NoMemory>
+        requires parts { AreParts settings.now.objects parts.items }
+        requires places { ArePlaces parts.items from.now }
+        ensures ok { IfOk result (λ m. m ≡ record {
+          setup = record { number = mon.0; objects = settings.now.objects; parts = parts.items; from = from.now };
+          trail = [];
+        }) }
+        ensures legal { IfOk result (λ m. IsLegal m.setup m.trail) }
+    {
+        let objects = settings.objects();
+        let mut board = Board::new(alloc, objects)?;
+        let next = start(alloc, &mut board, parts.as_slice(), from)?;
+        let left = left_of(parts.as_slice(), next.as_slice());
+        let log = Log::new(alloc, left)?;
+        let from = from.try_clone()?;
+        Ok(Monitor {
+            number: mon,
+            objects,
+            parts,
+            from,
+            next,
+            board,
+            log,
+            phase: Phase {
+                seq: 0,
+                reported: false,
+                told: false,
+                stopped: false,
+            },
+        })
+    }
+}

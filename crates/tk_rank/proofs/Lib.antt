@@ -1,0 +1,6 @@
+mod GreatestLemmas
+mod NodeLemmas
+mod PartLemmas
+mod RankLemmas
+mod SidesLemmas
+mod TreeLemmas

@@ -1,0 +1,28 @@
+use Rattle.std.proofs.Common.{◌≡◌, ◌∙◌, ◌<◌, ◌^◌, ap, sym, arith, vec_capacity, Some, pos, ◌-ℤ◌}
+use Rattle.std.specs.Prelude.{unsigned_abs}
+use Rattle.std.proofs.lemmas.Int.{ints}
+use Rattle.tk_base.specs.Ascending.{numbers_of}
+use Rattle.tk_border.specs.Levels.{least_member}
+use Rattle.tk_rank.proofs.RankLemmas.{least_from_root, root_there}
+use Rattle.tk_rank.proofs.SidesLemmas.{turned}
+use Rattle.tk_rank.proofs.rank.Rank.least_member.Goals as goal
+
+pub unwrap-requires : goal.unwrap-requires
+unwrap-requires c =
+    let r = c.self.inside in
+    root_there r.levels.items (numbers_of r.list.items) (vec_capacity r.list) r.members r.outsiders c.greatest.result c.self.invariant c.greatest.ensures
+
+-- what the root tells
+root : (c : goal.After-unwrap) → (least_member c.self.inside.levels.items (numbers_of c.self.inside.list.items) ≡ Some (pos 0 -ℤ c.unwrap.result)) × (unsigned_abs c.unwrap.result < 2 ^ 114)
+root c =
+    let r = c.self.inside in
+    least_from_root r.levels.items (numbers_of r.list.items) (vec_capacity r.list) r.members r.outsiders c.greatest.result c.unwrap.result c.self.invariant c.greatest.ensures c.unwrap.ensures
+
+pub overflow_sub-result : goal.overflow_sub-result
+overflow_sub-result c = let small = (root c).1 in omega (arith, ints)
+
+pub returns-clause-value : goal.returns-clause-value
+returns-clause-value c = rw (← c.self.view_is) ((root c).0 ∙ ap Some (sym (turned c.unwrap.result (root c).1)))
+
+pub returns-clause-size : goal.returns-clause-size
+returns-clause-size c = let small = (root c).1 in rw (turned c.unwrap.result small) (omega (arith, ints))

@@ -1,0 +1,5 @@
+pub mod Ranked
+pub mod Sides
+pub mod Tree
+pub use Rattle.tk_base.specs.Objects
+pub use Rattle.tk_border.specs.Levels

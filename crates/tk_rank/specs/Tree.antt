@@ -1,0 +1,53 @@
+-- A tournament tree of numbers, some of its leaves empty. No public clause cites this file.
+use Rattle.std.specs.Prelude.{◌≡◌, ℕ, ◌+◌, ◌-◌, ◌*◌, ◌/◌, ◌<◌, ◌≤◌, ℤ, Bool, false, List, length, drop, Option, Some, None, slice_index_or}
+use Rattle.std.specs.Int.{int_max, IsPowerOfTwo}
+use Rattle.std.specs.List.{filter_map}
+use Rattle.std.specs.Ordering.{int_cmp, is_lt}
+
+-- the greater of two numbers, each of which may be missing
+abbrev pub greater : Option ℤ → Option ℤ → Option ℤ
+greater None y = y
+greater (Some x) None = Some x
+greater (Some x) (Some y) = Some (int_max x y)
+
+-- whether there is a number and it is above a level
+abbrev pub is_over : ℤ → Option ℤ → Bool
+is_over level None = false
+is_over level (Some y) = is_lt (int_cmp level y)
+
+-- the number at a node
+abbrev pub node_at : List (Option ℤ) → ℕ → Option ℤ
+node_at nodes j = slice_index_or nodes j None
+
+-- the number of leaves, which are the last half of the nodes
+abbrev pub width_of : List (Option ℤ) → ℕ
+width_of nodes = length nodes / 2
+
+abbrev pub leaves_of : List (Option ℤ) → List (Option ℤ)
+leaves_of nodes = drop (width_of nodes) nodes
+
+-- an inner node has the greater number of its two children
+abbrev pub IsMended : List (Option ℤ) → ℕ → Type 0
+IsMended nodes j = node_at nodes j ≡ greater (node_at nodes (j + j)) (node_at nodes (j + j + 1))
+
+-- a full binary tree: node 1 is the root, the children of j are 2 j and 2 j + 1
+pub record IsTree (nodes : List (Option ℤ)) : Type 0 where
+  pub width : IsPowerOfTwo (width_of nodes)
+  pub even : length nodes ≡ width_of nodes + width_of nodes
+  pub few : width_of nodes ≤ 131072
+  pub mended : (j : ℕ) → 0 < j → j < width_of nodes → IsMended nodes j
+
+-- the part of a tree of so many leaves under a node: the leaves of so many objects from the first on
+pub record IsPart (leaves width node first : ℕ) : Type 0 where
+  pub power : IsPowerOfTwo width
+  pub place : node * width + 1 ≡ leaves + first
+  pub some : 0 < first
+  pub within : first + width ≤ leaves + 1
+
+-- the number at the leaf of an object
+abbrev pub leaf_at : List (Option ℤ) → ℕ → Option ℤ
+leaf_at leaves o = slice_index_or leaves (o - 1) None
+
+-- the numbers of those of some objects that have one
+abbrev pub standing : List (Option ℤ) → List ℕ → List ℤ
+standing leaves list = filter_map (leaf_at leaves) list

@@ -1,0 +1,166 @@
+ghost use Rattle.std.specs.Prelude.{◌≡◌, ℕ, ◌+◌, ◌-◌, ◌^◌, ◌<◌, ◌≤◌, ℤ, pos, ◌≤ℤ◌, unsigned_abs, IsTrue, length, All, IfOk, Some, slice_set};
+ghost use Rattle.tk_base.specs.Objects.{is_in};
+ghost use Rattle.tk_border.specs.Levels.{level_at, least_member, greatest_outside, above, border, own_border, holds, AreMembers, AreObjects, AreSmall};
+ghost use Rattle.tk_rank.specs.Ranked.{IsRanked};
+
+use crate::sides::{exchange, holds_all, list_members, relevel, seat};
+use crate::tree::Tree;
+use std::alloc::Global;
+use std::marker::Model;
+use tk_base::{NoMemory, Obj, ObjSet};
+
+/// The levels of all objects at one node, and which of them are members.
+#[derive(Debug, Drop)]
+pub struct Rank {
+    levels: Vec<i128>,
+    list: Vec<Obj>,
+    members: Tree,
+    outsiders: Tree,
+}
+
+impl Model for Rank {
+    ghost use Rattle.std.specs.Prelude.{vec_capacity};
+    ghost use Rattle.tk_base.specs.Ascending.{numbers_of};
+    ghost use Rattle.tk_rank.specs.Ranked.{Ranked};
+    ghost use Rattle.tk_rank.specs.Sides.{IsKept};
+
+    ghost Value = { Ranked };
+
+    ghost view = { λ r. record {
+      levels = r.levels.items;
+      members = numbers_of r.list.items;
+    } };
+
+    ghost invariant = { λ r. IsKept r.levels.items (numbers_of r.list.items) (vec_capacity r.list) r.members r.outsiders };
+}
+
+impl Rank {
+    /// Takes the levels in the time of their number times a logarithm.
+    pub fn new(alloc: Global, levels: &[i128], members: &ObjSet) -> Result<Rank, NoMemory>
+        requires objects { AreObjects levels.now }
+        requires sizes { AreSmall levels.now }
+        requires members { AreMembers (length levels.now) members.now }
+        ensures { IfOk result (λ r. r ≡ record { levels = levels.now; members = members.now }) }
+    {
+        let own = Vec::from_slice(alloc, levels)?;
+        let mut list = Vec::with_capacity(alloc, levels.len())?;
+        let mut member_tree = Tree::new(alloc, levels.len())?;
+        let mut outsider_tree = Tree::new(alloc, levels.len())?;
+        seat(levels, &member_tree, &mut outsider_tree);
+        exchange(levels, &[], members, &mut member_tree, &mut outsider_tree);
+        list_members(&mut list, members);
+        Ok(Rank {
+            levels: own,
+            list,
+            members: member_tree,
+            outsiders: outsider_tree,
+        })
+    }
+
+    /// The number of objects.
+    pub fn len(&self) -> usize
+        ensures value { result ≡ length self.now.levels }
+        ensures limits { IsRanked self.now }
+    {
+        self.levels.len()
+    }
+
+    /// The level of an object.
+    pub fn level(&self, o: Obj) -> i128
+        requires from_one { 0 < o.0 }
+        requires within { o.0 ≤ length self.now.levels }
+        ensures value { result ≡ level_at self.now.levels o.0 }
+        ensures size { unsigned_abs result < 2 ^ 114 }
+    {
+        self.levels[(o.0 - 1) as usize]
+    }
+
+    /// Gives an object another level, in logarithmic time.
+    pub fn set(&mut self, o: Obj, level: i128)
+        requires from_one { 0 < o.0 }
+        requires within { o.0 ≤ length self.old.levels }
+        requires size { unsigned_abs level < 2 ^ 114 }
+        ensures { self.new ≡ record self.old { levels = slice_set self.old.levels (o.0 - 1) level } }
+    {
+        self.levels[(o.0 - 1) as usize] = level;
+        relevel(o, level, &mut self.members, &mut self.outsiders);
+    }
+
+    /// Takes other members, in the time of both sets times a logarithm.
+    pub fn set_members(&mut self, members: &ObjSet)
+        requires { AreMembers (length self.old.levels) members.now }
+        ensures { self.new ≡ record self.old { members = members.now } }
+    {
+        exchange(
+            self.levels.as_slice(),
+            self.list.as_slice(),
+            members,
+            &mut self.members,
+            &mut self.outsiders,
+        );
+        list_members(&mut self.list, members);
+    }
+
+    /// The least level of a member, read at a root.
+    pub fn least_member(&self) -> i128
+        ensures value { least_member self.now.levels self.now.members ≡ Some result }
+        ensures size { unsigned_abs result < 2 ^ 114 }
+    {
+        -self.members.greatest().unwrap()
+    }
+
+    /// The greatest level of an outsider, read at a root; there is none where every object is a member.
+    pub fn greatest_outsider(&self) -> Option<i128>
+        ensures { result ≡ greatest_outside self.now.levels self.now.members }
+    {
+        self.outsiders.greatest()
+    }
+
+    /// The outsiders above a level, in the time of what is found times a logarithm.
+    pub fn above(&self, alloc: Global, level: i128) -> Result<ObjSet, NoMemory>
+        ensures { IfOk result (λ s. s ≡ above self.now.levels self.now.members level) }
+    {
+        let list = self.outsiders.above(alloc, level)?;
+        Ok(ObjSet::new(list).unwrap())
+    }
+
+    /// Whether a set holds the members, in the time of their number times a logarithm.
+    pub fn is_held_by(&self, r: &ObjSet) -> bool
+        ensures { result ≡ holds r.now self.now.members }
+    {
+        holds_all(self.list.as_slice(), r)
+    }
+
+    /// The greatest level outside a set that holds the members, in the time of that set times a logarithm.
+    pub fn greatest_outside(&self, r: &ObjSet) -> Option<i128>
+        requires { IsTrue (holds r.now self.now.members) }
+        ensures { result ≡ greatest_outside self.now.levels r.now }
+    {
+        self.outsiders.greatest_outside(r)
+    }
+
+    /// The border of a monitor over a set that holds the members, in the time of that set times a logarithm.
+    pub fn border(&self, r: &ObjSet) -> i128
+        requires { IsTrue (holds r.now self.now.members) }
+        ensures { result ≡ border self.now.levels self.now.members r.now }
+    {
+        let least = self.least_member();
+        match self.greatest_outside(r) {
+            None => least,
+            Some(greatest) => least.min(greatest),
+        }
+    }
+
+    /// The border of the coordinator over a set that holds the members, where the levels are its own factors.
+    pub fn own_border(&self, epsilon: i128, r: &ObjSet) -> i128
+        requires members { IsTrue (holds r.now self.now.members) }
+        requires no_debt { pos 0 ≤ℤ epsilon }
+        requires epsilon { epsilon ≤ℤ pos (2 ^ 100) }
+        ensures { result ≡ own_border self.now.levels self.now.members epsilon r.now }
+    {
+        match self.greatest_outside(r) {
+            None => self.least_member() + epsilon,
+            Some(greatest) => greatest,
+        }
+    }
+}

@@ -1,0 +1,2 @@
+pub mod Shares
+pub use Rattle.tk_base.specs.Sum

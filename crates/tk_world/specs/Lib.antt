@@ -1,0 +1,4 @@
+pub mod Running
+pub use Rattle.tk_base.specs.Settings
+pub use Rattle.tk_input.specs.Logs
+pub use Rattle.tk_story.specs.Told
