@@ -1,13 +1,16 @@
-"""Checks each example's expected text against plain sums over its logs, and the README's example.
+"""Checks each example's expected text against plain sums over its logs, the README's example, and, where the
+program is built, that it prints these texts.
 
 It knows nothing of the protocol: a printed set is right where each member's total over the printed
 prefixes, plus epsilon, is at least that of every object outside.
 """
 import csv
 import pathlib
+import subprocess
 import sys
 
 ROOT = pathlib.Path(__file__).resolve().parent.parent
+PROGRAM = ROOT / "crates" / "topk" / "out" / "topk"
 
 
 def words_of(folder):
@@ -70,8 +73,19 @@ def check(folder):
     return None if final == ends else f"{folder.name}: the final set is not over the whole logs"
 
 
+def run(folder):
+    words = [word for word in (folder / "words").read_text().split("\n") if word]
+    done = subprocess.run([PROGRAM, *words], cwd=folder, capture_output=True, text=True, timeout=60)
+    if done.returncode or done.stdout != (folder / "expected.txt").read_text():
+        return f"{folder.name}: the program prints another text, status {done.returncode}"
+    return None
+
+
 def main():
-    faults = [check(folder) for folder in sorted((ROOT / "examples").iterdir()) if folder.is_dir()]
+    folders = [folder for folder in sorted((ROOT / "examples").iterdir()) if folder.is_dir()]
+    faults = [check(folder) for folder in folders]
+    if PROGRAM.exists():
+        faults += [run(folder) for folder in folders]
     shown = (ROOT / "examples" / "two_monitors" / "expected.txt").read_text()
     if shown not in (ROOT / "README.md").read_text():
         faults.append("README.md: the example is not the expected text")
