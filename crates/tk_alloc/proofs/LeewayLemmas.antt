@@ -1,20 +1,19 @@
 -- The laws of a reallocation, for any participants.
-use Rattle.std.proofs.Common.{◌≡◌, ◌≢◌, ℕ, suc, zero, ◌+◌, ◌*◌, ◌^◌, ◌<◌, ◌≤◌, ℤ, pos, ◌+ℤ◌, ◌-ℤ◌, ◌≤ℤ◌, unsigned_abs, List, [], ◌∷◌, ◌++◌, length, map, get_or, Contains, Option, Some, None, cond, refl, sym, ap, ◌∙◌, subst, add-one, arith, eq-eqb, ne_eqb, inl, inr}
-use Rattle.std.specs.Prelude.{unwrap_or, ◌==◌}
-use Rattle.std.specs.List.{All, enumerate_from, range_with_len, sum}
+use Rattle.std.proofs.Common.{◌≡◌, ℕ, suc, zero, ◌+◌, ◌<◌, ℤ, pos, ◌+ℤ◌, ◌-ℤ◌, List, [], ◌∷◌, length, map, Contains, Option, Some, cond, refl, sym, ap, ◌∙◌, arith, eq-eqb, ne_eqb, inl, inr}
+use Rattle.std.specs.Prelude.{unwrap_or}
+use Rattle.std.specs.List.{enumerate_from, range_with_len, sum}
 use Rattle.std.proofs.lemmas.Int.{ints}
 use Rattle.std.proofs.lemmas.Bool.{cases_eq}
-use Rattle.std.proofs.lemmas.List.{length-map, get_or-map, get_or_default}
-use Rattle.std.proofs.lemmas.List.FromFn.{get_or-enumerate_from, length-enumerate_from}
-use Rattle.tk_base.specs.Pairs.{objects_of, value_at}
+use Rattle.std.proofs.lemmas.List.{length-map}
+use Rattle.tk_base.specs.Pairs.{value_at}
 use Rattle.tk_base.specs.Sum.{int_sum}
 use Rattle.tk_rows.specs.declared.mon_change.MonChange.{MonChange}
 use Rattle.tk_rows.specs.declared.reallocation.Reallocation.{Reallocation}
-use Rattle.tk_rows.specs.Factors.{Grid, factor_at, IsFactor}
-use Rattle.tk_rows.specs.Replacing.{IsReplacement, AreChanges, factor_in, monitors_of, new_sum, old_sum}
+use Rattle.tk_rows.specs.Factors.{Grid, factor_at}
+use Rattle.tk_rows.specs.Replacing.{factor_in, new_sum, old_sum}
 use Rattle.tk_rows.proofs.SumLemmas.{int_sum-cons}
 use Rattle.tk_share.specs.Shares.{share, shares}
-use Rattle.tk_share.proofs.ShareLemmas.{shares_sum, share_size, share_grows}
+use Rattle.tk_share.proofs.ShareLemmas.{shares_sum}
 use Rattle.tk_alloc.specs.Parts.{Part, value_of, above, leeway, new_factor, dealt_from, by_monitor, IsReallocation}
 
 -- the number under an object, where one was put under it

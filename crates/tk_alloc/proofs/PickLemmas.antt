@@ -1,24 +1,24 @@
 -- The objects that go first, by a sorted list of candidates.
-use Rattle.std.proofs.Common.{◌≡◌, ◌≢◌, ℕ, suc, zero, ◌+◌, ◌<◌, ◌≤◌, ℤ, pos, ◌≤ℤ◌, ◌<ℤ◌, List, [], ◌∷◌, ◌++◌, length, map, take, drop, get_or, Contains, Bool, true, false, cond, not, nat_lt, refl, sym, ap, ◌∙◌, subst, arith, inl, inr}
+use Rattle.std.proofs.Common.{◌≡◌, ◌≢◌, ℕ, suc, zero, ◌+◌, ◌<◌, ◌≤◌, ℤ, ◌≤ℤ◌, ◌<ℤ◌, List, [], ◌∷◌, ◌++◌, length, map, take, get_or, Contains, Bool, true, false, cond, not, nat_lt, refl, sym, ap, ◌∙◌, subst, arith, inl, inr}
 use Rattle.std.specs.Prelude.{◌==◌}
 use Rattle.std.specs.Cmp.{IsTotalOrder, IsStrictWeakOrder, bool_cmp_total}
 use Rattle.std.specs.declared.cmp.Ordering.{Ordering}
 use Rattle.std.specs.declared.cmp.Ordering.TheVariants.{Less, Equal, Greater}
-use Rattle.std.specs.Ordering.{int_cmp, nat_cmp, bool_cmp, ordering_then, ordering_reverse, is_lt, is_le, MatchOrdering}
-use Rattle.std.specs.List.{count_by, sum_by, filter}
+use Rattle.std.specs.Ordering.{int_cmp, nat_cmp, bool_cmp, ordering_then, ordering_reverse, is_lt, MatchOrdering}
+use Rattle.std.specs.List.{count_by, filter}
 use Rattle.std.specs.List.Sorted.{IsPermutation, IsSortedBy}
-use Rattle.std.proofs.lemmas.Cmp.{int_cmp_total, nat_cmp_total, on_total, then_total, back_total, ranked, int_ranked}
-use Rattle.std.proofs.lemmas.Bool.{cases_Bool, cases_lt, true≢false, true_from_ne_false}
+use Rattle.std.proofs.lemmas.Cmp.{int_cmp_total, nat_cmp_total, on_total, then_total, back_total, ranked}
+use Rattle.std.proofs.lemmas.Bool.{cases_Bool, true≢false, true_from_ne_false}
 use Rattle.std.proofs.lemmas.List.{length-map, get_or-map, get_or_default, map-append, append-nil}
 use Rattle.std.proofs.lemmas.List.Sums.{length-filter, sum_by-take-drop, sum_by-le-sum_by}
 use Rattle.std.proofs.lemmas.Int.{ints, by_lt_z}
 use Rattle.std.proofs.lemmas.Bool.Decides.{nat_tests}
 use Rattle.std.proofs.lemmas.List.Elements.{filter_agree, filter_more}
-use Rattle.std.proofs.lemmas.List.Sorted.{ranks_by, sum_by-IsPermutation, length_permutation, IsPermutation-map, sorted_far}
+use Rattle.std.proofs.lemmas.List.Sorted.{ranks_by, sum_by-IsPermutation, IsPermutation-map}
 use Rattle.tk_base.specs.Ascending.{IsAscending}
 use Rattle.tk_base.specs.Objects.{is_in}
 use Rattle.tk_base.specs.Pairs.{objects_of}
-use Rattle.tk_rows.proofs.WritingLemmas.{AreApart, ascending_are_apart}
+use Rattle.tk_rows.proofs.WritingLemmas.{ascending_are_apart}
 use Rattle.tk_alloc.specs.declared.candidate.Candidate.{Candidate}
 use Rattle.tk_alloc.specs.Candidates.{candidate, candidate_cmp, comes_first}
 use Rattle.tk_alloc.specs.Pick.{goes_before, is_among_first, picked}

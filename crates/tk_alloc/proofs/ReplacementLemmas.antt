@@ -1,19 +1,18 @@
 -- A reallocation is what a table can take.
-use Rattle.std.proofs.Common.{◌≡◌, ◌≢◌, ℕ, suc, zero, ◌+◌, ◌*◌, ◌^◌, ◌<◌, ◌≤◌, ℤ, pos, ◌+ℤ◌, ◌-ℤ◌, ◌≤ℤ◌, unsigned_abs, List, [], ◌∷◌, length, map, get_or, Contains, Option, Some, None, cond, refl, sym, ap, ◌∙◌, subst, arith, eq-eqb, ne_eqb}
+use Rattle.std.proofs.Common.{◌≡◌, ◌≢◌, ℕ, suc, zero, ◌+◌, ◌<◌, ◌≤◌, ℤ, List, [], ◌∷◌, length, map, get_or, Contains, Option, Some, cond, refl, sym, ap, ◌∙◌, subst, arith, eq-eqb, ne_eqb}
 use Rattle.std.specs.Prelude.{unwrap_or, ◌==◌}
-use Rattle.std.specs.List.{All, enumerate_from, sum}
+use Rattle.std.specs.List.{All, sum}
 use Rattle.std.specs.Map.{lookup}
-use Rattle.std.proofs.lemmas.Int.{ints}
 use Rattle.std.proofs.lemmas.List.{length-map, get_or-map, get_or_default}
-use Rattle.std.proofs.lemmas.List.Elements.{All-cons, All-head, All-tail, All-contains, All-map, All-weaker}
+use Rattle.std.proofs.lemmas.List.Elements.{All-cons, All-map}
 use Rattle.tk_base.specs.Ascending.{IsAscending}
-use Rattle.tk_base.specs.Pairs.{objects_of, value_at}
+use Rattle.tk_base.specs.Pairs.{objects_of}
 use Rattle.tk_rows.specs.declared.mon_change.MonChange.{MonChange}
 use Rattle.tk_rows.specs.declared.reallocation.Reallocation.{Reallocation}
-use Rattle.tk_rows.specs.Factors.{Grid, factor_at, IsFactor}
-use Rattle.tk_rows.specs.Replacing.{IsReplacement, AreChanges, factor_in, changes_of, changes_at, monitors_of}
+use Rattle.tk_rows.specs.Factors.{Grid, IsFactor}
+use Rattle.tk_rows.specs.Replacing.{IsReplacement, factor_in, changes_of, changes_at, monitors_of}
 use Rattle.tk_rows.proofs.WritingLemmas.{AreApart}
-use Rattle.tk_alloc.specs.Parts.{Part, value_of, leeway, new_factor, dealt_from, by_monitor, IsReallocation}
+use Rattle.tk_alloc.specs.Parts.{Part, new_factor, dealt_from, by_monitor, IsReallocation}
 use Rattle.tk_alloc.proofs.PartLemmas.{objects_put}
 use Rattle.tk_alloc.proofs.LeewayLemmas.{value_put, own_is, at_is, sums_agree, weights_in}
 
@@ -54,7 +53,7 @@ bounded_own P grid own ms objects members change r h =
 pub own_objects : (grid : Grid) (own : Part) (ms : List Part) (objects members : List ℕ) (change : Reallocation) → IsReallocation grid (own ∷ ms) objects members change → objects_of change.own ≡ objects
 own_objects grid own ms objects members change r = ap objects_of (own_is grid own ms objects members change r) ∙ objects_put (new_factor grid (own ∷ ms) 0 own) objects
 
-numbers_by : (at : List MonChange) → monitors_of at ≡ map (λ (x : ℕ × List (ℕ × ℤ)). x.0) (by_monitor at)
+pub numbers_by : (at : List MonChange) → monitors_of at ≡ map (λ (x : ℕ × List (ℕ × ℤ)). x.0) (by_monitor at)
 numbers_by [] = refl
 numbers_by (c ∷ at) = ap (λ (xs : List ℕ). c.mon.0 ∷ xs) (numbers_by at)
 

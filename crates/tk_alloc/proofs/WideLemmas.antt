@@ -1,9 +1,9 @@
 -- What holds after a wide round.
-use Rattle.std.proofs.Common.{◌≡◌, ◌≢◌, ℕ, suc, zero, ◌+◌, ◌-◌, ◌*◌, ◌^◌, ◌<◌, ◌≤◌, ℤ, pos, ◌+ℤ◌, ◌-ℤ◌, ◌≤ℤ◌, unsigned_abs, List, [], ◌∷◌, length, map, get_or, replicate, Contains, Option, Some, None, Bool, true, false, cond, if◌then◌else◌, refl, sym, ap, ◌∙◌, subst, arith, eq-eqb, ne_eqb, inl, inr}
-use Rattle.std.specs.Prelude.{unwrap_or, ◌==◌}
-use Rattle.std.specs.List.{All, enumerate_from, range_with_len, sum}
+use Rattle.std.proofs.Common.{◌≡◌, ℕ, suc, ◌+◌, ◌-◌, ◌*◌, ◌^◌, ◌<◌, ◌≤◌, ℤ, pos, ◌+ℤ◌, ◌≤ℤ◌, unsigned_abs, List, [], ◌∷◌, length, map, get_or, Contains, Option, Some, Bool, true, false, cond, if◌then◌else◌, refl, sym, ap, ◌∙◌, subst, arith, eq-eqb, ne_eqb, inl, inr}
+use Rattle.std.specs.Prelude.{unwrap_or}
+use Rattle.std.specs.List.{All, range_with_len, sum}
 use Rattle.std.proofs.lemmas.Int.{ints}
-use Rattle.std.proofs.lemmas.Bool.{cases_eq, cases_Bool}
+use Rattle.std.proofs.lemmas.Bool.{cases_eq}
 use Rattle.std.proofs.lemmas.List.{length-map, get_or-map, get_or_default, map-id}
 use Rattle.std.proofs.lemmas.List.FromFn.{fill_by_all, length-range_with_len, get_or-range_with_len}
 use Rattle.std.proofs.lemmas.List.Elements.{All-head, All-tail, All-map}
@@ -18,14 +18,13 @@ use Rattle.tk_rows.specs.Factors.{Grid, factor_at, row_of, IsFactor, IsBalanced,
 use Rattle.tk_rows.specs.Replacing.{IsReplacement, factor_in, changes_at}
 use Rattle.tk_rows.proofs.SumLemmas.{int_sum-cons}
 use Rattle.tk_rows.proofs.WritingLemmas.{AreApart, ascending_are_apart}
-use Rattle.tk_share.specs.Shares.{share}
 use Rattle.tk_share.proofs.ShareLemmas.{share_size, share_grows}
 use Rattle.tk_alloc.specs.declared.reported.Reported.{Reported}
-use Rattle.tk_alloc.specs.Parts.{Part, coordinator, monitor, value_of, above, leeway, new_factor, dealt_from, by_monitor, IsReallocation}
+use Rattle.tk_alloc.specs.Parts.{Part, coordinator, monitor, value_of, leeway, new_factor, IsReallocation}
 use Rattle.tk_alloc.specs.Pick.{picked}
 use Rattle.tk_alloc.specs.Rounds.{IsOfSize, AreValues, AreReports, total, totals, chosen, wide_parts, factor_after, KeepsOwn, KeepsLevels, AreSlight}
 use Rattle.tk_alloc.specs.declared.terms.Borders.TheVariants.{Zero}
-use Rattle.tk_alloc.specs.Terms.{AreTerms, TakesPart, parts_of}
+use Rattle.tk_alloc.specs.Terms.{AreTerms, parts_of}
 use Rattle.tk_alloc.proofs.PartLemmas.{objects_put}
 use Rattle.tk_alloc.proofs.AscentLemmas.{ascending_range}
 use Rattle.tk_alloc.proofs.MemberLemmas.{contained_is_in, outside_is_not_in}
@@ -82,6 +81,13 @@ zero_leeway grid own reports o zero_node zero_border order b =
 
 -- ---- the round
 
+-- what a wide round begins with
+pub record IsWideCalled (setup : Setup) (grid : Grid) (reports : List Reported) : Type 0 where
+  pub limits : IsWithinLimits setup
+  pub size : IsOfSize setup grid
+  pub balanced : AreBalanced grid
+  pub reported : AreReports setup.monitors (objects setup.objects) reports
+
 -- a wide round that has ended
 pub record IsWide (setup : Setup) (grid : Grid) (present : List ℕ) (reports : List Reported) (change : Reallocation) : Type 0 where
   pub limits : IsWithinLimits setup
@@ -103,7 +109,7 @@ in_catalogue n o some within =
     let read = get_or-range_with_len 1 n (o - 1) o (omega arith) in
     (o - 1, omega (arith, length-range_with_len 1 n), omega arith)
 
-ones_sum : (reports : List Reported) → sum (weights_in (map (monitor (pos 0)) reports)) ≡ length reports
+pub ones_sum : (reports : List Reported) → sum (weights_in (map (monitor (pos 0)) reports)) ≡ length reports
 ones_sum [] = refl
 ones_sum (r ∷ reports) = omega (arith, ones_sum reports, sum_by-cons (λ x. x) 1 (weights_in (map (monitor (pos 0)) reports)))
 
@@ -111,37 +117,37 @@ ones_sum (r ∷ reports) = omega (arith, ones_sum reports, sum_by-cons (λ x. x)
 abbrev pub wide_own : Setup → List ℕ → List Reported → Part
 wide_own setup present reports = coordinator setup.own_weight setup.epsilon (pos 0) (chosen setup present reports (objects setup.objects)) (objects setup.objects)
 
-wide_count : (setup : Setup) (grid : Grid) (present : List ℕ) (reports : List Reported) (change : Reallocation) → IsWide setup grid present reports change → length reports ≡ setup.monitors
-wide_count setup grid present reports change w = sym (length-map reports (λ (r : Reported). r.mon.0)) ∙ ap length w.reported.order ∙ length-range_with_len 1 setup.monitors
+wide_count : (setup : Setup) (grid : Grid) (present : List ℕ) (reports : List Reported) → IsWideCalled setup grid reports → length reports ≡ setup.monitors
+wide_count setup grid present reports w = sym (length-map reports (λ (r : Reported). r.mon.0)) ∙ ap length w.reported.order ∙ length-range_with_len 1 setup.monitors
 
-wide_order : (setup : Setup) (grid : Grid) (present : List ℕ) (reports : List Reported) (change : Reallocation) → IsWide setup grid present reports change → map (λ (r : Reported). r.mon.0) reports ≡ range_with_len 1 grid.monitors
-wide_order setup grid present reports change w = w.reported.order ∙ ap (range_with_len 1) (sym w.size.monitors)
+wide_order : (setup : Setup) (grid : Grid) (present : List ℕ) (reports : List Reported) → IsWideCalled setup grid reports → map (λ (r : Reported). r.mon.0) reports ≡ range_with_len 1 grid.monitors
+wide_order setup grid present reports w = w.reported.order ∙ ap (range_with_len 1) (sym w.size.monitors)
 
-wide_value : (setup : Setup) (present : List ℕ) (reports : List Reported) (o : ℕ) → Contains (objects setup.objects) o
+pub wide_value : (setup : Setup) (present : List ℕ) (reports : List Reported) (o : ℕ) → Contains (objects setup.objects) o
     → value_of (wide_own setup present reports).values o ≡ (if is_in (chosen setup present reports (objects setup.objects)) o then setup.epsilon else pos 0)
 wide_value setup present reports o in' =
     ap (λ (v : Option ℤ). unwrap_or v (pos 0)) (value_put (λ q. if is_in (chosen setup present reports (objects setup.objects)) q then setup.epsilon else pos 0) (objects setup.objects) o in')
 
-wide_leeway : (setup : Setup) (grid : Grid) (present : List ℕ) (reports : List Reported) (change : Reallocation) (o : ℕ) → IsWide setup grid present reports change → Contains (objects setup.objects) o
+wide_leeway : (setup : Setup) (grid : Grid) (present : List ℕ) (reports : List Reported) (o : ℕ) → IsWideCalled setup grid reports → Contains (objects setup.objects) o
     → leeway grid (wide_own setup present reports ∷ map (monitor (pos 0)) reports) o ≡ (if is_in (chosen setup present reports (objects setup.objects)) o then setup.epsilon else pos 0) +ℤ total reports o
-wide_leeway setup grid present reports change o w in' =
+wide_leeway setup grid present reports o w in' =
     let range = of_catalogue setup.objects o in' in
-    zero_leeway grid (wide_own setup present reports) reports o refl refl (wide_order setup grid present reports change w) (w.balanced (o - 1) (omega (arith, range.0, range.1, w.size.objects)))
+    zero_leeway grid (wide_own setup present reports) reports o refl refl (wide_order setup grid present reports w) (w.balanced (o - 1) (omega (arith, range.0, range.1, w.size.objects)))
     ∙ ap (λ (z : ℤ). z +ℤ total reports o) (wide_value setup present reports o in')
 
-extra_size : (b : Bool) (epsilon : ℤ) → pos 0 ≤ℤ epsilon → epsilon ≤ℤ pos (2 ^ 100) → unsigned_abs (if b then epsilon else pos 0) ≤ 2 ^ 100
+pub extra_size : (b : Bool) (epsilon : ℤ) → pos 0 ≤ℤ epsilon → epsilon ≤ℤ pos (2 ^ 100) → unsigned_abs (if b then epsilon else pos 0) ≤ 2 ^ 100
 extra_size true epsilon low high = omega (arith, ints)
 extra_size false epsilon low high = omega arith
 
-leeway_size : (setup : Setup) (grid : Grid) (present : List ℕ) (reports : List Reported) (change : Reallocation) (o : ℕ) → IsWide setup grid present reports change → Contains (objects setup.objects) o
+pub leeway_size : (setup : Setup) (grid : Grid) (present : List ℕ) (reports : List Reported) (o : ℕ) → IsWideCalled setup grid reports → Contains (objects setup.objects) o
     → unsigned_abs (leeway grid (wide_own setup present reports ∷ map (monitor (pos 0)) reports) o) ≤ 65 * 2 ^ 100
-leeway_size setup grid present reports change o w in' =
-    let few : length reports ≤ 64 = omega (arith, wide_count setup grid present reports change w, w.limits.monitors) in
+leeway_size setup grid present reports o w in' =
+    let few : length reports ≤ 64 = omega (arith, wide_count setup grid present reports w, w.limits.monitors) in
     let one = extra_size (is_in (chosen setup present reports (objects setup.objects)) o) setup.epsilon w.limits.no_debt w.limits.epsilon in
     let rest = total_size (objects setup.objects) reports o w.reported.values in
-    omega (arith, ints, wide_leeway setup grid present reports change o w in', one, rest, few)
+    omega (arith, ints, wide_leeway setup grid present reports o w in', one, rest, few)
 
-slight_at : (P : ℤ → Type 0) → ((z : ℤ) → unsigned_abs z < 2 ^ 108 → P z) → (grid : Grid) (parts : List Part) (all : List ℕ) (first : ℕ) (rs : List Reported) → All (λ r. AreValues all r.values) rs
+pub slight_at : (P : ℤ → Type 0) → ((z : ℤ) → unsigned_abs z < 2 ^ 108 → P z) → (grid : Grid) (parts : List Part) (all : List ℕ) (first : ℕ) (rs : List Reported) → All (λ r. AreValues all r.values) rs
     → ((o : ℕ) → Contains all o → unsigned_abs (leeway grid parts o) ≤ 65 * 2 ^ 100) → AreBounded P grid parts all first (map (monitor (pos 0)) rs)
 slight_at P weaker grid parts all first [] are small = tt
 slight_at P weaker grid parts all first (r ∷ rs) are small = (
@@ -152,59 +158,60 @@ slight_at P weaker grid parts all first (r ∷ rs) are small = (
   slight_at P weaker grid parts all (first + 1) rs (All-tail (λ (q : Reported). AreValues all q.values) r rs are) small,
 )
 
-slight_own : (setup : Setup) (grid : Grid) (present : List ℕ) (reports : List Reported) (change : Reallocation) (o : ℕ) → IsWide setup grid present reports change → Contains (objects setup.objects) o
+pub slight_own : (setup : Setup) (grid : Grid) (present : List ℕ) (reports : List Reported) (o : ℕ) → IsWideCalled setup grid reports → Contains (objects setup.objects) o
     → unsigned_abs (new_factor grid (wide_own setup present reports ∷ map (monitor (pos 0)) reports) 0 (wide_own setup present reports) o) < 2 ^ 108
-slight_own setup grid present reports change o w in' =
+slight_own setup grid present reports o w in' =
     let parts = wide_own setup present reports ∷ map (monitor (pos 0)) reports in
     let one = extra_size (is_in (chosen setup present reports (objects setup.objects)) o) setup.epsilon w.limits.no_debt w.limits.epsilon in
-    omega (arith, ints, share_size (weights_in parts) 0 (leeway grid parts o), leeway_size setup grid present reports change o w in', wide_value setup present reports o in', one)
+    omega (arith, ints, share_size (weights_in parts) 0 (leeway grid parts o), leeway_size setup grid present reports o w in', wide_value setup present reports o in', one)
 
 -- ---- the promises
 
-wide_placed : (setup : Setup) (grid : Grid) (present : List ℕ) (reports : List Reported) (change : Reallocation) → IsWide setup grid present reports change
+wide_placed : (setup : Setup) (grid : Grid) (present : List ℕ) (reports : List Reported) → IsWideCalled setup grid reports
     → ArePlaced grid (wide_own setup present reports) (map (monitor (pos 0)) reports) (objects setup.objects)
-wide_placed setup grid present reports change w =
-    let nodes : map (λ (q : Part). q.node) (map (monitor (pos 0)) reports) ≡ range_with_len 1 grid.monitors = nodes_map (λ n. n) reports ∙ map-id (map (λ (r : Reported). r.mon.0) reports) ∙ wide_order setup grid present reports change w in
+wide_placed setup grid present reports w =
+    let nodes : map (λ (q : Part). q.node) (map (monitor (pos 0)) reports) ≡ range_with_len 1 grid.monitors = nodes_map (λ n. n) reports ∙ map-id (map (λ (r : Reported). r.mon.0) reports) ∙ wide_order setup grid present reports w in
     record {
       coordinator = refl;
-      weight = omega (arith, sum_by-cons (λ x. x) setup.own_weight (weights_in (map (monitor (pos 0)) reports)), ones_sum reports, wide_count setup grid present reports change w, w.limits.some_monitor);
+      weight = omega (arith, sum_by-cons (λ x. x) setup.own_weight (weights_in (map (monitor (pos 0)) reports)), ones_sum reports, wide_count setup grid present reports w, w.limits.some_monitor);
       objects_within = λ k d within. omega (arith, (of_catalogue setup.objects (get_or (objects setup.objects) k d) (k, within, get_or_default (objects setup.objects) k (get_or (objects setup.objects) k d) d within)).1, w.size.objects);
       order = subst IsAscending (sym nodes) (ascending_range grid.monitors);
       monitors = subst (All (λ j. j ≤ grid.monitors)) (sym nodes) (λ k d within. omega (arith, get_or-range_with_len 1 grid.monitors k d (omega (arith, length-range_with_len 1 grid.monitors)), length-range_with_len 1 grid.monitors));
     }
 
+called : (setup : Setup) (grid : Grid) (present : List ℕ) (reports : List Reported) (change : Reallocation) → IsWide setup grid present reports change → IsWideCalled setup grid reports
+called setup grid present reports change w = record { limits = w.limits; size = w.size; balanced = w.balanced; reported = w.reported }
+
 pub wide_replaces : (setup : Setup) (grid : Grid) (present : List ℕ) (reports : List Reported) (change : Reallocation) → IsWide setup grid present reports change → IsReplacement grid change
 wide_replaces setup grid present reports change w =
     let within : (z : ℤ) → unsigned_abs z < 2 ^ 108 → IsFactor z = λ z h. omega arith in
-    is_replacement grid (wide_own setup present reports) (map (monitor (pos 0)) reports) (objects setup.objects) (chosen setup present reports (objects setup.objects)) change w.is (wide_placed setup grid present reports change w)
-    (λ o in'. within (new_factor grid (wide_own setup present reports ∷ map (monitor (pos 0)) reports) 0 (wide_own setup present reports) o) (slight_own setup grid present reports change o w in'))
-    (slight_at IsFactor within grid (wide_own setup present reports ∷ map (monitor (pos 0)) reports) (objects setup.objects) 1 reports w.reported.values (λ o in'. leeway_size setup grid present reports change o w in'))
+    is_replacement grid (wide_own setup present reports) (map (monitor (pos 0)) reports) (objects setup.objects) (chosen setup present reports (objects setup.objects)) change w.is (wide_placed setup grid present reports (called setup grid present reports change w))
+    (λ o in'. within (new_factor grid (wide_own setup present reports ∷ map (monitor (pos 0)) reports) 0 (wide_own setup present reports) o) (slight_own setup grid present reports o (called setup grid present reports change w) in'))
+    (slight_at IsFactor within grid (wide_own setup present reports ∷ map (monitor (pos 0)) reports) (objects setup.objects) 1 reports w.reported.values (λ o in'. leeway_size setup grid present reports o (called setup grid present reports change w) in'))
 
 pub wide_own_slight : (setup : Setup) (grid : Grid) (present : List ℕ) (reports : List Reported) (change : Reallocation) → IsWide setup grid present reports change → AreSlight change.own
 wide_own_slight setup grid present reports change w =
     bounded_own (λ z. unsigned_abs z < 2 ^ 108) grid (wide_own setup present reports) (map (monitor (pos 0)) reports) (objects setup.objects) (chosen setup present reports (objects setup.objects)) change w.is
-    (λ o in'. slight_own setup grid present reports change o w in')
+    (λ o in'. slight_own setup grid present reports o (called setup grid present reports change w) in')
 
 pub wide_at_slight : (setup : Setup) (grid : Grid) (present : List ℕ) (reports : List Reported) (change : Reallocation) → IsWide setup grid present reports change → All (λ c. AreSlight c.changes) change.at.items
 wide_at_slight setup grid present reports change w k d h =
     (bounded_at (λ z. unsigned_abs z < 2 ^ 108) grid (wide_own setup present reports) (map (monitor (pos 0)) reports) (objects setup.objects) (chosen setup present reports (objects setup.objects)) change w.is
-    (slight_at (λ z. unsigned_abs z < 2 ^ 108) (λ z small. small) grid (wide_own setup present reports ∷ map (monitor (pos 0)) reports) (objects setup.objects) 1 reports w.reported.values (λ o in'. leeway_size setup grid present reports change o w in'))
+    (slight_at (λ z. unsigned_abs z < 2 ^ 108) (λ z small. small) grid (wide_own setup present reports ∷ map (monitor (pos 0)) reports) (objects setup.objects) 1 reports w.reported.values (λ o in'. leeway_size setup grid present reports o (called setup grid present reports change w) in'))
     k d h).1
 
 -- a member's leeway is at least that of any other object
-wide_order_kept : (setup : Setup) (grid : Grid) (present : List ℕ) (reports : List Reported) (change : Reallocation) (t s : ℕ) → IsWide setup grid present reports change
-    → Contains change.members t → (Contains change.members s → ⊥) → Contains (objects setup.objects) s
+pub wide_order_kept : (setup : Setup) (grid : Grid) (present : List ℕ) (reports : List Reported) (t s : ℕ) → IsWideCalled setup grid reports
+    → Contains (chosen setup present reports (objects setup.objects)) t → (Contains (chosen setup present reports (objects setup.objects)) s → ⊥) → Contains (objects setup.objects) s
     → leeway grid (wide_own setup present reports ∷ map (monitor (pos 0)) reports) s ≤ℤ leeway grid (wide_own setup present reports ∷ map (monitor (pos 0)) reports) t
-wide_order_kept setup grid present reports change t s w in' out of =
+wide_order_kept setup grid present reports t s w chosen_t left of =
     let all = objects setup.objects in
     let members = chosen setup present reports all in
-    let chosen_t = subst (λ xs. Contains xs t) w.is.chosen in' in
     let t_of = picked_of (total reports) present all setup.k t chosen_t in
-    let left : Contains members s → ⊥ = λ c. out (subst (λ xs. Contains xs s) (sym w.is.chosen) c) in
     let best = picked_greatest (total reports) present all setup.k t s chosen_t of left in
     let extra_t : (if is_in members t then setup.epsilon else pos 0) ≡ setup.epsilon = ap (λ b. if b then setup.epsilon else pos 0) (contained_is_in members t chosen_t) in
     let extra_s : (if is_in members s then setup.epsilon else pos 0) ≡ pos 0 = ap (λ b. if b then setup.epsilon else pos 0) (outside_is_not_in members s left) in
-    omega (arith, ints, best, extra_t, extra_s, wide_leeway setup grid present reports change t w t_of, wide_leeway setup grid present reports change s w of, w.limits.no_debt)
+    omega (arith, ints, best, extra_t, extra_s, wide_leeway setup grid present reports t w t_of, wide_leeway setup grid present reports s w of, w.limits.no_debt)
 
 pub wide_keeps_own : (setup : Setup) (grid : Grid) (present : List ℕ) (reports : List Reported) (change : Reallocation) → IsWide setup grid present reports change → KeepsOwn grid setup.epsilon change
 wide_keeps_own setup grid present reports change w t s in' out some within =
@@ -218,7 +225,7 @@ wide_keeps_own setup grid present reports change w t s in' out some within =
     let left : Contains members s → ⊥ = λ c. out (subst (λ xs. Contains xs s) (sym w.is.chosen) c) in
     let extra_t : (if is_in members t then setup.epsilon else pos 0) ≡ setup.epsilon = ap (λ b. if b then setup.epsilon else pos 0) (contained_is_in members t chosen_t) in
     let extra_s : (if is_in members s then setup.epsilon else pos 0) ≡ pos 0 = ap (λ b. if b then setup.epsilon else pos 0) (outside_is_not_in members s left) in
-    let more = share_grows (weights_in (own ∷ ms)) 0 (leeway grid (own ∷ ms) s) (leeway grid (own ∷ ms) t) (wide_order_kept setup grid present reports change t s w in' out of) in
+    let more = share_grows (weights_in (own ∷ ms)) 0 (leeway grid (own ∷ ms) s) (leeway grid (own ∷ ms) t) (wide_order_kept setup grid present reports t s (called setup grid present reports change w) chosen_t left of) in
     let after_t = own_after grid own ms all members change t (factor_at grid 0 t) w.is t_of in
     let after_s = own_after grid own ms all members change s (factor_at grid 0 s) w.is of in
     omega (arith, ints, more, after_t, after_s, extra_t, extra_s, wide_value setup present reports t t_of, wide_value setup present reports s of)
@@ -231,11 +238,11 @@ wide_after setup grid present reports change k o d w within in' =
     let ms = map (monitor (pos 0)) reports in
     let e : Part = monitor (pos 0) d in
     let read : get_or ms k e ≡ monitor (pos 0) (get_or reports k d) = get_or-map (monitor (pos 0)) reports k d e within in
-    let order = wide_order setup grid present reports change w in
+    let order = wide_order setup grid present reports (called setup grid present reports change w) in
     let nodes : map (λ (q : Part). q.node) ms ≡ range_with_len 1 grid.monitors = nodes_map (λ n. n) reports ∙ map-id (map (λ (r : Reported). r.mon.0) reports) ∙ order in
     let apart = subst AreApart (sym nodes) (ascending_are_apart (range_with_len 1 grid.monitors) (ascending_range grid.monitors)) in
     let number : (get_or reports k d).mon.0 ≡ 1 + k =
-    sym (get_or-map (λ (r : Reported). r.mon.0) reports k d 0 within) ∙ ap (λ (xs : List ℕ). get_or xs k 0) w.reported.order ∙ get_or-range_with_len 1 setup.monitors k 0 (omega (arith, wide_count setup grid present reports change w)) in
+    sym (get_or-map (λ (r : Reported). r.mon.0) reports k d 0 within) ∙ ap (λ (xs : List ℕ). get_or xs k 0) w.reported.order ∙ get_or-range_with_len 1 setup.monitors k 0 (omega (arith, wide_count setup grid present reports (called setup grid present reports change w))) in
     let node : (get_or ms k e).node ≡ (get_or reports k d).mon.0 = ap (λ (q : Part). q.node) read in
     subst (λ (q : Part). factor_in (changes_at change q.node) o (factor_at grid (get_or reports k d).mon.0 o) ≡ new_factor grid (own ∷ ms) (1 + k) q o) read
     (at_after grid own ms (objects setup.objects) (chosen setup present reports (objects setup.objects)) change k o e (factor_at grid (get_or reports k d).mon.0 o) w.is in' (omega (arith, length-map reports (monitor (pos 0)))) apart (omega (arith, node, number)))
@@ -246,8 +253,10 @@ wide_keeps_levels setup grid present reports change w k d within t s in' out at 
     let own = wide_own setup present reports in
     let ms = map (monitor (pos 0)) reports in
     let of = subst (λ xs. Contains xs s) (w.reported.values k d within).same at in
-    let t_of = picked_of (total reports) present all setup.k t (subst (λ xs. Contains xs t) w.is.chosen in') in
-    let more = share_grows (weights_in (own ∷ ms)) (1 + k) (leeway grid (own ∷ ms) s) (leeway grid (own ∷ ms) t) (wide_order_kept setup grid present reports change t s w in' out of) in
+    let chosen_t = subst (λ xs. Contains xs t) w.is.chosen in' in
+    let left : Contains (chosen setup present reports all) s → ⊥ = λ c. out (subst (λ xs. Contains xs s) (sym w.is.chosen) c) in
+    let t_of = picked_of (total reports) present all setup.k t chosen_t in
+    let more = share_grows (weights_in (own ∷ ms)) (1 + k) (leeway grid (own ∷ ms) s) (leeway grid (own ∷ ms) t) (wide_order_kept setup grid present reports t s (called setup grid present reports change w) chosen_t left of) in
     omega (arith, ints, more, wide_after setup grid present reports change k t d w within t_of, wide_after setup grid present reports change k s d w within of)
 
 -- ---- from the code's values
@@ -292,7 +301,7 @@ asked_values setup grid present reports first sums members values a =
     ∙ ap (map (λ o. (o, if is_in members o then setup.epsilon else pos 0))) (asked_objects setup grid present reports first sums members values a)
     ∙ ap (λ (m : List ℕ). map (λ o. (o, if is_in m o then setup.epsilon else pos 0)) (objects setup.objects)) (asked_members setup grid present reports first sums members values a)
 
-own_small : (setup : Setup) (members : List ℕ) (all : List ℕ) → IsWithinLimits setup → All (λ (p : ℕ × ℤ). unsigned_abs p.1 ≤ 2 ^ 100) (map (λ o. (o, if is_in members o then setup.epsilon else pos 0)) all)
+pub own_small : (setup : Setup) (members : List ℕ) (all : List ℕ) → IsWithinLimits setup → All (λ (p : ℕ × ℤ). unsigned_abs p.1 ≤ 2 ^ 100) (map (λ o. (o, if is_in members o then setup.epsilon else pos 0)) all)
 own_small setup members all limits =
     All-map (λ (p : ℕ × ℤ). unsigned_abs p.1 ≤ 2 ^ 100) (λ (o : ℕ). (o, if is_in members o then setup.epsilon else pos 0)) all (λ k d within. extra_size (is_in members (get_or all k d)) setup.epsilon limits.no_debt limits.epsilon)
 

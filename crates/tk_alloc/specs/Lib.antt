@@ -1,13 +1,17 @@
 pub mod Candidates
+pub mod Limit
 pub mod Parts
 pub mod Pick
+pub mod Resolving
 pub mod Rounds
+pub mod Search
 pub mod Terms
 pub use Rattle.tk_base.specs.Ascending
 pub use Rattle.tk_base.specs.Objects
 pub use Rattle.tk_base.specs.Pairs
 pub use Rattle.tk_base.specs.Settings
 pub use Rattle.tk_base.specs.Sum
+pub use Rattle.tk_border.specs.Levels
 pub use Rattle.tk_rows.specs.Factors
 pub use Rattle.tk_rows.specs.Replacing
 pub use Rattle.tk_share.specs.Shares

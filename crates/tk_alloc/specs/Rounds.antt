@@ -1,5 +1,5 @@
 -- The rounds: what is reported to them, whom they choose, and what holds after them.
-use Rattle.std.specs.Prelude.{ℕ, ◌+◌, ◌^◌, ◌<◌, ◌≤◌, ◌≡◌, ℤ, pos, ◌+ℤ◌, ◌≤ℤ◌, unsigned_abs, List, [], ◌∷◌, map, length, Contains}
+use Rattle.std.specs.Prelude.{ℕ, ◌^◌, ◌<◌, ◌≤◌, ◌≡◌, ℤ, pos, ◌+ℤ◌, ◌≤ℤ◌, unsigned_abs, List, ◌∷◌, map, length, Contains}
 use Rattle.std.specs.List.{All, range_with_len}
 use Rattle.tk_base.specs.Objects.{objects}
 use Rattle.tk_base.specs.Pairs.{objects_of}
@@ -7,7 +7,7 @@ use Rattle.tk_base.specs.Settings.{Setup}
 use Rattle.tk_base.specs.Sum.{int_sum}
 use Rattle.tk_rows.specs.declared.reallocation.Reallocation.{Reallocation}
 use Rattle.tk_rows.specs.Factors.{Grid, factor_at}
-use Rattle.tk_rows.specs.Replacing.{changes_at, changes_of, factor_in}
+use Rattle.tk_rows.specs.Replacing.{changes_at, factor_in}
 use Rattle.tk_alloc.specs.declared.reported.Reported.{Reported}
 use Rattle.tk_alloc.specs.Parts.{Part, IsReallocation, coordinator, monitor, value_of}
 use Rattle.tk_alloc.specs.Pick.{picked}

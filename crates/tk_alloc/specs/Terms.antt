@@ -1,7 +1,6 @@
 -- A round as the code holds it. No public clause cites this.
-use Rattle.std.specs.Prelude.{ℕ, ◌^◌, ◌<◌, ◌≤◌, ◌≡◌, ℤ, pos, ◌+ℤ◌, ◌-ℤ◌, unsigned_abs, List, [], ◌∷◌, map, length}
+use Rattle.std.specs.Prelude.{ℕ, ◌^◌, ◌<◌, ◌≤◌, ℤ, pos, ◌+ℤ◌, ◌-ℤ◌, unsigned_abs, List, [], ◌∷◌, map, length}
 use Rattle.std.specs.List.{All}
-use Rattle.tk_base.specs.Ascending.{IsAscending}
 use Rattle.tk_base.specs.Pairs.{objects_of}
 use Rattle.tk_rows.specs.Factors.{Grid}
 use Rattle.tk_share.specs.Shares.{share}

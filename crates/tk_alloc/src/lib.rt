@@ -5,16 +5,27 @@
 //! monitors' too. It stands on tk_share, tk_rows and the levels of tk_border.
 #![tactic(auto)]
 
+mod alloc_fault;
 mod candidate;
+mod extremes;
+mod full_round;
+mod laws;
+mod limit;
+mod own_border;
 mod pair_list;
 mod picking;
 mod reallocating;
 mod reported;
+mod short_round;
 mod terms;
 #[cfg(test)]
 mod tests;
 mod wide_round;
 
+pub use alloc_fault::AllocFault;
+pub use full_round::full;
+pub use laws::rounds_stay_small;
 pub use picking::pick;
 pub use reported::Reported;
+pub use short_round::{short, short_test};
 pub use wide_round::wide;

@@ -1,6 +1,6 @@
-ghost use Rattle.std.specs.Prelude.{◌≡◌, [], ◌∷◌, IfOk};
+ghost use Rattle.std.specs.Prelude.{◌≡◌, ◌≤ℤ◌, pos, [], ◌∷◌, IfOk};
 
-use crate::{Reported, pick, wide};
+use crate::{AllocFault, Reported, full, pick, short, short_test, wide};
 use std::alloc::Global;
 use std::test::Fail;
 use tk_base::{Mon, Obj, ObjSet, Pairs, Settings};
@@ -8,7 +8,9 @@ use tk_rows::{MonChange, Reallocation, Table};
 
 const LIMIT: i128 = 5_192_296_858_534_827_628_530_496_329_220_096;
 
-fn set_of(alloc: Global, o: u32) -> Result<ObjSet, Fail> {
+fn set_of(alloc: Global, o: u32) -> Result<ObjSet, Fail>
+    ensures { IfOk result (λ s. s ≡ o ∷ []) }
+{
     let set = ObjSet::new([Obj(o)].to_vec(alloc)?)?;
     Ok(set)
 }
@@ -41,6 +43,7 @@ fn picks(rt: HostRuntime) -> Result<(), Fail> {
 fn reported(alloc: Global, mon: u32, border: i128, a: i128, b: i128) -> Result<Reported, Fail>
     ensures mon { IfOk result (λ r. r.mon.0 ≡ mon) }
     ensures values { IfOk result (λ r. r.values ≡ (1, a) ∷ (2, b) ∷ []) }
+    ensures border { IfOk result (λ r. r.border ≡ border) }
 {
     let values = pairs(alloc, a, b)?;
     Ok(Reported {
@@ -86,9 +89,11 @@ fn is_same(left: &Reallocation, right: &Reallocation) -> bool {
 fn settings_of(k: u64, epsilon: u128) -> Result<Settings, Fail>
     ensures objects { IfOk result (λ s. s.objects ≡ 2) }
     ensures monitors { IfOk result (λ s. s.monitors ≡ 2) }
+    ensures k { IfOk result (λ s. s.k ≡ k) }
+    ensures no_debt { IfOk result (λ s. pos 0 ≤ℤ s.epsilon) }
 {
     let settings = Settings::new(k, epsilon, 1, 2, 2)?;
-    if settings.objects() == 2 && settings.monitors() == 2 {
+    if settings.objects() == 2 && settings.monitors() == 2 && u64::from(settings.k()) == k {
         Ok(settings)
     } else {
         Err("other settings")?
@@ -137,5 +142,64 @@ fn wide_round_past_the_limit(rt: HostRuntime) -> Result<(), Fail> {
     let own = pairs(alloc, 0, 11)?;
     let wanted = reallocation(alloc, 2, own, pairs(alloc, 0, 9)?, pairs(alloc, 0, -20)?)?;
     assert!(rt; is_same(&found, &wanted));
+    Ok(())
+}
+
+#[test]
+fn short_round(rt: HostRuntime) -> Result<(), Fail> {
+    let alloc = rt.alloc();
+    let table = Table::new(alloc, 2, 2)?;
+    let members = set_of(alloc, 1)?;
+    let report = reported(alloc, 2, 0, 0, 3)?;
+    let near = settings_of(1, 4)?;
+    assert!(rt; short_test(&near, &table, &members, &report));
+    let far = settings_of(1, 2)?;
+    assert!(rt; !short_test(&far, &table, &members, &report));
+    let found = short(alloc, &near, &table, &members, &report)?;
+    let own = pairs(alloc, 0, 4)?;
+    assert!(rt; found.members == members);
+    assert!(rt; found.own == own);
+    assert_eq!(rt; found.at.len(), 1);
+    assert_eq!(rt; found.at[0].mon, Mon(2));
+    assert!(rt; found.at[0].changes == pairs(alloc, 0, -4)?);
+    Ok(())
+}
+
+#[test]
+fn full_round(rt: HostRuntime) -> Result<(), Fail> {
+    let alloc = rt.alloc();
+    let settings = settings_of(1, 0)?;
+    let table = Table::new(alloc, 2, 2)?;
+    let members = set_of(alloc, 1)?;
+    let first = reported(alloc, 1, 5, 5, 0)?;
+    let second = reported(alloc, 2, 0, 0, 3)?;
+    let reports = two(alloc, first, second)?;
+    let found = full(alloc, &settings, &table, &members, reports.as_slice())?;
+    let own = pairs(alloc, 0, 0)?;
+    let wanted = reallocation(alloc, 1, own, pairs(alloc, 0, 4)?, pairs(alloc, 0, -4)?)?;
+    assert!(rt; is_same(&found, &wanted));
+    Ok(())
+}
+
+#[test]
+fn factor_past_its_limit(rt: HostRuntime) -> Result<(), Fail> {
+    let alloc = rt.alloc();
+    let settings = settings_of(1, 0)?;
+    let mut table = Table::new(alloc, 2, 2)?;
+    let zeros = pairs(alloc, 0, 0)?;
+    let great = pairs(alloc, LIMIT, LIMIT)?;
+    let small = pairs(alloc, -LIMIT, -LIMIT)?;
+    table.replace(&reallocation(alloc, 1, zeros, great, small)?);
+    let members = set_of(alloc, 1)?;
+    let first = reported(alloc, 1, LIMIT, 0, 1)?;
+    let second = reported(alloc, 2, -LIMIT, 0, 30)?;
+    let reports = two(alloc, first, second)?;
+    let fault = AllocFault::PastLimit {
+        obj: Obj(2),
+        node: 1,
+        factor: LIMIT + 9,
+    };
+    let found = full(alloc, &settings, &table, &members, reports.as_slice());
+    assert!(rt; found.err() == Some(fault));
     Ok(())
 }

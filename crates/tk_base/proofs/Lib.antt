@@ -1,4 +1,5 @@
 pub mod AscendingLemmas
 pub mod EqualLemmas
+pub mod HistoryLemmas
 pub mod PairsLemmas
 mod SearchLemmas

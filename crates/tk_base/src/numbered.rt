@@ -12,6 +12,11 @@ pub struct NotAscending {
 }
 
 impl fmt::Display for NotAscending {
+    ghost use Rattle.std.specs.Prelude.{Some, ◌++◌, codes};
+    ghost use Rattle.std.specs.Fmt.{decimal};
+
+    ghost output = { λ e. Some (codes "the object at place " ++ (decimal e.place ++ codes " is out of order")) };
+
     fn fmt<W: fmt::Write>(&self, f: &mut fmt::Formatter<W>) -> fmt::Result {
         write!(f, "the object at place {} is out of order", self.place)
     }

@@ -27,6 +27,11 @@ pub enum SettingFault {
 }
 
 impl fmt::Display for SettingFault {
+    ghost use Rattle.std.specs.Prelude.{Some};
+    ghost use Rattle.tk_base.specs.Texts.{setting_fault_text};
+
+    ghost output = { λ fault. Some (setting_fault_text fault) };
+
     fn fmt<W: fmt::Write>(&self, f: &mut fmt::Formatter<W>) -> fmt::Result {
         f.write_str(match self {
             SettingFault::BadCount => "bad number of objects or monitors",

@@ -1,6 +1,9 @@
+mod BatchLemmas
+mod ContentLemmas
 mod GatheringLemmas
 mod IndexLemmas
 mod NotedLemmas
 mod ObjectsLemmas
 mod PickedLemmas
+mod SearchLemmas
 mod ValuesLemmas

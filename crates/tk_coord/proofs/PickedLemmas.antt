@@ -1,5 +1,5 @@
 -- The members that a round chooses are objects of the catalogue.
-use Rattle.std.proofs.Common.{◌≡◌, ℕ, ℤ, ◌+◌, ◌≤◌, List, arith}
+use Rattle.std.proofs.Common.{ℕ, ℤ, ◌≤◌, List}
 use Rattle.std.specs.List.{All, filter}
 use Rattle.std.proofs.lemmas.List.Elements.{All-filter, All-map}
 use Rattle.tk_base.specs.Objects.{objects}

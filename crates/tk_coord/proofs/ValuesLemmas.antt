@@ -1,14 +1,13 @@
 -- The objects of reported values.
-use Rattle.std.proofs.Common.{◌≡◌, ℕ, suc, zero, ◌+◌, ◌<◌, ◌≤◌, ℤ, List, [], ◌∷◌, length, get_or, map, Some, Contains, refl, sym, ap, ◌∙◌, subst, arith, inl, inr, ◌⊎◌}
+use Rattle.std.proofs.Common.{◌≡◌, ℕ, suc, ◌+◌, ◌<◌, ◌≤◌, ℤ, List, [], ◌∷◌, length, get_or, Some, refl, sym, ap, ◌∙◌, arith}
 use Rattle.std.specs.Prelude.{slice_get}
-use Rattle.std.specs.List.{All}
-use Rattle.std.proofs.lemmas.List.{length-map, get_or-map, get_or_default}
+use Rattle.std.proofs.lemmas.List.{length-map, get_or-map}
 use Rattle.std.proofs.lemmas.Option.{slice_get_within, get_or_from_slice_get}
 use Rattle.tk_base.specs.Ascending.{IsAscending}
 use Rattle.tk_base.specs.Objects.{objects}
 use Rattle.tk_base.specs.Pairs.{objects_of}
 use Rattle.tk_base.proofs.AscendingLemmas.{ascending_positive}
-use Rattle.tk_coord.specs.Checks.{AreOfEither, AreWithin}
+use Rattle.tk_coord.specs.Checks.{AreWithin}
 use Rattle.tk_coord.proofs.ObjectsLemmas.{length-objects, get_or-objects}
 
 pub length-objects_of : (ps : List (ℕ × ℤ)) → length (objects_of ps) ≡ length ps
@@ -39,13 +38,6 @@ pub objects_within : (n : ℕ) → AreWithin n (objects n)
 objects_within n k d below =
     let inside : k < n = omega (arith, length-objects n) in
     omega (arith, get_or-objects n k d inside)
-
--- objects of one or the other of two sets within a catalogue are within it
-pub either_within : (n : ℕ) (first second xs : List ℕ) → AreWithin n first → AreWithin n second → AreOfEither first second xs → AreWithin n xs
-either_within n first second xs a b each k d below = elim (each k d below) [
-  | inl (j, inside, is) ↦ let high = a j (get_or xs k d) inside in omega (arith, is)
-  | inr (j, inside, is) ↦ let high = b j (get_or xs k d) inside in omega (arith, is)
-]
 
 -- the object of a pair is at least 1, and within what its list is within
 pub object_within : (n : ℕ) (ps : List (ℕ × ℤ)) (i : ℕ) (p : ℕ × ℤ) → IsAscending (objects_of ps) → AreWithin n (objects_of ps) → slice_get ps i ≡ Some p → (0 < p.0) × (p.0 ≤ n)

@@ -1,22 +1,24 @@
 -- What contracts see of a coordinator, and what its fields keep.
-use Rattle.std.specs.Prelude.{◌≡◌, ℕ, suc, ◌<◌, ◌≤◌, Bool, true, false, List, length, Some, slice_get}
+use Rattle.std.specs.Prelude.{◌≡◌, ℕ, suc, ◌<◌, ◌≤◌, Bool, true, false, List, length, filter_map, unwrap_or, Some, slice_get}
 use Rattle.std.specs.Global.{Vec}
-use Rattle.std.specs.List.{All, filter_map}
+use Rattle.std.specs.List.{All}
 use Rattle.tk_base.specs.Objects.{objects}
 use Rattle.tk_base.specs.Pairs.{objects_of}
-use Rattle.tk_base.specs.Settings.{Setup}
+use Rattle.tk_base.specs.Settings.{Setup, IsWithinLimits}
 use Rattle.tk_rows.specs.Factors.{Grid}
 use Rattle.tk_rows.specs.Replacing.{IsReplacement}
 use Rattle.tk_alloc.specs.declared.reported.Reported.{Reported}
 use Rattle.tk_journal.specs.declared.noted.Noted.{Noted}
-use Rattle.tk_journal.specs.declared.publication.Publication.{Publication}
 use Rattle.tk_journal.specs.Entries.{IsEntryOf}
+use Rattle.tk_journal.specs.Readings.{is_stopped, members_at, members_in}
+use Rattle.tk_journal.specs.Walks.{last_of}
 use Rattle.tk_coord.specs.declared.link.Link.{Link}
 use Rattle.tk_coord.specs.declared.step.Change.{Change}
 use Rattle.tk_coord.specs.declared.step.Change.TheVariants as change
 use Rattle.tk_coord.specs.declared.step.Step.{Step}
 use Rattle.tk_coord.specs.Checks.{AreSmall, AreWithin}
-use Rattle.tk_coord.specs.Index.{AreIndexed, IsIndex, published_in}
+use Rattle.tk_journal.specs.Publishing.{published_in}
+use Rattle.tk_coord.specs.Index.{AreIndexed, IsIndex}
 
 -- a coordinator: what it was made with, its members, its table and its journal
 pub record Seen : Type 0 where
@@ -25,12 +27,9 @@ pub record Seen : Type 0 where
   pub table : Grid
   pub journal : List Noted
 
--- the publications of a journal, in order
-abbrev pub publications : List Noted → List Publication
-publications journal = filter_map published_in journal
-
 -- the members and the table are of the settings' size
 pub record IsSized (c : Seen) : Type 0 where
+  pub limits : IsWithinLimits c.settings
   pub some : 0 < length c.members
   pub most : length c.members ≤ 1024
   pub within : AreWithin c.settings.objects c.members
@@ -56,6 +55,11 @@ pub record IsNoted (c : Seen) (sent : List (Vec ℕ)) (published : List ℕ) : T
   pub frames : AreIndexed c.journal sent
   pub sets : IsIndex published_in c.journal published
 
+-- the members are those that the journal names, and Stop was sent where it says so
+pub record IsTied (c : Seen) (ended : Bool) : Type 0 where
+  pub named : c.members ≡ members_at c.journal
+  pub stopped : ended ≡ is_stopped c.journal
+
 -- a change that the coordinator can make
 abbrev pub IsChange : Seen → ℕ → Change → Type 0
 IsChange c j change.Nothing = Unit {0}
@@ -65,7 +69,26 @@ IsChange c j (change.Settled progress last) = Unit {0}
 IsChange c j (change.Gathered r) = IsTold c.settings.objects j r
 IsChange c j (change.Reallocated r) = IsReplacement c.table r × (length r.members ≡ c.settings.k) × AreWithin c.settings.objects r.members
 
+-- the members after a change, and whether it ends the journal
+abbrev pub members_by : List ℕ → Change → List ℕ
+members_by members change.Nothing = members
+members_by members change.Reported = members
+members_by members change.Opened = members
+members_by members (change.Settled progress last) = members
+members_by members (change.Gathered r) = members
+members_by members (change.Reallocated r) = r.members
+
+abbrev pub ends_by : Change → Bool
+ends_by change.Nothing = false
+ends_by change.Reported = false
+ends_by change.Opened = false
+ends_by (change.Settled progress last) = last
+ends_by (change.Gathered r) = false
+ends_by (change.Reallocated r) = false
+
 -- a step that the coordinator can take at monitor j
 pub record IsStep (c : Seen) (j : ℕ) (s : Step) : Type 0 where
   pub entries : All (IsEntryOf c.settings.monitors c.settings.objects) s.entries.items
   pub change : IsChange c j s.change
+  pub members : unwrap_or (last_of (filter_map members_in s.entries.items)) c.members ≡ members_by c.members s.change
+  pub ends : is_stopped s.entries.items ≡ ends_by s.change

@@ -1,17 +1,10 @@
 -- Where in a journal certain entries stand.
-use Rattle.std.specs.Prelude.{◌≡◌, ℕ, suc, ◌+◌, ◌<◌, ◌≤◌, List, length, Option, Some, None, slice_index, slice_get, vec_len, vec_capacity}
+use Rattle.std.specs.Prelude.{◌≡◌, ℕ, suc, ◌+◌, ◌<◌, ◌≤◌, List, length, Option, Some, slice_index, slice_get, vec_len, vec_capacity}
 use Rattle.std.specs.Global.{Vec}
 use Rattle.std.specs.List.{filter_map}
 use Rattle.tk_journal.specs.declared.noted.Noted.{Noted}
 use Rattle.tk_journal.specs.declared.noted.Noted.TheVariants as n
-use Rattle.tk_journal.specs.declared.publication.Publication.{Publication}
 use Rattle.tk_journal.specs.Links.{sent_to}
-
--- the publication of an entry, if it is one
-abbrev pub published_in : Noted → Option Publication
-published_in (n.Got from frame) = None
-published_in (n.Sent to frame) = None
-published_in (n.Published publication) = Some publication
 
 -- at this place of the journal an entry stands that reads as this
 abbrev pub IsReadAt : {X : Type 0} → (Noted → Option X) → List Noted → ℕ → Option X → Type 0
@@ -35,3 +28,4 @@ abbrev pub IsForOneOf : ℕ → Noted → Type 0
 IsForOneOf monitors (n.Got from frame) = Unit {0}
 IsForOneOf monitors (n.Sent to frame) = (0 < to.0) × (to.0 ≤ monitors)
 IsForOneOf monitors (n.Published publication) = Unit {0}
+IsForOneOf monitors (n.Tuned k epsilon) = Unit {0}

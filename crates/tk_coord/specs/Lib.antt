@@ -1,8 +1,11 @@
+pub mod Batches
 pub mod Checks
 pub mod Coordinator
 pub mod Index
+pub mod Refusals
 pub use Rattle.tk_base.specs.Objects
 pub use Rattle.tk_base.specs.Settings
 pub use Rattle.tk_rows.specs.Factors
 pub use Rattle.tk_journal.specs.Entries
 pub use Rattle.tk_journal.specs.Links
+pub use Rattle.tk_journal.specs.Publishing

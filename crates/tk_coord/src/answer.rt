@@ -1,3 +1,7 @@
+ghost use Rattle.std.specs.Prelude.{◌≡◌, IfOk};
+ghost use Rattle.tk_journal.specs.Readings.{Progress as Told};
+
+use std::marker::Model;
 use tk_base::{NoMemory, Places};
 
 /// A monitor's last fresh Report or Settled since the last Assign to it.
@@ -15,8 +19,18 @@ pub struct Progress {
     pub last: bool,
 }
 
+impl Model for Progress {
+    ghost use Rattle.tk_journal.specs.Readings.{Progress as Told};
+
+    ghost Value = { Told };
+
+    ghost view = { λ p. record { places = p.places; last = p.last } };
+}
+
 impl Progress {
-    pub fn of(places: &Places, last: bool) -> Result<Progress, NoMemory> {
+    pub fn of(places: &Places, last: bool) -> Result<Progress, NoMemory>
+        ensures { IfOk result (λ p. p ≡ record { places = places.now; last = last }) }
+    {
         Ok(Progress {
             places: places.try_clone()?,
             last,

@@ -1,12 +1,16 @@
-ghost use Rattle.std.specs.Prelude.{◌≡◌, ◌<◌, ◌≤◌, ◌⊎◌, Contains, length, IfNone};
-ghost use Rattle.std.specs.Bool.{OnTrue};
-ghost use Rattle.tk_base.specs.Objects.{objects};
+ghost use Rattle.std.specs.Prelude.{◌≡◌, ◌<◌, ◌≤◌, ◌^◌, ◌&&◌, ◌||◌, ◌==◌, nat_le, not, length, unsigned_abs, IfNone};
+ghost use Rattle.std.specs.List.{list_all, zip};
+ghost use Rattle.tk_alloc.specs.Parts.{value_of as value_in};
+ghost use Rattle.tk_base.specs.Ascending.{IsAscending};
+ghost use Rattle.tk_base.specs.Objects.{objects as objects_in, is_in};
 ghost use Rattle.tk_base.specs.Pairs.{objects_of};
-ghost use Rattle.tk_coord.specs.Checks.{AreSmall, AreOfEither, AreWithin};
+ghost use Rattle.tk_border.specs.Levels.{holds, is_above as is_above_of, lowered, resolution};
+ghost use Rattle.tk_journal.specs.Refusal.{are_outsiders as are_outsiders_of, are_places as are_places_of, are_same, bad_border, go_on as go_on_of, least_in, level_in, not_broken as not_broken_of, refusal_of_report, refusal_of_values, too_great as too_great_of};
+ghost use Rattle.tk_coord.specs.Checks.{AreSmall, AreWithin, IsKnown, is_too_great, known_in};
 
 use crate::answer::Progress;
-use crate::refusal::CoordRefusal;
 use tk_base::{Mon, Obj, ObjSet, Pairs, Places};
+use tk_journal::CoordRefusal;
 use tk_rows::Table;
 
 const MAX_VALUE: u128 = 1_267_650_600_228_229_401_496_703_205_376;
@@ -18,9 +22,18 @@ const MAX_FEEDERS: usize = 8;
 
 const MAX_PLACE: u32 = 1_000_000;
 
+/// What the content of a frame is tested over: its monitor, the catalogue, the members and the factors.
+#[derive(Clone, Copy)]
+pub struct Known<'a> {
+    pub mon: Mon,
+    pub objects: u32,
+    pub members: &'a ObjSet,
+    pub table: &'a Table,
+}
+
 /// Whether the values are over exactly the objects from 1 to n.
 fn are_over_all(values: &Pairs, n: u32) -> bool
-    ensures { OnTrue result (objects_of values.now ≡ objects n) }
+    ensures { result ≡ are_same (objects_of values.now) (objects_in n) }
 {
     if values.len() != n as usize {
         return false;
@@ -34,16 +47,27 @@ fn are_over_all(values: &Pairs, n: u32) -> bool
     true
 }
 
+fn is_in_set(set: &ObjSet, o: Obj) -> bool
+    ensures { result ≡ is_in set.now o.0 }
+{
+    set.has(o)
+}
+
+fn is_outsider(known: Known, o: Obj) -> bool
+    ensures { result ≡ (nat_le o.0 (known_in known.entry).objects && not (is_in (known_in known.entry).members o.0)) }
+{
+    o.0 <= known.objects && !is_in_set(known.members, o)
+}
+
 /// Whether failed is some objects of the catalogue that are no members.
-fn are_outsiders(failed: &ObjSet, members: &ObjSet, objects: u32) -> bool
-    ensures { OnTrue result (AreWithin objects failed.now) }
+fn are_outsiders(known: Known, failed: &ObjSet) -> bool
+    ensures { result ≡ are_outsiders_of (known_in known.entry) failed.now }
 {
     if failed.len() == 0 {
         return false;
     }
     for i in 0..failed.len() {
-        let o = failed.at(i);
-        if o.0 > objects || members.has(o) {
+        if !is_outsider(known, failed.at(i)) {
             return false;
         }
     }
@@ -51,87 +75,156 @@ fn are_outsiders(failed: &ObjSet, members: &ObjSet, objects: u32) -> bool
 }
 
 fn is_of_either(first: &ObjSet, second: &ObjSet, o: Obj) -> bool
-    ensures { OnTrue result (Contains first.now o.0 ⊎ Contains second.now o.0) }
+    ensures { result ≡ (is_in first.now o.0 || is_in second.now o.0) }
 {
-    first.has(o) || second.has(o)
+    is_in_set(first, o) || is_in_set(second, o)
 }
 
-/// Whether the values are over exactly the members and the failed objects, which are apart.
-fn are_over_both(values: &Pairs, members: &ObjSet, failed: &ObjSet) -> bool
-    ensures { OnTrue result (AreOfEither members.now failed.now (objects_of values.now)) }
+/// Whether each object that has a value is one of two sets.
+fn are_of_either(values: &Pairs, first: &ObjSet, second: &ObjSet) -> bool
+    ensures value { result ≡ list_all (λ o. is_in first.now o || is_in second.now o) (objects_of values.now) }
+    ensures ascends { IsAscending (objects_of values.now) }
 {
-    if values.len().checked_sub(members.len()) != Some(failed.len()) {
-        return false;
-    }
     for i in 0..values.len() {
         let (o, _) = values.at(i);
-        if !is_of_either(members, failed, o) {
+        if !is_of_either(first, second, o) {
             return false;
         }
     }
     true
 }
 
+fn is_named(values: &Pairs, o: Obj) -> bool
+    ensures { result ≡ is_in (objects_of values.now) o.0 }
+{
+    values.get(o).is_some()
+}
+
+/// Whether each object of a set has a value.
+fn are_named(values: &Pairs, set: &ObjSet) -> bool
+    ensures value { result ≡ holds (objects_of values.now) set.now }
+    ensures ascends { IsAscending set.now }
+{
+    for i in 0..set.len() {
+        if !is_named(values, set.at(i)) {
+            return false;
+        }
+    }
+    true
+}
+
+fn are_all(first: bool, second: bool, third: bool) -> bool
+    ensures { result ≡ (first && (second && third)) }
+{
+    first && second && third
+}
+
+/// Whether the values are over exactly the members and the failed objects.
+fn are_over_both(known: Known, failed: &ObjSet, values: &Pairs) -> bool
+    requires members { AreWithin (known_in known).objects (known_in known).members }
+    requires failed { AreWithin (known_in known).objects failed.now }
+    ensures { result ≡ are_same (objects_of values.now) (resolution (known_in known.entry).objects (known_in known.entry).members failed.now) }
+{
+    let either = are_of_either(values, known.members, failed);
+    let members = are_named(values, known.members);
+    let broken = are_named(values, failed);
+    are_all(either, members, broken)
+}
+
+fn is_great(value: i128) -> bool
+    ensures { result ≡ is_too_great value }
+{
+    value.unsigned_abs() > MAX_VALUE
+}
+
 /// The first value that is over 2^100 in size.
-fn too_great(values: &Pairs) -> Option<Obj>
-    ensures { IfNone result (AreSmall values.now) }
+fn too_great(values: &Pairs) -> Option<CoordRefusal>
+    ensures { result ≡ too_great_of values.now }
 {
     for i in 0..values.len() {
         let (o, value) = values.at(i);
-        if value.unsigned_abs() > MAX_VALUE {
-            return Some(o);
+        if is_great(value) {
+            return Some(CoordRefusal::TooGreatValue(o));
         }
     }
     None
 }
 
-/// The level at a monitor of the object at place i of the values, by its value and the table.
-fn level(table: &Table, mon: Mon, values: &Pairs, i: usize) -> i128
-    requires objects { AreWithin (length table.now.rows) (objects_of values.now) }
-    requires some_monitor { 0 < mon.0 }
-    requires monitor { mon.0 ≤ table.now.monitors }
-    requires small { AreSmall values.now }
-    requires within { i < length values.now }
+fn value_of(values: &Pairs, o: Obj) -> i128
+    requires { AreSmall values.now }
+    ensures value { result ≡ value_in values.now o.0 }
+    ensures small { unsigned_abs result ≤ 2 ^ 100 }
 {
-    let (o, value) = values.at(i);
-    value + table.at(mon, o)
+    values.get(o).unwrap_or(0)
 }
 
-/// The least level of a member at a monitor, by the reported values and the table.
-fn least_member(table: &Table, mon: Mon, members: &ObjSet, values: &Pairs) -> Option<i128>
-    requires objects { AreWithin (length table.now.rows) (objects_of values.now) }
-    requires some_monitor { 0 < mon.0 }
-    requires monitor { mon.0 ≤ table.now.monitors }
+/// The level of an object at the monitor, by its reported value and the table.
+fn level(known: Known, values: &Pairs, o: Obj) -> i128
+    requires known { IsKnown (known_in known) }
     requires small { AreSmall values.now }
+    requires some { 0 < o.0 }
+    requires within { o.0 ≤ known.objects }
+    ensures { result ≡ level_in (known_in known.entry) values.now o.0 }
 {
-    let mut least: Option<i128> = None;
-    for i in 0..values.len() {
-        let (o, _) = values.at(i);
-        if members.has(o) {
-            let here = level(table, mon, values, i);
-            least = Some(least.map_or(here, |so_far| so_far.min(here)));
-        }
+    value_of(values, o) + known.table.at(known.mon, o)
+}
+
+fn lower(least: Option<i128>, number: i128) -> Option<i128>
+    ensures { result ≡ lowered least number }
+{
+    Some(match least {
+        None => number,
+        Some(least) => least.min(number),
+    })
+}
+
+/// The least level of a member at the monitor.
+fn least_member(known: Known, values: &Pairs) -> Option<i128>
+    requires known { IsKnown (known_in known) }
+    requires small { AreSmall values.now }
+    ensures { result ≡ least_in (known_in known.entry) values.now }
+{
+    let mut least = None;
+    for i in 0..known.members.len() {
+        least = lower(least, level(known, values, known.members.at(i)));
     }
     least
 }
 
-/// The first failed object whose level is not above the least member level.
-fn not_broken(table: &Table, mon: Mon, failed: &ObjSet, values: &Pairs, least: i128) -> Option<Obj>
-    requires objects { AreWithin (length table.now.rows) (objects_of values.now) }
-    requires some_monitor { 0 < mon.0 }
-    requires monitor { mon.0 ≤ table.now.monitors }
-    requires small { AreSmall values.now }
+fn is_above(least: Option<i128>, number: i128) -> bool
+    ensures { result ≡ is_above_of least number }
 {
-    for i in 0..values.len() {
-        let (o, _) = values.at(i);
-        if failed.has(o) && level(table, mon, values, i) <= least {
-            return Some(o);
+    match least {
+        None => false,
+        Some(least) => least < number,
+    }
+}
+
+/// The first failed object whose level is not above the least member level.
+fn not_broken(
+    known: Known,
+    values: &Pairs,
+    failed: &ObjSet,
+    least: Option<i128>,
+) -> Option<CoordRefusal>
+    requires known { IsKnown (known_in known) }
+    requires small { AreSmall values.now }
+    requires failed { AreWithin (known_in known).objects failed.now }
+    requires least { least ≡ least_in (known_in known) values.now }
+    ensures { result ≡ not_broken_of (known_in known.entry) values.now failed.now }
+{
+    for i in 0..failed.len() {
+        let o = failed.at(i);
+        if !is_above(least, level(known, values, o)) {
+            return Some(CoordRefusal::NotBroken(o));
         }
     }
     None
 }
 
-fn border_refusal(border: i128, least: i128) -> Option<CoordRefusal> {
+fn border_refusal(border: i128, least: i128) -> Option<CoordRefusal>
+    ensures { result ≡ bad_border border least }
+{
     if border > least || border < MIN_BORDER {
         return Some(CoordRefusal::BadBorder { border, least });
     }
@@ -140,63 +233,48 @@ fn border_refusal(border: i128, least: i128) -> Option<CoordRefusal> {
 
 /// Why the content of a fresh Report is refused, if it is.
 pub fn report_refusal(
-    table: &Table,
-    mon: Mon,
-    members: &ObjSet,
-    objects: u32,
+    known: Known,
+    border: i128,
     failed: &ObjSet,
     values: &Pairs,
-    border: i128,
 ) -> Option<CoordRefusal>
-    requires objects { length table.now.rows ≡ objects }
-    requires some_monitor { 0 < mon.0 }
-    requires monitor { mon.0 ≤ table.now.monitors }
-    requires members { AreWithin objects members.now }
+    requires { IsKnown (known_in known) }
+    ensures { result ≡ refusal_of_report (known_in known.entry) border failed.now values.now }
 {
-    if !are_outsiders(failed, members, objects) || !are_over_both(values, members, failed) {
+    if !are_outsiders(known, failed) || !are_over_both(known, failed, values) {
         return Some(CoordRefusal::WrongObjects);
     }
-    if let Some(o) = too_great(values) {
-        return Some(CoordRefusal::TooGreatValue(o));
+    if let Some(refusal) = too_great(values) {
+        return Some(refusal);
     }
-    let Some(least) = least_member(table, mon, members, values) else {
-        return Some(CoordRefusal::WrongObjects);
-    };
-    if let Some(o) = not_broken(table, mon, failed, values, least) {
-        return Some(CoordRefusal::NotBroken(o));
+    let least = least_member(known, values);
+    if let Some(refusal) = not_broken(known, values, failed, least) {
+        return Some(refusal);
     }
-    border_refusal(border, least)
+    border_refusal(border, least.unwrap_or(0))
 }
 
 /// Why the content of awaited Values is refused, if it is.
-pub fn values_refusal(
-    table: &Table,
-    mon: Mon,
-    members: &ObjSet,
-    n: u32,
-    values: &Pairs,
-    border: i128,
-) -> Option<CoordRefusal>
-    requires objects { length table.now.rows ≡ n }
-    requires some_monitor { 0 < mon.0 }
-    requires monitor { mon.0 ≤ table.now.monitors }
-    ensures objects { IfNone result (objects_of values.now ≡ objects n) }
+pub fn values_refusal(known: Known, border: i128, values: &Pairs) -> Option<CoordRefusal>
+    requires { IsKnown (known_in known) }
+    ensures value { result ≡ refusal_of_values (known_in known.entry) (objects_in (known_in known.entry).objects) border values.now }
+    ensures objects { IfNone result (objects_of values.now ≡ objects_in (known_in known.entry).objects) }
     ensures small { IfNone result (AreSmall values.now) }
 {
-    if !are_over_all(values, n) {
+    if !are_over_all(values, known.objects) {
         return Some(CoordRefusal::WrongObjects);
     }
-    if let Some(o) = too_great(values) {
-        return Some(CoordRefusal::TooGreatValue(o));
+    if let Some(refusal) = too_great(values) {
+        return Some(refusal);
     }
-    match least_member(table, mon, members, values) {
-        Some(least) => border_refusal(border, least),
-        None => Some(CoordRefusal::WrongObjects),
-    }
+    let least = least_member(known, values);
+    border_refusal(border, least.unwrap_or(0))
 }
 
 /// Whether the places are those of a monitor of 1 to 8 feeders.
-fn are_places(places: &Places) -> bool {
+fn are_places(places: &Places) -> bool
+    ensures { result ≡ are_places_of places.now }
+{
     if places.len() == 0 || places.len() > MAX_FEEDERS {
         return false;
     }
@@ -209,8 +287,10 @@ fn are_places(places: &Places) -> bool {
 }
 
 /// Whether the places go on from earlier ones: for each feeder, and not back.
-fn go_on(earlier: &Places, places: &Places) -> bool {
-    if earlier.len() != places.len() {
+fn are_further(earlier: &Places, places: &Places) -> bool
+    ensures { result ≡ (length places.now == length earlier.now && list_all (λ p. nat_le p.0 p.1) (zip earlier.now places.now)) }
+{
+    if places.len() != earlier.len() {
         return false;
     }
     for f in 0..places.len() {
@@ -221,14 +301,20 @@ fn go_on(earlier: &Places, places: &Places) -> bool {
     true
 }
 
-/// Whether the places of a fresh Settled are right after those of the one before it.
-pub fn is_cut(before: Option<&Progress>, places: &Places, last: bool) -> bool {
-    if !are_places(places) {
-        return false;
-    }
+/// Whether places go on from the last that a monitor told, if it told any.
+fn go_on(before: &Option<Progress>, last: bool, places: &Places) -> bool
+    ensures { result ≡ go_on_of before.now last places.now }
+{
     match before {
         None => true,
-        Some(earlier) if earlier.last => last && earlier.places == *places,
-        Some(earlier) => go_on(&earlier.places, places),
+        Some(earlier) if earlier.last => last && *places == earlier.places,
+        Some(earlier) => are_further(&earlier.places, places),
     }
+}
+
+/// Whether the places of a fresh Settled are right after those of the one before it.
+pub fn is_cut(before: &Option<Progress>, last: bool, places: &Places) -> bool
+    ensures { result ≡ (are_places_of places.now && go_on_of before.now last places.now) }
+{
+    are_places(places) && go_on(before, last, places)
 }

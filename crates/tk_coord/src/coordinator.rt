@@ -1,27 +1,32 @@
-ghost use Rattle.std.specs.Prelude.{◌≡◌, ℕ, ◌+◌, ◌<◌, ◌≤◌, List, ◌∷◌, ◌++◌, length, IfOk, IfErr, IsOk, OnOk, Some, slice_get};
+ghost use Rattle.std.specs.Prelude.{◌≡◌, ◌⊎◌, false, ℕ, ◌+◌, ◌<◌, ◌≤◌, List, ◌∷◌, ◌++◌, length, IfOk, IfErr, IsOk, OnOk, Some, slice_get};
 ghost use Rattle.tk_base.specs.Objects.{objects};
 ghost use Rattle.tk_rows.specs.Factors.{factor_at};
 ghost use Rattle.tk_journal.specs.declared.noted.Noted.{Noted};
+ghost use Rattle.tk_journal.specs.Readings.{is_stopped, members_at};
+ghost use Rattle.tk_journal.specs.Legal.{IsLegal, opened, start};
 ghost use Rattle.tk_journal.specs.Links.{frames_to};
 ghost use Rattle.tk_journal.specs.Entries.{IsEntryOf};
+ghost use Rattle.tk_base.specs.Pairs.{objects_of};
+ghost use Rattle.tk_coord.specs.Checks.{AreSmall, IsKnown, known_in};
+ghost use Rattle.tk_coord.specs.Refusals.{IsPassed, IsRefused, known_of};
 ghost use Rattle.std.specs.List.{All};
 
 use crate::answer::{Answer, Progress};
-use crate::checks::{is_cut, report_refusal, values_refusal};
+use crate::checks::Known;
 use crate::entries::{assigns, collects, first_assigns, first_objects};
 use crate::gathering::{ended, no_reports};
-use crate::index::{Index, note_from, reserve};
+use crate::index::{Index, note_from, note_turn, reserve};
 use crate::link::{Link, ask_each, assign_each, new_links, waits_for_no_other};
 use crate::publishing::{others_settled, publishing};
-use crate::refusal::CoordRefusal;
-use crate::step::{Change, Step, append};
+use crate::refusals::{Shown, refusal_of};
+use crate::step::{Change, Step};
 use std::alloc::Global;
 use std::marker::Model;
 use std::mem;
 use tk_alloc::Reported;
 use tk_base::{Mon, NoMemory, Obj, ObjSet, Pairs, Places, Settings};
-use tk_frames::{Frame, KeptFrame};
-use tk_journal::{Noted, Publication};
+use tk_frames::Frame;
+use tk_journal::{CoordRefusal, Noted, Publication};
 use tk_rows::Table;
 
 /// The node that keeps the members, the table of factors and the journal.
@@ -43,7 +48,7 @@ pub struct Coordinator {
 }
 
 impl Model for Coordinator {
-    ghost use Rattle.tk_coord.specs.Coordinator.{Seen, IsSized, AreGathered, IsNoted};
+    ghost use Rattle.tk_coord.specs.Coordinator.{Seen, IsSized, AreGathered, IsNoted, IsTied};
 
     ghost Value = { Seen };
 
@@ -59,17 +64,21 @@ impl Model for Coordinator {
       members = c.members;
       table = c.table;
       journal = c.journal.items;
-    } in IsSized seen × AreGathered seen c.links.items c.open c.gathered.items × IsNoted seen c.index.sent.items c.index.published.items };
+    } in IsSized seen × AreGathered seen c.links.items c.open c.gathered.items × IsNoted seen c.index.sent.items c.index.published.items × IsTied seen c.finished };
 }
 
 impl Coordinator {
-    ghost use Rattle.tk_coord.specs.Coordinator.{IsStep, IsChange, publications};
+    ghost use Rattle.tk_coord.specs.Coordinator.{IsStep, IsChange};
+    ghost use Rattle.tk_journal.specs.Publishing.{publications};
     ghost use Rattle.tk_journal.specs.declared.noted.Noted.TheVariants.{Got};
+    ghost use Rattle.tk_journal.specs.declared.refusal.CoordRefusal.TheVariants.{NoMemory as NoRoom};
 
     /// The members are objects 1 to k, all factors are 0, and each monitor is sent its first Assign.
     pub fn new(alloc: Global, settings: Settings) -> Result<Coordinator, NoMemory>
         ensures settings { IfOk result (λ c. c.settings ≡ settings) }
         ensures members { IfOk result (λ c. c.members ≡ objects settings.k) }
+        ensures journal { IfOk result (λ c. c.journal ≡ opened (start settings)) }
+        ensures legal { IfOk result (λ c. IsLegal (start settings) c.journal) }
     {
         let monitors = settings.monitors();
         let members = first_objects(alloc, settings.k())?;
@@ -100,6 +109,9 @@ impl Coordinator {
         requires some_monitor { 0 < mon.0 }
         requires monitor { mon.0 ≤ self.old.settings.monitors }
         ensures ok { OnOk result ((more : List Noted) × (self.new.journal ≡ self.old.journal ++ Got mon frame ∷ more)) }
+        ensures running { OnOk result (is_stopped self.old.journal ≡ false) }
+        ensures passed { OnOk result (IsPassed self.old mon.0 frame) }
+        ensures refused { IfErr result (λ e. (e.0 ≡ NoRoom) ⊎ IsRefused self.old mon.0 frame e.0) }
         ensures err { IfErr result (λ e. (e.1 ≡ frame) × (self.new ≡ self.old)) }
         ensures settings { self.new.settings ≡ self.old.settings }
     {
@@ -116,56 +128,39 @@ impl Coordinator {
         requires monitor { mon.0 ≤ self.old.settings.monitors }
         ensures same { self.new ≡ self.old }
         ensures step { IfOk result (IsStep self.old mon.0) }
+        ensures running { IfOk result (λ _. is_stopped self.old.journal ≡ false) }
+        ensures passed { IfOk result (λ _. IsPassed self.old mon.0 frame.now) }
+        ensures refused { IfErr result (λ e. (e ≡ NoRoom) ⊎ IsRefused self.old mon.0 frame.now e) }
     {
-        if self.finished {
-            return Err(CoordRefusal::AfterStop);
+        if let Some(refusal) = refusal_of(self.shown(mon), self.known(mon), frame) {
+            return Err(refusal);
         }
         match frame {
-            Frame::Report {
-                seq,
-                border,
-                failed,
-                values,
-            } => self.on_report(mon, *seq, *border, failed, values),
-            Frame::Values {
-                round,
-                seq,
-                border,
-                values,
-            } => self.on_values(mon, *round, *seq, *border, values),
+            Frame::Report { seq, .. } => self.on_report(mon, *seq),
+            Frame::Values { border, values, .. } => self.on_values(mon, *border, values),
             Frame::Settled { seq, last, places } => self.on_settled(mon, *seq, *last, places),
-            _ => Err(CoordRefusal::NotForCoordinator(frame.kind())),
+            _ => unreachable!(),
         }
     }
 
-    fn on_report(
-        &self,
-        mon: Mon,
-        seq: u64,
-        border: i128,
-        failed: &ObjSet,
-        values: &Pairs,
-    ) -> Result<Step, CoordRefusal>
+    fn on_report(&self, mon: Mon, seq: u64) -> Result<Step, CoordRefusal>
         requires some_monitor { 0 < mon.0 }
         requires monitor { mon.0 ≤ self.now.settings.monitors }
-        ensures { IfOk result (IsStep self.now mon.0) }
+        ensures step { IfOk result (IsStep self.now mon.0) }
+        ensures room { IfErr result (λ e. e ≡ NoRoom) }
     {
         let alloc = *self.journal.allocator();
-        if !self.is_fresh(mon, seq)? {
+        if self.is_stale(mon, seq) {
             return Ok(Step::quiet(alloc, Change::Nothing));
         }
-        let objects = self.settings.objects();
-        let members = &self.members;
-        match report_refusal(&self.table, mon, members, objects, failed, values, border) {
-            Some(refusal) => Err(refusal),
-            None if self.open => Ok(Step::quiet(alloc, Change::Reported)),
-            None => {
-                let monitors = self.settings.monitors();
-                let entries = collects(alloc, self.next_round(), objects, monitors)?;
-                let change = Change::Opened;
-                Ok(Step { entries, change })
-            }
+        if self.open {
+            return Ok(Step::quiet(alloc, Change::Reported));
         }
+        let objects = self.settings.objects();
+        let monitors = self.settings.monitors();
+        let entries = collects(alloc, self.next_round(), objects, monitors)?;
+        let change = Change::Opened;
+        Ok(Step { entries, change })
     }
 
     fn on_settled(
@@ -177,16 +172,14 @@ impl Coordinator {
     ) -> Result<Step, CoordRefusal>
         requires some_monitor { 0 < mon.0 }
         requires monitor { mon.0 ≤ self.now.settings.monitors }
-        ensures { IfOk result (IsStep self.now mon.0) }
+        ensures step { IfOk result (IsStep self.now mon.0) }
+        ensures room { IfErr result (λ e. e ≡ NoRoom) }
     {
         let alloc = *self.journal.allocator();
-        if !self.is_fresh(mon, seq)? {
+        if self.is_stale(mon, seq) {
             return Ok(Step::quiet(alloc, Change::Nothing));
         }
         let place = mon.0 as usize - 1;
-        if !is_cut(self.links[place].progress.as_ref(), places, last) {
-            return Err(CoordRefusal::BadCut);
-        }
         let progress = Progress::of(places, last)?;
         let links = self.links.as_slice();
         if self.open || !others_settled(links, place) {
@@ -194,34 +187,24 @@ impl Coordinator {
             return Ok(Step::quiet(alloc, Change::Settled { progress, last }));
         }
         let before = self.last_published();
-        let monitors = self.settings.monitors();
+        let settings = &self.settings;
         let members = &self.members;
         let (entries, last) = publishing(
-            alloc, links, monitors, place, &progress, members, before,
+            alloc, links, settings, place, &progress, members, before,
         )?;
         let change = Change::Settled { progress, last };
         Ok(Step { entries, change })
     }
 
-    fn on_values(
-        &mut self,
-        mon: Mon,
-        round: u64,
-        seq: u64,
-        border: i128,
-        values: &Pairs,
-    ) -> Result<Step, CoordRefusal>
+    fn on_values(&mut self, mon: Mon, border: i128, values: &Pairs) -> Result<Step, CoordRefusal>
         requires some_monitor { 0 < mon.0 }
         requires monitor { mon.0 ≤ self.old.settings.monitors }
+        requires objects { objects_of values.now ≡ objects self.old.settings.objects }
+        requires small { AreSmall values.now }
         ensures same { self.new ≡ self.old }
         ensures step { IfOk result (IsStep self.old mon.0) }
+        ensures room { IfErr result (λ e. e ≡ NoRoom) }
     {
-        self.is_awaited(mon, round, seq)?;
-        let objects = self.settings.objects();
-        let members = &self.members;
-        if let Some(refusal) = values_refusal(&self.table, mon, members, objects, values, border) {
-            return Err(refusal);
-        }
         let values = values.try_clone()?;
         let report = Reported {
             mon,
@@ -248,86 +231,72 @@ impl Coordinator {
         Ok(step?)
     }
 
-    /// Whether an answer speaks of the last Assign. It is refused where it is ahead, or where the
-    /// monitor's Report stands already.
-    fn is_fresh(&self, mon: Mon, seq: u64) -> Result<bool, CoordRefusal>
+    fn known(&self, mon: Mon) -> Known
         requires some_monitor { 0 < mon.0 }
         requires monitor { mon.0 ≤ self.now.settings.monitors }
+        ensures known { IsKnown (known_in result) }
+        ensures value { known_in result ≡ known_of self.now mon.0 }
     {
-        let link = &self.links[mon.0 as usize - 1];
-        let at = link.assigns;
-        if seq > at {
-            return Err(CoordRefusal::AheadOfSequence { at, got: seq });
+        Known {
+            mon,
+            objects: self.settings.objects(),
+            members: &self.members,
+            table: &self.table,
         }
-        if seq == at && link.answer == Some(Answer::Report) {
-            return Err(CoordRefusal::AfterReport { seq });
-        }
-        Ok(seq == at)
     }
 
-    /// Whether the open round waits for the monitor's Values, and for these.
-    fn is_awaited(&self, mon: Mon, round: u64, seq: u64) -> Result<(), CoordRefusal>
+    fn shown(&self, mon: Mon) -> Shown
+        requires some_monitor { 0 < mon.0 }
+        requires monitor { mon.0 ≤ self.now.settings.monitors }
+        ensures stopped { result.stopped ≡ is_stopped self.now.journal }
+    {
+        let link = &self.links[mon.0 as usize - 1];
+        Shown {
+            at: link.assigns,
+            reported: link.answer == Some(Answer::Report),
+            progress: &link.progress,
+            waits: if self.open && link.waits {
+                Some(self.rounds)
+            } else {
+                None
+            },
+            stopped: self.finished,
+        }
+    }
+
+    /// Whether an answer of the monitor is from before the last Assign to it.
+    fn is_stale(&self, mon: Mon, seq: u64) -> bool
         requires some_monitor { 0 < mon.0 }
         requires monitor { mon.0 ≤ self.now.settings.monitors }
     {
-        let link = &self.links[mon.0 as usize - 1];
-        let at = link.assigns;
-        if seq > at {
-            return Err(CoordRefusal::AheadOfSequence { at, got: seq });
-        }
-        if !self.open || round != self.rounds || !link.waits {
-            return Err(CoordRefusal::NotAsked { round });
-        }
-        if seq < at {
-            return Err(CoordRefusal::BehindSequence { at, got: seq });
-        }
-        Ok(())
+        seq < self.links[mon.0 as usize - 1].assigns
     }
 
     /// Appends a frame and what it brings about; all room is taken first.
     fn note(&mut self, mon: Mon, frame: Frame, step: Step) -> Result<(), (CoordRefusal, Frame)>
         requires some_monitor { 0 < mon.0 }
         requires monitor { mon.0 ≤ self.old.settings.monitors }
+        requires running { is_stopped self.old.journal ≡ false }
         requires step { IsStep self.old mon.0 step }
         ensures ok { OnOk result (self.new.journal ≡ self.old.journal ++ Got mon frame ∷ step.entries.items) }
-        ensures err { IfErr result (λ e. (e.1 ≡ frame) × (self.new ≡ self.old)) }
+        ensures err { IfErr result (λ e. (e.0 ≡ NoRoom) × (e.1 ≡ frame) × (self.new ≡ self.old)) }
         ensures settings { self.new.settings ≡ self.old.settings }
     {
-        let alloc = *self.journal.allocator();
-        let kept = match KeptFrame::new(alloc, frame) {
-            Ok(kept) => kept,
-            Err(frame) => return Err((CoordRefusal::NoMemory, frame)),
-        };
         let Step { entries, change } = step;
-        let more = entries.len() + 1;
-        if reserve(&mut self.journal, &mut self.index, more).is_err() {
-            return Err((CoordRefusal::NoMemory, kept.into_frame()));
+        let journal = &mut self.journal;
+        if let Err(frame) = note_turn(journal, &mut self.index, mon, frame, entries) {
+            return Err((CoordRefusal::NoMemory, frame));
         }
-        let from = self.journal.len();
-        append(&mut self.journal, Noted::Got(mon, kept), entries);
-        let sent = self.index.sent.as_mut_slice();
-        note_from(
-            sent,
-            &mut self.index.published,
-            self.journal.as_slice(),
-            from,
-        );
-        self.turn(mon, change);
-        Ok(())
-    }
-
-    fn turn(&mut self, mon: Mon, change: Change)
-        requires some_monitor { 0 < mon.0 }
-        requires monitor { mon.0 ≤ self.old.settings.monitors }
-        requires change { IsChange self.old mon.0 change }
-        ensures journal { self.new.journal ≡ self.old.journal }
-        ensures settings { self.new.settings ≡ self.old.settings }
-    {
         let place = mon.0 as usize - 1;
         match change {
             Change::Nothing => {}
             Change::Reported => self.links[place].answer = Some(Answer::Report),
-            Change::Opened => self.open_round(place),
+            Change::Opened => {
+                self.links[place].answer = Some(Answer::Report);
+                self.rounds = self.rounds.saturating_add(1);
+                self.open = true;
+                ask_each(self.links.as_mut_slice());
+            }
             Change::Settled { progress, last } => {
                 let link = &mut self.links[place];
                 link.answer = Some(Answer::Settled);
@@ -345,17 +314,7 @@ impl Coordinator {
                 assign_each(self.links.as_mut_slice());
             }
         }
-    }
-
-    fn open_round(&mut self, place: usize)
-        requires { place < self.old.settings.monitors }
-        ensures { self.new ≡ self.old }
-    {
-        let round = self.next_round();
-        self.links[place].answer = Some(Answer::Report);
-        self.rounds = round;
-        self.open = true;
-        ask_each(self.links.as_mut_slice());
+        Ok(())
     }
 
     fn next_round(&self) -> u64 {
@@ -376,7 +335,8 @@ impl Coordinator {
     }
 
     pub fn members(&self) -> &ObjSet
-        ensures { result.now ≡ self.now.members }
+        ensures value { result.now ≡ self.now.members }
+        ensures named { result.now ≡ members_at self.now.journal }
     {
         &self.members
     }
@@ -386,8 +346,10 @@ impl Coordinator {
         !self.open
     }
 
-    /// Whether the final set was published.
-    pub fn finished(&self) -> bool {
+    /// Whether the final set was published, and Stop was sent.
+    pub fn finished(&self) -> bool
+        ensures { result ≡ is_stopped self.now.journal }
+    {
         self.finished
     }
 

@@ -1,7 +1,12 @@
-ghost use Rattle.std.specs.Prelude.{◌≡◌, ℕ, ◌<◌, ◌≤◌, [], length, IfOk, OnOk, vec_len};
+ghost use Rattle.std.specs.Prelude.{◌≡◌, ℕ, ◌<◌, ◌≤◌, [], ◌++◌, false, length, filter_map, Some, IfOk, OnOk, vec_len};
 ghost use Rattle.std.specs.List.{All};
 ghost use Rattle.tk_base.specs.Objects.{objects};
 ghost use Rattle.tk_journal.specs.Entries.{IsEntryOf};
+ghost use Rattle.tk_frames.specs.declared.frame.Frame.TheVariants.{Assign, Collect, Stop};
+ghost use Rattle.tk_journal.specs.declared.noted.Noted.TheVariants.{Sent};
+ghost use Rattle.tk_journal.specs.Readings.{is_stopped, members_in};
+ghost use Rattle.tk_journal.specs.Walks.{last_of};
+ghost use Rattle.tk_coord.specs.Batches.{to_each};
 ghost use Rattle.tk_coord.specs.Checks.{AreNamed};
 
 use crate::link::Link;
@@ -12,6 +17,7 @@ use tk_journal::Noted;
 use tk_rows::Reallocation;
 
 fn sent(alloc: Global, mon: u32, frame: Frame) -> Result<Noted, NoMemory>
+    ensures value { IfOk result (λ n. n ≡ Sent (record { 0 = mon }) frame) }
     ensures monitor { (monitors n : ℕ) → 0 < mon → mon ≤ monitors → IfOk result (IsEntryOf monitors n) }
 {
     match KeptFrame::new(alloc, frame) {
@@ -46,14 +52,17 @@ pub fn no_pairs(alloc: Global) -> Pairs
 
 /// The first Assign to each monitor: the members, and no changes.
 pub fn first_assigns(alloc: Global, members: &ObjSet, monitors: u32) -> Result<Vec<Noted>, NoMemory>
-    ensures { (n : ℕ) → IfOk result (λ v. All (IsEntryOf monitors n) v.items) }
+    ensures value { IfOk result (λ v. v.items ≡ to_each (Assign 1 members.now []) monitors) }
+    ensures entries { (n : ℕ) → IfOk result (λ v. All (IsEntryOf monitors n) v.items) }
 {
     let mut entries = Vec::with_capacity(alloc, monitors as usize)?;
     for j in 0..monitors {
+        let named = members.try_clone()?;
+        let changes = no_pairs(alloc);
         let frame = Frame::Assign {
             seq: 1,
-            members: members.try_clone()?,
-            changes: no_pairs(alloc),
+            members: named,
+            changes,
         };
         entries.push(sent(alloc, j + 1, frame)?)?;
     }
@@ -64,14 +73,15 @@ pub fn first_assigns(alloc: Global, members: &ObjSet, monitors: u32) -> Result<V
 pub fn collects(
     alloc: Global,
     round: u64,
-    objects: u32,
+    catalogue: u32,
     monitors: u32,
 ) -> Result<Vec<Noted>, NoMemory>
-    ensures { (n : ℕ) → IfOk result (λ v. All (IsEntryOf monitors n) v.items) }
+    ensures value { IfOk result (λ v. v.items ≡ to_each (Collect round (objects catalogue)) monitors) }
+    ensures entries { (n : ℕ) → IfOk result (λ v. All (IsEntryOf monitors n) v.items) }
 {
     let mut entries = Vec::with_capacity(alloc, monitors as usize)?;
     for j in 0..monitors {
-        let objects = first_objects(alloc, objects)?;
+        let objects = first_objects(alloc, catalogue)?;
         entries.push(sent(alloc, j + 1, Frame::Collect { round, objects })?)?;
     }
     Ok(entries)
@@ -84,14 +94,17 @@ pub fn assigns(
     reallocation: &Reallocation,
 ) -> Result<Vec<Noted>, NoMemory>
     requires some { AreNamed (length links.now) reallocation.now.at.items }
-    ensures { (n : ℕ) → IfOk result (λ v. All (IsEntryOf (length links.now) n) v.items) }
+    ensures named { IfOk result (λ v. 0 < length reallocation.now.at.items → last_of (filter_map members_in v.items) ≡ Some reallocation.now.members) }
+    ensures running { IfOk result (λ v. is_stopped v.items ≡ false) }
+    ensures entries { (n : ℕ) → IfOk result (λ v. All (IsEntryOf (length links.now) n) v.items) }
 {
     let mut entries = Vec::with_capacity(alloc, reallocation.at.len())?;
     for change in &reallocation.at {
         let link = &links[change.mon.0 as usize - 1];
+        let members = reallocation.members.try_clone()?;
         let frame = Frame::Assign {
             seq: link.assigns.saturating_add(1),
-            members: reallocation.members.try_clone()?,
+            members,
             changes: change.changes.try_clone()?,
         };
         entries.push(sent(alloc, change.mon.0, frame)?)?;
@@ -101,7 +114,8 @@ pub fn assigns(
 
 /// A Stop to each monitor.
 pub fn push_stops(alloc: Global, entries: &mut Vec<Noted>, monitors: u32) -> Result<(), NoMemory>
-    ensures { (n : ℕ) → All (IsEntryOf monitors n) entries.old.items → OnOk result (All (IsEntryOf monitors n) entries.new.items) }
+    ensures value { OnOk result (entries.new.items ≡ entries.old.items ++ to_each Stop monitors) }
+    ensures entries { (n : ℕ) → All (IsEntryOf monitors n) entries.old.items → OnOk result (All (IsEntryOf monitors n) entries.new.items) }
 {
     for j in 0..monitors {
         entries.push(sent(alloc, j + 1, Frame::Stop)?)?;

@@ -39,6 +39,7 @@ pub fn ended(
 ) -> Result<Step, NoMemory>
     requires objects { length table.now.rows ≡ settings.now.objects }
     requires monitors { table.now.monitors ≡ settings.now.monitors }
+    requires some_monitor { 0 < settings.now.monitors }
     requires links { length links.now ≡ settings.now.monitors }
     requires some { 0 < length members.now }
     requires most { length members.now ≤ 1024 }

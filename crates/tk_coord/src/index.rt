@@ -1,10 +1,14 @@
-ghost use Rattle.std.specs.Prelude.{◌≡◌, ℕ, ◌+◌, ◌-◌, ◌<◌, ◌≤◌, List, ◌∷◌, [], ◌++◌, length, take, IfOk, OnOk, vec_len, vec_capacity};
+ghost use Rattle.std.specs.Prelude.{◌≡◌, ℕ, ◌+◌, ◌-◌, ◌<◌, ◌≤◌, List, ◌∷◌, [], ◌++◌, length, take, IfOk, IfErr, OnOk, vec_len, vec_capacity};
 ghost use Rattle.tk_journal.specs.declared.noted.Noted.{Noted};
-ghost use Rattle.tk_coord.specs.Index.{AreIndexed, IsIndex, HasRoom, published_in, IsForOneOf};
+ghost use Rattle.tk_coord.specs.Index.{AreIndexed, IsIndex, HasRoom, IsForOneOf};
+ghost use Rattle.tk_journal.specs.Publishing.{published_in};
+ghost use Rattle.tk_journal.specs.declared.noted.Noted.TheVariants.{Got};
 ghost use Rattle.std.specs.List.{All};
 
+use crate::step::append;
 use std::alloc::{AllocError, Global};
-use tk_base::NoMemory;
+use tk_base::{Mon, NoMemory};
+use tk_frames::{Frame, KeptFrame};
 use tk_journal::Noted;
 
 /// Where in a journal the frames to each monitor and the publications stand.
@@ -74,6 +78,7 @@ fn note_entry(sent: &mut [Vec<usize>], published: &mut Vec<usize>, entry: &Noted
 {
     match entry {
         Noted::Got(_, _) => {}
+        Noted::Tuned(_, _) => {}
         Noted::Sent(mon, _) => sent[mon.0 as usize - 1].push_reserved(place),
         Noted::Published(_) => published.push_reserved(place),
     }
@@ -98,4 +103,36 @@ pub fn note_from(
     for place in from..journal.len() {
         note_entry(sent, published, &journal[place], place);
     }
+}
+
+/// Appends a taken frame and the entries that follow it, and notes their places. All room is taken first,
+/// and the frame is handed back where there is none.
+pub fn note_turn(
+    journal: &mut Vec<Noted>,
+    index: &mut Index,
+    mon: Mon,
+    frame: Frame,
+    entries: Vec<Noted>,
+) -> Result<(), Frame>
+    requires monitor { IsForOneOf (vec_len index.old.sent) (Got mon frame) }
+    requires journal { All (IsForOneOf (vec_len index.old.sent)) journal.old.items }
+    requires entries { All (IsForOneOf (vec_len index.old.sent)) entries.items }
+    requires sent { AreIndexed journal.old.items index.old.sent.items }
+    requires published { IsIndex published_in journal.old.items index.old.published.items }
+    ensures ok { OnOk result (journal.new.items ≡ journal.old.items ++ Got mon frame ∷ entries.items) }
+    ensures err { IfErr result (λ f. (f ≡ frame) × (journal.new.items ≡ journal.old.items)) }
+    ensures monitors { vec_len index.new.sent ≡ vec_len index.old.sent }
+    ensures sent { AreIndexed journal.new.items index.new.sent.items }
+    ensures published { IsIndex published_in journal.new.items index.new.published.items }
+{
+    let kept = KeptFrame::new(*journal.allocator(), frame)?;
+    let more = entries.len() + 1;
+    if reserve(journal, index, more).is_err() {
+        return Err(kept.into_frame());
+    }
+    let from = journal.len();
+    append(journal, Noted::Got(mon, kept), entries);
+    let sent = index.sent.as_mut_slice();
+    note_from(sent, &mut index.published, journal.as_slice(), from);
+    Ok(())
 }

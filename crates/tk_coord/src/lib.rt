@@ -13,8 +13,8 @@ mod gathering;
 mod index;
 mod link;
 mod publishing;
-mod refusal;
+mod refusals;
 mod step;
 
 pub use coordinator::Coordinator;
-pub use refusal::CoordRefusal;
+pub use tk_journal::CoordRefusal;

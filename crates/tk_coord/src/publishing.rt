@@ -1,4 +1,5 @@
-ghost use Rattle.std.specs.Prelude.{◌≡◌, ℕ, IfOk, IfSome};
+ghost use Rattle.std.specs.Prelude.{◌≡◌, ℕ, [], filter_map, IfOk, IfSome};
+ghost use Rattle.tk_journal.specs.Readings.{is_stopped, members_in};
 ghost use Rattle.std.specs.List.{All};
 ghost use Rattle.tk_journal.specs.Entries.{IsEntryOf};
 ghost use Rattle.tk_coord.specs.Checks.{AreWithin};
@@ -7,7 +8,7 @@ use crate::answer::{Answer, Progress};
 use crate::entries::push_stops;
 use crate::link::Link;
 use std::alloc::Global;
-use tk_base::{Cut, NoMemory, ObjSet};
+use tk_base::{Cut, NoMemory, ObjSet, Settings};
 use tk_journal::{KeptPublication, Noted, Publication};
 
 /// How far a monitor is, where its current answer is Settled.
@@ -58,6 +59,7 @@ fn publication(
     links: &[Link],
     place: usize,
     here: &Progress,
+    settings: &Settings,
     members: &ObjSet,
     before: Option<&Publication>,
 ) -> Result<Option<Publication>, NoMemory>
@@ -72,6 +74,8 @@ fn publication(
     Ok(Some(Publication {
         number,
         last,
+        k: settings.k(),
+        epsilon: settings.epsilon(),
         members: members.try_clone()?,
         cut: cut_of(alloc, links, place, here)?,
     }))
@@ -81,16 +85,19 @@ fn publication(
 pub fn publishing(
     alloc: Global,
     links: &[Link],
-    monitors: u32,
+    settings: &Settings,
     place: usize,
     here: &Progress,
     members: &ObjSet,
     before: Option<&Publication>,
 ) -> Result<(Vec<Noted>, bool), NoMemory>
-    ensures { (n : ℕ) → AreWithin n members.now → IfOk result (λ r. All (IsEntryOf monitors n) r.0.items) }
+    ensures named { IfOk result (λ r. filter_map members_in r.0.items ≡ []) }
+    ensures ends { IfOk result (λ r. is_stopped r.0.items ≡ r.1) }
+    ensures entries { (n : ℕ) → AreWithin n members.now → IfOk result (λ r. All (IsEntryOf settings.now.monitors n) r.0.items) }
 {
     let mut entries = Vec::new(alloc);
-    let Some(publication) = publication(alloc, links, place, here, members, before)? else {
+    let Some(publication) = publication(alloc, links, place, here, settings, members, before)?
+    else {
         return Ok((entries, false));
     };
     let last = publication.last;
@@ -99,7 +106,7 @@ pub fn publishing(
     };
     entries.push(Noted::Published(kept))?;
     if last {
-        push_stops(alloc, &mut entries, monitors)?;
+        push_stops(alloc, &mut entries, settings.monitors())?;
     }
     Ok((entries, last))
 }

@@ -1,4 +1,5 @@
-ghost use Rattle.std.specs.Prelude.{◌≡◌, ◌+◌, ◌≤◌, [], ◌∷◌, ◌++◌, vec_len, vec_capacity};
+ghost use Rattle.tk_journal.specs.Readings.{is_stopped};
+ghost use Rattle.std.specs.Prelude.{◌≡◌, false, ◌+◌, ◌≤◌, [], ◌∷◌, ◌++◌, vec_len, vec_capacity};
 
 use crate::answer::Progress;
 use std::alloc::Global;
@@ -35,6 +36,7 @@ impl Step {
     pub fn quiet(alloc: Global, change: Change) -> Step
         ensures entries { result.entries.items ≡ [] }
         ensures change { result.change ≡ change }
+        ensures ends { is_stopped result.entries.items ≡ false }
     {
         Step {
             entries: Vec::new(alloc),

@@ -1,4 +1,10 @@
+pub mod Answer
+pub mod Assigns
+pub mod Encoding
 pub mod Frame
+pub mod Spelling
+pub mod Reading
+pub mod Size
 pub use Rattle.tk_base.specs.Ascending
 pub use Rattle.tk_base.specs.Pairs
 pub use Rattle.tk_base.specs.Settings

@@ -49,6 +49,7 @@ pub enum Frame {
 
 impl Frame {
     ghost use Rattle.tk_frames.specs.Frame.{kind_of};
+    ghost use Rattle.tk_frames.specs.Size.{size_of};
 
     pub fn kind(&self) -> Kind
         ensures { result ≡ kind_of self.now }
@@ -61,6 +62,27 @@ impl Frame {
             Frame::Assign { .. } => Kind::Assign,
             Frame::Settled { .. } => Kind::Settled,
             Frame::Stop => Kind::Stop,
+        }
+    }
+
+    /// How many bytes the frame takes in version 1, the four bytes of its length included.
+    pub fn size(&self) -> u128
+        ensures { result ≡ size_of self.now }
+    {
+        match self {
+            Frame::Hello { .. } => 18,
+            Frame::Report { failed, values, .. } => {
+                37 + 4 * failed.len() as u128 + 20 * values.len() as u128
+            }
+            Frame::Collect { objects, .. } => 17 + 4 * objects.len() as u128,
+            Frame::Values { values, .. } => 41 + 20 * values.len() as u128,
+            Frame::Assign {
+                members,
+                changes,
+                ..
+            } => 21 + 4 * members.len() as u128 + 20 * changes.len() as u128,
+            Frame::Settled { places, .. } => 18 + 4 * places.len() as u128,
+            Frame::Stop => 5,
         }
     }
 

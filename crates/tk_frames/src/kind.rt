@@ -1,3 +1,6 @@
+ghost use Rattle.std.specs.Prelude.{◌≡◌};
+ghost use Rattle.tk_frames.specs.Spelling.{code_of};
+
 use std::fmt;
 
 /// What a frame is for.
@@ -10,6 +13,23 @@ pub enum Kind {
     Assign,
     Settled,
     Stop,
+}
+
+impl Kind {
+    /// The byte with which a payload of this kind begins.
+    pub fn code(self) -> u8
+        ensures { result ≡ code_of self }
+    {
+        match self {
+            Kind::Hello => 1,
+            Kind::Report => 2,
+            Kind::Collect => 3,
+            Kind::Values => 4,
+            Kind::Assign => 5,
+            Kind::Settled => 6,
+            Kind::Stop => 7,
+        }
+    }
 }
 
 impl fmt::Display for Kind {

@@ -5,3 +5,12 @@ pub mod SignedLemmas
 pub mod RowsLemmas
 pub mod GreatLemmas
 pub mod LimitsLemmas
+pub mod ReadingLemmas
+pub mod ThroughLemmas
+pub mod NamesLemmas
+pub mod DigitsLemmas
+pub mod LinesLemmas
+pub mod LogLemmas
+pub mod OrderLemmas
+pub mod FormatExamples
+pub mod TestLemmas

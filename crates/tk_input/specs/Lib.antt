@@ -1,9 +1,14 @@
 pub mod Catalog
 pub mod Files
 pub mod Judged
+pub mod Log
 pub mod Logs
 pub mod MapFiles
+pub mod Number
+pub mod Order
 pub mod Part
+pub mod Reading
+pub mod Records
 pub mod Rows
 pub mod Sink
 pub mod Tallies

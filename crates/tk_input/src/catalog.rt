@@ -1,17 +1,20 @@
-ghost use Rattle.std.specs.Prelude.{◌≡◌, ◌-◌, ◌+◌, IfOk, length, option_map, position, bytes_eq, slice_get, Some};
+ghost use Rattle.std.specs.Prelude.{◌≡◌, ◌≤◌, ◌-◌, IfOk, IfErr, OnOk, Ok, nat_le, ◌&&◌, length, option_map, slice_get, Some};
+ghost use Rattle.std.specs.List.{list_all};
+ghost use Rattle.csv.specs.Records.{fields_of};
+ghost use Rattle.tk_input.specs.Catalog.{IsFault, IsWithin, is_name as is_name_of, name_added, names_of, object_of, only_field as only_field_of};
 ghost use Rattle.tk_input.specs.Logs.{IsObject};
-ghost use Rattle.tk_input.specs.Catalog.{IsWithin};
+ghost use Rattle.tk_input.specs.declared.catalog.CatalogFault.TheVariants.{NoMemory as OutOfMemory};
 
-use crate::rows::{next_row, rows_of};
+use crate::records::Records;
 use csv::ByteRecord;
 use indexmap::IndexSet;
-use std::alloc::Global;
+use std::alloc::{AllocError, AllocFailed, Global};
 use std::error::Error;
 use std::fmt;
 use std::marker::Model;
 use tk_base::{NoMemory, Obj};
 
-const MAX_OBJECTS: u32 = 65_536;
+const MAX_OBJECTS: usize = 65_536;
 
 const MAX_NAME: usize = 255;
 
@@ -41,6 +44,30 @@ impl fmt::Display for CatalogFault {
 
 impl Error for CatalogFault {}
 
+impl From<AllocError> for CatalogFault {
+    ghost from_gives = { λ _ e. e ≡ OutOfMemory };
+
+    fn from(_error: AllocError) -> CatalogFault {
+        CatalogFault::NoMemory
+    }
+}
+
+impl<T: Drop> From<AllocFailed<T>> for CatalogFault {
+    ghost from_gives = { λ _ e. e ≡ OutOfMemory };
+
+    fn from(_error: AllocFailed<T>) -> CatalogFault {
+        CatalogFault::NoMemory
+    }
+}
+
+impl From<NoMemory> for CatalogFault {
+    ghost from_gives = { λ _ e. e ≡ OutOfMemory };
+
+    fn from(_error: NoMemory) -> CatalogFault {
+        CatalogFault::NoMemory
+    }
+}
+
 /// The names of the objects, by their places from 1.
 #[derive(Debug, Drop)]
 pub struct Catalog {
@@ -58,54 +85,72 @@ impl Model for Catalog {
     ghost invariant = { λ c. IsWithin (names_of c.names.keys) };
 }
 
-fn is_name(name: &[u8]) -> bool {
-    !name.is_empty() && name.len() <= MAX_NAME && name.iter().all(|b| 0x21 <= *b && *b <= 0x7e)
+fn is_visible(name: &[u8]) -> bool
+    ensures { result ≡ list_all (λ b. nat_le 0x21 b && nat_le b 0x7e) name.now }
+{
+    name.iter().all(|b| 0x21 <= *b && *b <= 0x7e)
+}
+
+fn is_name(name: &[u8]) -> bool
+    ensures { result ≡ is_name_of name.now }
+{
+    !name.is_empty() && name.len() <= MAX_NAME && is_visible(name)
+}
+
+fn only_field(row: &ByteRecord) -> Option<&[u8]>
+    ensures { option_map (λ s. s.now) result ≡ only_field_of (fields_of row.now) }
+{
+    if row.len() == 1 { row.get(0) } else { None }
+}
+
+fn take_name(
+    alloc: Global,
+    names: &mut IndexSet<Vec<u8>>,
+    row: &ByteRecord,
+) -> Result<(), CatalogFault>
+    ensures ok { OnOk result (name_added (names_of names.old.keys) (fields_of row.now) ≡ Ok (names_of names.new.keys)) }
+    ensures err { IfErr result (λ e. IsFault e (name_added (names_of names.old.keys) (fields_of row.now))) }
+    ensures few { OnOk result (length names.new.keys ≤ 65536) }
+{
+    if names.len() >= MAX_OBJECTS {
+        return Err(CatalogFault::TooMany);
+    }
+    let number = names.len() as u32 + 1;
+    let Some(name) = only_field(row) else {
+        return Err(CatalogFault::BadRow(number));
+    };
+    if !is_name(name) {
+        return Err(CatalogFault::BadName(number));
+    }
+    if names.contains(name) {
+        return Err(CatalogFault::Repeated(number));
+    }
+    names.insert(Vec::from_slice(alloc, name)?)?;
+    Ok(())
 }
 
 impl Catalog {
+    ghost use Rattle.tk_input.specs.Catalog.{catalog_of};
+
     /// Reads one name a record, in one pass over the bytes.
     pub fn read(alloc: Global, bytes: &[u8]) -> Result<Catalog, CatalogFault>
+        ensures ok { IfOk result (λ names. catalog_of bytes.now ≡ Ok names) }
+        ensures err { IfErr result (λ e. IsFault e (catalog_of bytes.now)) }
         ensures within { IfOk result IsWithin }
     {
-        let mut rows = rows_of(alloc, bytes);
+        let mut rows = Records::new(alloc, bytes);
         let mut row = ByteRecord::new(alloc);
         let mut names = IndexSet::new(alloc);
-        for number in 1..MAX_OBJECTS + 2 {
-            match next_row(&mut rows, &mut row) {
-                Ok(true) => {}
-                Ok(false) => {
-                    if names.is_empty() {
-                        return Err(CatalogFault::Empty);
-                    }
-                    return Ok(Catalog { names });
-                }
-                Err(NoMemory) => return Err(CatalogFault::NoMemory),
-            }
-            if number > MAX_OBJECTS {
-                return Err(CatalogFault::TooMany);
-            }
-            if row.len() != 1 {
-                return Err(CatalogFault::BadRow(number));
-            }
-            let Some(name) = row.get(0) else {
-                return Err(CatalogFault::BadRow(number));
-            };
-            if !is_name(name) {
-                return Err(CatalogFault::BadName(number));
-            }
-            if names.contains(name) {
-                return Err(CatalogFault::Repeated(number));
-            }
-            let Ok(copy) = Vec::from_slice(alloc, name) else {
-                return Err(CatalogFault::NoMemory);
-            };
-            if names.insert(copy).is_err() {
-                return Err(CatalogFault::NoMemory);
-            }
+        while rows.next(&mut row)? {
+            take_name(alloc, &mut names, &row)?;
         }
-        Err(CatalogFault::TooMany)
+        if names.is_empty() {
+            return Err(CatalogFault::Empty);
+        }
+        Ok(Catalog { names })
     }
 
+    /// How many names there are.
     pub fn len(&self) -> usize
         ensures value { result ≡ length self.now }
         ensures within { IsWithin self.now }
@@ -113,6 +158,7 @@ impl Catalog {
         self.names.len()
     }
 
+    /// The name of an object, in constant time.
     pub fn name(&self, o: Obj) -> &[u8]
         requires { IsObject (length self.now) o.0 }
         ensures { slice_get self.now (o.0 - 1) ≡ Some result.now }
@@ -122,7 +168,7 @@ impl Catalog {
 
     /// The object of this name, in constant time.
     pub fn find(&self, name: &[u8]) -> Option<Obj>
-        ensures { option_map (λ o. o.0) result ≡ option_map (λ i. i + 1) (position (λ n. bytes_eq name.now n) self.now) }
+        ensures { option_map (λ o. o.0) result ≡ object_of self.now name.now }
     {
         let place = self.names.get_index_of(name)?;
         Some(Obj(place as u32 + 1))

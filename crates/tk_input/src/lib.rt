@@ -14,7 +14,7 @@ mod map_files;
 mod number;
 mod order;
 mod part;
-mod rows;
+mod records;
 mod sink;
 mod std_sink;
 mod tallies;

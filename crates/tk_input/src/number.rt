@@ -1,11 +1,15 @@
 //! The numbers of the input files.
 
-ghost use Rattle.std.specs.Prelude.{◌<◌, ◌^◌, IfSome};
+ghost use Rattle.std.specs.Prelude.{◌≡◌, ◌<◌, ◌^◌, length, IfSome};
+ghost use Rattle.tk_input.specs.Number.{digits_in, whole_number};
 
 const MAX_DIGITS: usize = 38;
 
-fn digits_of(text: &[u8]) -> Option<u128>
-    ensures { IfSome result (λ n. n < 2 ^ 127) }
+/// The number that 1 to 38 decimal digits write.
+pub fn digits_of(text: &[u8]) -> Option<u128>
+    ensures value { result ≡ digits_in text.now }
+    ensures small { IfSome result (λ n. n < 10 ^ length text.now) }
+    ensures fits { IfSome result (λ n. n < 2 ^ 127) }
 {
     if text.is_empty() || text.len() > MAX_DIGITS {
         return None;
@@ -20,8 +24,10 @@ fn digits_of(text: &[u8]) -> Option<u128>
     Some(number)
 }
 
-/// The whole number that a text spells: a sign or none, and 1 to 38 decimal digits.
-pub fn change_of(text: &[u8]) -> Option<i128> {
+/// The whole number that a text writes: a sign or none, and 1 to 38 decimal digits.
+pub fn whole_number_of(text: &[u8]) -> Option<i128>
+    ensures { result ≡ whole_number text.now }
+{
     match text {
         [b'-', digits @ ..] => Some(-(digits_of(digits)? as i128)),
         [b'+', digits @ ..] => Some(digits_of(digits)? as i128),

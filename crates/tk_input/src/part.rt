@@ -1,19 +1,22 @@
-ghost use Rattle.std.specs.Prelude.{◌≡◌, ◌<◌, ◌≤◌, IfOk, All, length, map, slice_get, Some};
+ghost use Rattle.std.specs.Prelude.{◌≡◌, ◌<◌, ◌≤◌, IfOk, IfErr, OnOk, Ok, All, length, option_map, slice_get, Some};
+ghost use Rattle.csv.specs.Records.{fields_of};
+ghost use Rattle.tk_input.specs.Log.{IsFault, both_fields as both_fields_of, next_change as next_change_of};
 ghost use Rattle.tk_input.specs.Logs.{IsObject};
+ghost use Rattle.tk_input.specs.declared.part.PartFault.TheVariants.{NoMemory as OutOfMemory};
 
 use crate::catalog::Catalog;
 use crate::change::Change;
-use crate::number::change_of;
-use crate::rows::{next_row, rows_of};
+use crate::number::whole_number_of;
+use crate::records::Records;
 use csv::ByteRecord;
-use std::alloc::Global;
+use std::alloc::{AllocError, AllocFailed, Global};
 use std::error::Error;
 use std::fmt;
 use std::marker::Model;
 use std::sync::Arc;
 use tk_base::NoMemory;
 
-const MAX_CHANGES: u32 = 1_000_000;
+const MAX_CHANGES: usize = 1_000_000;
 
 /// Why a file is no log. A number is that of the record, from 1.
 #[derive(Clone, Copy, Debug, PartialEq, Eq)]
@@ -39,6 +42,30 @@ impl fmt::Display for PartFault {
 
 impl Error for PartFault {}
 
+impl From<AllocError> for PartFault {
+    ghost from_gives = { λ _ e. e ≡ OutOfMemory };
+
+    fn from(_error: AllocError) -> PartFault {
+        PartFault::NoMemory
+    }
+}
+
+impl<T: Drop> From<AllocFailed<T>> for PartFault {
+    ghost from_gives = { λ _ e. e ≡ OutOfMemory };
+
+    fn from(_error: AllocFailed<T>) -> PartFault {
+        PartFault::NoMemory
+    }
+}
+
+impl From<NoMemory> for PartFault {
+    ghost from_gives = { λ _ e. e ≡ OutOfMemory };
+
+    fn from(_error: NoMemory) -> PartFault {
+        PartFault::NoMemory
+    }
+}
+
 /// A list of changes of its own, or one that several parts hold.
 #[derive(Drop)]
 enum Held {
@@ -62,19 +89,32 @@ impl Model for Part {
     ghost view = { λ p. changes_of (held_by p.held) };
 }
 
-fn change_of_row(names: &Catalog, row: &ByteRecord, number: u32) -> Result<Change, PartFault>
-    ensures { IfOk result (λ c. IsObject (length names.now) c.obj.0) }
+fn both_fields(row: &ByteRecord) -> Option<(&[u8], &[u8])>
+    ensures { option_map (λ p. (p.0.now, p.1.now)) result ≡ both_fields_of (fields_of row.now) }
 {
     if row.len() != 2 {
-        return Err(PartFault::BadRow(number));
+        return None;
     }
-    let (Some(name), Some(text)) = (row.get(0), row.get(1)) else {
+    Some((row.get(0)?, row.get(1)?))
+}
+
+fn next_change(names: &Catalog, row: &ByteRecord, before: usize) -> Result<Change, PartFault>
+    ensures ok { IfOk result (λ c. next_change_of names.now before (fields_of row.now) ≡ Ok (c.obj.0, c.by)) }
+    ensures err { IfErr result (λ e. IsFault e (next_change_of names.now before (fields_of row.now))) }
+    ensures object { IfOk result (λ c. IsObject (length names.now) c.obj.0) }
+    ensures few { OnOk result (before < 1000000) }
+{
+    if before >= MAX_CHANGES {
+        return Err(PartFault::TooMany);
+    }
+    let number = before as u32 + 1;
+    let Some((name, text)) = both_fields(row) else {
         return Err(PartFault::BadRow(number));
     };
     let Some(obj) = names.find(name) else {
         return Err(PartFault::UnknownName(number));
     };
-    match change_of(text) {
+    match whole_number_of(text) {
         Some(by) => Ok(Change { obj, by }),
         None => Err(PartFault::BadNumber(number)),
     }
@@ -82,30 +122,25 @@ fn change_of_row(names: &Catalog, row: &ByteRecord, number: u32) -> Result<Chang
 
 impl Part {
     ghost use Rattle.tk_input.specs.Part.{changes_of};
+    ghost use Rattle.tk_input.specs.Log.{log_of};
 
     /// Reads one change a record, in one pass over the bytes.
     pub fn read(alloc: Global, bytes: &[u8], names: &Catalog) -> Result<Part, PartFault>
+        ensures ok { IfOk result (λ part. log_of names.now bytes.now ≡ Ok part) }
+        ensures err { IfErr result (λ e. IsFault e (log_of names.now bytes.now)) }
+        // What a log that was read is within.
         ensures objects { IfOk result (λ p. All (λ c. IsObject (length names.now) c.0) p) }
         ensures most { IfOk result (λ p. length p ≤ 1000000) }
     {
-        let mut rows = rows_of(alloc, bytes);
+        let mut rows = Records::new(alloc, bytes);
         let mut row = ByteRecord::new(alloc);
         let mut list = Vec::new(alloc);
-        for number in 1..MAX_CHANGES + 2 {
-            match next_row(&mut rows, &mut row) {
-                Ok(true) => {}
-                Ok(false) => return Ok(Part::new(list)),
-                Err(NoMemory) => return Err(PartFault::NoMemory),
-            }
-            if number > MAX_CHANGES {
-                return Err(PartFault::TooMany);
-            }
-            let change = change_of_row(names, &row, number)?;
-            if list.push(change).is_err() {
-                return Err(PartFault::NoMemory);
-            }
+        while rows.next(&mut row)? {
+            let change = next_change(names, &row, list.len())?;
+            list.push(change)?;
         }
-        Err(PartFault::TooMany)
+        list.shrink_to_fit();
+        Ok(Part::new(list))
     }
 
     /// Takes the list as it is.
@@ -127,12 +162,14 @@ impl Part {
         }
     }
 
+    /// How many changes there are.
     pub fn len(&self) -> usize
         ensures { result ≡ length self.now }
     {
         self.changes().len()
     }
 
+    /// The change at a place from 0.
     pub fn at(&self, i: usize) -> Change
         requires { i < length self.now }
         ensures { slice_get self.now i ≡ Some (result.obj.0, result.by) }

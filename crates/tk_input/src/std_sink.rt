@@ -21,6 +21,7 @@ impl<R> Model for StdSink<R> {
 }
 
 impl<R: Print> StdSink<R> {
+    /// No put has failed yet.
     pub fn new(system: R) -> StdSink<R>
         ensures { result ≡ 0 }
     {

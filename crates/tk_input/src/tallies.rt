@@ -39,6 +39,7 @@ impl Model for Tallies {
 }
 
 impl Tallies {
+    /// No name was read yet.
     pub fn new(alloc: Global) -> Tallies
         ensures { result ≡ [] }
     {
@@ -53,6 +54,7 @@ impl Tallies {
         self.list.iter().position(|t| t.name.as_str() == name)
     }
 
+    /// How many reads of a name failed.
     pub fn faults(&self, name: &str) -> u64
         ensures { result ≡ faults_of self.now name.now }
     {
@@ -62,6 +64,7 @@ impl Tallies {
         }
     }
 
+    /// The most bytes that one read of a name took.
     pub fn longest(&self, name: &str) -> u64
         ensures { result ≡ longest_of self.now name.now }
     {
@@ -87,6 +90,7 @@ impl Tallies {
         Ok(())
     }
 
+    /// Counts one more failed read of a name that has its room.
     pub fn note_fault(&mut self, name: &str)
         requires { IsSome (count_of self.old name.now) }
         ensures { Notes self.old self.new name.now (one_more (faults_of self.old name.now)) (longest_of self.old name.now) }
@@ -97,6 +101,7 @@ impl Tallies {
         }
     }
 
+    /// Notes how many bytes a read took, of a name that has its room.
     pub fn note_length(&mut self, name: &str, taken: u64)
         requires { IsSome (count_of self.old name.now) }
         ensures { Notes self.old self.new name.now (faults_of self.old name.now) (max (longest_of self.old name.now) taken) }

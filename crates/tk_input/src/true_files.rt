@@ -25,6 +25,7 @@ impl<R> Model for TrueFiles<R> {
 }
 
 impl<R: rt::Files> TrueFiles<R> {
+    /// No file was read yet.
     pub fn new(alloc: Global, system: R) -> TrueFiles<R>
         ensures { result ≡ [] }
     {

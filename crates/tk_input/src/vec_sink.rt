@@ -50,6 +50,7 @@ impl VecSink {
         })
     }
 
+    /// All the bytes of the puts that did not fail.
     pub fn written(&self) -> &[u8]
         ensures { result.now ≡ self.now.written }
     {

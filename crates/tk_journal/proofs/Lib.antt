@@ -1,0 +1,33 @@
+pub mod Appends
+pub mod Pieces
+pub mod Batches
+pub mod Same
+pub mod Reports
+pub mod Accepted
+pub mod Counting
+pub mod Rounding
+pub mod Naming
+pub mod Orderly
+pub mod Turning
+pub mod LegalLemmas
+pub mod Answering
+pub mod Published
+pub mod LawLemmas
+mod LineExamples
+pub mod LineLemmas
+pub mod Tables
+pub mod Dealing
+pub mod Tuning
+pub mod Content
+pub mod Standing
+pub mod Sizes
+pub mod Ending
+pub mod Sound
+pub mod Firm
+pub mod FirmTurns
+pub mod SoundLemmas
+pub mod Dealable
+pub mod Ended
+pub mod StartLemmas
+pub mod Worked
+mod WorkedRefusals

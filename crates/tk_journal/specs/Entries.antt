@@ -9,3 +9,4 @@ abbrev pub IsEntryOf : ℕ → ℕ → Noted → Type 0
 IsEntryOf monitors objects (n.Got from frame) = (0 < from.0) × (from.0 ≤ monitors)
 IsEntryOf monitors objects (n.Sent to frame) = (0 < to.0) × (to.0 ≤ monitors)
 IsEntryOf monitors objects (n.Published publication) = All (λ t. t ≤ objects) publication.members
+IsEntryOf monitors objects (n.Tuned k epsilon) = Unit {0}

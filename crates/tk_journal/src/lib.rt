@@ -1,11 +1,22 @@
 //! The coordinator's journal: what it got, what it sent and what it published, in order.
 //!
-//! It promises what stands on a link to a monitor, as a reading of the journal. It stands on the
-//! frames and, for the names on a publication's line, on the catalogue.
+//! It promises what a legal journal is, turn by turn, which refusal comes, and the laws of every legal journal; no
+//! machine stands here. It stands on the frames, on reallocation, whose laws it uses, and, for the names on a
+//! publication's line, on the catalogue.
 #![tactic(auto)]
 
+mod laws;
 mod noted;
 mod publication;
+mod refusal;
 
-pub use noted::{KeptPublication, Noted};
+pub use laws::{
+    a_full_round_can_be_dealt_with, a_report_can_be_dealt_with, a_start_is_set_up,
+    answers_are_fresh, assigns_are_numbered, each_monitor_is_sent_the_members, factors_are_small,
+    factors_sum_to_zero, frames_are_short, members_are_k_objects, only_the_final_one_is_last,
+    publications_are_due, publications_are_numbered, rounds_are_counted, stop_ends_the_journal,
+    the_constraint_is_kept,
+};
+pub use noted::{KeptEpsilon, KeptPublication, Noted};
 pub use publication::Publication;
+pub use refusal::{CoordRefusal, RetuneRefusal};

@@ -3,7 +3,7 @@ ghost use Rattle.std.specs.Prelude.{◌≡◌, IfOk, IfErr};
 use crate::publication::Publication;
 use std::alloc::Global;
 use std::marker::Model;
-use tk_base::Mon;
+use tk_base::{Mon, NoMemory};
 use tk_frames::KeptFrame;
 
 /// One entry of a journal, in 16 bytes.
@@ -15,6 +15,8 @@ pub enum Noted {
     Sent(Mon, KeptFrame),
     /// A set of members that holds at its cut.
     Published(KeptPublication),
+    /// The coordinator was asked for another k and epsilon, which hold from the end of the round that follows.
+    Tuned(u32, KeptEpsilon),
 }
 
 /// A publication behind a pointer, so that an entry which keeps one is small. Contracts see the publication.
@@ -47,5 +49,37 @@ impl KeptPublication {
         ensures { result.now ≡ self.now }
     {
         &self.publication
+    }
+}
+
+/// An epsilon behind a pointer, so that an entry which keeps one is small. Contracts see the number.
+#[derive(Debug, Drop)]
+pub struct KeptEpsilon {
+    epsilon: Box<i128>,
+}
+
+impl Model for KeptEpsilon {
+    ghost use Rattle.std.specs.Prelude.{ℤ};
+
+    ghost Value = { ℤ };
+
+    ghost view = { λ k. k.epsilon.value };
+}
+
+impl KeptEpsilon {
+    /// Takes the room for one epsilon.
+    pub fn new(alloc: Global, epsilon: i128) -> Result<KeptEpsilon, NoMemory>
+        ensures { IfOk result (λ k. k ≡ epsilon) }
+    {
+        match Box::new(alloc, epsilon) {
+            Ok(epsilon) => Ok(KeptEpsilon { epsilon }),
+            Err(_) => Err(NoMemory),
+        }
+    }
+
+    pub fn get(&self) -> i128
+        ensures { result ≡ self.now }
+    {
+        *self.epsilon
     }
 }

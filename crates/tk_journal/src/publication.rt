@@ -1,6 +1,7 @@
-ghost use Rattle.std.specs.Prelude.{◌≤◌, All, length};
+ghost use Rattle.std.specs.Prelude.{◌≡◌, ◌≤◌, ◌++◌, if◌then◌else◌, IfOk, OnOk, List, [], All, length, codes, decimal};
+ghost use Rattle.tk_journal.specs.Line.{bounds_text, cut_text, kind_text, line_text, names_text, places_text};
 
-use itoa::Buffer;
+use itoa::{Buffer, Integer};
 use std::alloc::{AllocError, Global};
 use tk_base::{Cut, NoMemory, ObjSet, Places};
 use tk_input::Catalog;
@@ -12,23 +13,24 @@ pub struct Publication {
     pub number: u64,
     /// Whether all logs are at their ends.
     pub last: bool,
+    /// How many members there are, and within which epsilon they hold.
+    pub k: u32,
+    pub epsilon: i128,
     pub members: ObjSet,
     pub cut: Cut,
 }
 
 impl Publication {
-    /// The printed line, its line feed included: `set` or `final`, the number, the places of each
-    /// monitor, and the members' names.
-    pub fn line(&self, alloc: Global, names: &Catalog) -> Result<Vec<u8>, NoMemory>
+    /// The printed line, its line feed included: `set` or `final`, the number, where the settings were
+    /// tuned k and epsilon, the places of each monitor, and the members' names.
+    pub fn line(&self, alloc: Global, names: &Catalog, tuned: bool) -> Result<Vec<u8>, NoMemory>
         requires { All (λ o. o ≤ length names.now) self.now.members }
+        ensures { IfOk result (λ line. line.items ≡ line_text names.now tuned self.now) }
     {
         let mut line = Vec::new(alloc);
-        line.extend_from_slice(if self.last {
-            &b"final "[..]
-        } else {
-            &b"set "[..]
-        })?;
+        push_kind(&mut line, self.last)?;
         push_number(&mut line, self.number)?;
+        push_bounds(&mut line, self, tuned)?;
         line.extend_from_slice(b" cut")?;
         push_cut(&mut line, &self.cut)?;
         line.extend_from_slice(b" members")?;
@@ -38,34 +40,85 @@ impl Publication {
     }
 }
 
-fn push_number(line: &mut Vec<u8>, number: u64) -> Result<(), AllocError> {
+fn push_kind(line: &mut Vec<u8>, last: bool) -> Result<(), AllocError>
+    ensures { OnOk result (line.new.items ≡ line.old.items ++ kind_text last) }
+{
+    if last {
+        line.extend_from_slice(b"final ")
+    } else {
+        line.extend_from_slice(b"set ")
+    }
+}
+
+fn push_number<I: Integer>(line: &mut Vec<u8>, number: I) -> Result<(), AllocError>
+    ensures { OnOk result (line.new.items ≡ line.old.items ++ I.text number) }
+{
     let mut buffer = Buffer::new();
     line.extend_from_slice(buffer.format(number).as_bytes())
 }
 
-fn push_cut(line: &mut Vec<u8>, cut: &Cut) -> Result<(), AllocError> {
-    for i in 0..cut.len() {
-        line.extend_from_slice(b" ")?;
-        push_number(line, i as u64 + 1)?;
-        push_places(line, cut.at(i))?;
+fn push_bounds(line: &mut Vec<u8>, publication: &Publication, tuned: bool) -> Result<(), AllocError>
+    ensures { OnOk result (line.new.items ≡ line.old.items ++ bounds_text tuned publication.now) }
+{
+    if tuned {
+        line.extend_from_slice(b" k ")?;
+        push_number(line, publication.k)?;
+        line.extend_from_slice(b" epsilon ")?;
+        push_number(line, publication.epsilon)?;
     }
     Ok(())
 }
 
-fn push_places(line: &mut Vec<u8>, places: &Places) -> Result<(), AllocError> {
-    for i in 0..places.len() {
-        line.extend_from_slice(if i == 0 { b":" } else { b"," })?;
-        push_number(line, u64::from(places.at(i)))?;
+fn push_cut(line: &mut Vec<u8>, cut: &Cut) -> Result<(), AllocError>
+    ensures { OnOk result (line.new.items ≡ line.old.items ++ cut_text cut.now) }
+{
+    for i in 0..cut.len() {
+        push_monitor(line, i as u64 + 1, cut.at(i))?;
     }
     Ok(())
+}
+
+fn push_monitor(line: &mut Vec<u8>, mon: u64, places: &Places) -> Result<(), AllocError>
+    ensures { OnOk result (line.new.items ≡ line.old.items ++ (codes " " ++ decimal mon ++ codes ":" ++ places_text places.now)) }
+{
+    line.extend_from_slice(b" ")?;
+    push_number(line, mon)?;
+    line.extend_from_slice(b":")?;
+    push_places(line, places)
+}
+
+fn push_places(line: &mut Vec<u8>, places: &Places) -> Result<(), AllocError>
+    ensures { OnOk result (line.new.items ≡ line.old.items ++ places_text places.now) }
+{
+    for i in 0..places.len() {
+        push_place(line, places.at(i), i > 0)?;
+    }
+    Ok(())
+}
+
+/// A place, which may follow another.
+fn push_place(line: &mut Vec<u8>, place: u32, follows: bool) -> Result<(), AllocError>
+    ensures { OnOk result (line.new.items ≡ line.old.items ++ ((if follows then codes "," else []) ++ decimal place)) }
+{
+    if follows {
+        line.extend_from_slice(b",")?;
+    }
+    push_number(line, place)
 }
 
 fn push_names(line: &mut Vec<u8>, members: &ObjSet, names: &Catalog) -> Result<(), AllocError>
     requires { All (λ o. o ≤ length names.now) members.now }
+    ensures { OnOk result (line.new.items ≡ line.old.items ++ names_text names.now members.now) }
 {
     for i in 0..members.len() {
-        line.extend_from_slice(b" ")?;
-        line.extend_from_slice(names.name(members.at(i)))?;
+        push_name(line, names.name(members.at(i)))?;
     }
     Ok(())
+}
+
+fn push_name(line: &mut Vec<u8>, name: &[u8]) -> Result<(), AllocError>
+    ensures { OnOk result (line.new.items ≡ line.old.items ++ (codes " " ++ name.now)) }
+{
+    line.extend_from_slice(b" ")?;
+    line.extend_from_slice(name)
 }

@@ -1,5 +1,4 @@
 use crate::counts::Counts;
-use crate::sizes::size_of;
 use std::alloc::Global;
 use tk_base::{Mon, NoMemory};
 use tk_frames::Frame;
@@ -39,7 +38,7 @@ impl Reading {
         if place < self.ledger.per.len() {
             self.ledger.per[place].add(frame.kind());
         }
-        self.ledger.bytes = self.ledger.bytes.saturating_add(size_of(frame));
+        self.ledger.bytes = self.ledger.bytes.saturating_add(frame.size());
     }
 
     fn sent(&mut self, mon: Mon, frame: &Frame) {
@@ -93,7 +92,7 @@ impl Ledger {
             match entry {
                 Noted::Got(mon, frame) => reading.got(*mon, frame.get()),
                 Noted::Sent(mon, frame) => reading.sent(*mon, frame.get()),
-                Noted::Published(_) => {}
+                Noted::Published(_) | Noted::Tuned(_, _) => {}
             }
         }
         Ok(reading.ledger)

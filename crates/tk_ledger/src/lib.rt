@@ -7,7 +7,6 @@
 mod counts;
 mod ledger;
 mod printing;
-mod sizes;
 mod text;
 
 pub use counts::Counts;

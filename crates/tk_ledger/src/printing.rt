@@ -67,7 +67,8 @@ pub fn print_ledger<O: Sink>(alloc: Global, ledger: &Ledger, out: &mut O) -> Res
     Ok(())
 }
 
-/// Writes the text of a story: the lines of its publications, then those of its ledger, each by one put.
+/// Writes the text of a story: the lines of its publications, then those of its ledger, each by one put. From
+/// the first entry `Tuned` on, a publication's line says k and epsilon.
 pub fn print<O: Sink>(
     alloc: Global,
     story: &Story,
@@ -77,9 +78,14 @@ pub fn print<O: Sink>(
     requires names { length names.now ≡ story.now.settings.objects }
     ensures failed { IsErrOf result PrintFault.WriteFailed → HasRisen (O.fault_count out.old) (O.fault_count out.new) }
 {
+    let mut tuned = false;
     for entry in story.journal() {
-        if let Noted::Published(publication) = entry {
-            out.put(&publication.get().line(alloc, names)?)?;
+        match entry {
+            Noted::Tuned(..) => tuned = true,
+            Noted::Published(publication) => {
+                out.put(&publication.get().line(alloc, names, tuned)?)?;
+            }
+            Noted::Got(..) | Noted::Sent(..) => {}
         }
     }
     print_ledger(alloc, &Ledger::of(alloc, story)?, out)

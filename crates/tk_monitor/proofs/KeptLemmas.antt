@@ -1,28 +1,25 @@
 -- What each event leaves of the ties between a monitor and its trail.
-use Rattle.std.proofs.Common.{◌≡◌, ℕ, suc, zero, ◌<◌, ◌≤◌, ◌+◌, ◌-◌, ◌^◌, Bool, true, false, not, ◌&&◌, ◌||◌, ◌==◌, List, [], ◌∷◌, ◌++◌, length, map, get_or, set, Option, Some, None, refl, sym, ap, ap₂, ◌∙◌, subst, arith, eqb}
-use Rattle.std.specs.Prelude.{ℤ, ◌+ℤ◌, unsigned_abs, slice_get, if◌then◌else◌, All, nat_lt}
+use Rattle.std.proofs.Common.{◌≡◌, ℕ, suc, ◌<◌, ◌≤◌, ◌+◌, ◌-◌, ◌^◌, Bool, true, false, not, ◌&&◌, ◌||◌, ◌==◌, List, [], ◌∷◌, ◌++◌, length, get_or, set, Some, None, refl, sym, ap, ◌∙◌, subst, arith}
+use Rattle.std.specs.Prelude.{ℤ, ◌+ℤ◌, unsigned_abs, slice_get, if◌then◌else◌, nat_lt}
 use Rattle.std.proofs.lemmas.Int.{ints}
-use Rattle.std.proofs.lemmas.List.{get_or_default}
 use Rattle.std.proofs.Math.Bool.{or-true, or-false}
 use Rattle.tk_base.specs.declared.ids.Feeder.{Feeder}
-use Rattle.tk_frames.specs.declared.frame.Frame.{Frame}
 use Rattle.tk_frames.specs.declared.frame.Frame.TheVariants as f
-use Rattle.tk_input.specs.Logs.{AreParts, ArePlaces, IsObject, weight_of, value_of}
+use Rattle.tk_input.specs.Logs.{AreParts, ArePlaces, IsObject}
 use Rattle.tk_border.specs.Levels.{level_at, broken, least_member, greatest_outside}
 use Rattle.tk_trail.specs.Slack.{difference, slack_of}
-use Rattle.tk_trail.specs.Assigns.{assign_in, members_of}
-use Rattle.tk_trail.specs.Setup.{MonitorSetup, IsSetup}
-use Rattle.tk_trail.specs.Readings.{assigns_of, seq_of, members_at, places_at, at_ends, value_of_object, values_of, levels_of, broken_at, is_broken, is_report, is_end, is_reported, is_end_told, is_stopped}
-use Rattle.tk_trail.specs.Frames.{report_at, settled_at, values_at, answer_at, answer_to, due_at, report_is_due, end_is_due, may_report}
-use Rattle.tk_trail.specs.Refusal.{refusal_of}
-use Rattle.tk_trail.specs.Legal.{IsLegal, HasNext, place_of, part_length, after_take, after_check, with_answer}
+use Rattle.tk_frames.specs.Assigns.{members_of}
+use Rattle.tk_trail.specs.Setup.{MonitorSetup}
+use Rattle.tk_trail.specs.Readings.{seq_of, members_at, places_at, at_ends, value_of_object, values_of, levels_of, broken_at, is_broken, is_report, is_end, is_reported, is_end_told, is_stopped}
+use Rattle.tk_trail.specs.Frames.{report_at, settled_at, due_at, report_is_due, end_is_due, may_report}
+use Rattle.tk_trail.specs.Legal.{IsLegal, HasNext, place_of, part_length, after_check, with_answer}
 use Rattle.tk_trail.specs.declared.entry.Entry.{Entry}
-use Rattle.tk_trail.specs.declared.entry.Entry.TheVariants.{Raised, Took, Sent}
-use Rattle.tk_trail.proofs.LegalLemmas.{and_both, legal_raised, legal_sent, legal_taken, legal_places}
-use Rattle.tk_trail.proofs.LevelsLemmas.{Same, same-took, same-sent, values-same, levels-same, members-same, seq-same, values-raised, levels-raised, value-raised, value-small, level_at-values_of, members_of-push, share_own, length-levels_of}
-use Rattle.tk_trail.proofs.PlacesLemmas.{places_at-raised, places_at-took, places_at-sent, length-places_at}
-use Rattle.tk_trail.proofs.ReadingsLemmas.{assigns_of-raised, assigns_of-sent, assigns_of-other, assigns_of-assign, seq_of-raised, seq_of-sent, seq_of-other, seq_of-assign, reported-raised, reported-sent, reported-assign, reported-collect, reported-stop, told-raised, told-sent, told-assign, told-collect, told-stop, stopped-raised, stopped-sent, stopped-took, stopped-stop}
-use Rattle.tk_monitor.specs.Board.{Standing, assigned}
+use Rattle.tk_trail.specs.declared.entry.Entry.TheVariants.{Raised, Sent}
+use Rattle.tk_trail.proofs.LegalLemmas.{and_both, legal_raised, legal_sent, legal_places}
+use Rattle.tk_trail.proofs.LevelsLemmas.{Same, same-sent, values-same, levels-same, members-same, values-raised, levels-raised, value-raised, value-small, level_at-values_of, share_own, length-levels_of}
+use Rattle.tk_trail.proofs.PlacesLemmas.{places_at-raised, length-places_at}
+use Rattle.tk_trail.proofs.ReadingsLemmas.{assigns_of-raised, seq_of-raised, seq_of-sent, reported-raised, reported-sent, told-raised, told-sent, stopped-raised, stopped-sent}
+use Rattle.tk_monitor.specs.Board.{Standing}
 use Rattle.tk_monitor.specs.Log.{Logged}
 use Rattle.tk_monitor.specs.Kept.{IsKept, standing_of, phase_of, left_in, next_in, shifted}
 use Rattle.tk_monitor.specs.Monitored.{checked_at}

@@ -1,25 +1,21 @@
 -- The frames that a board and some places give are those that the trail demands.
-use Rattle.std.proofs.Common.{◌≡◌, ℕ, suc, zero, ◌<◌, ◌≤◌, ◌+◌, ◌-◌, Bool, true, false, List, [], ◌∷◌, ◌++◌, length, map, get_or, Option, Some, None, Result, refl, sym, ap, ap₂, ◌∙◌, subst, arith}
-use Rattle.std.specs.Prelude.{ℤ, ◌+ℤ◌, pos, All, IfOk, filter, ◌||◌, not, unwrap_or}
-use Rattle.std.specs.List.{range_with_len}
+use Rattle.std.proofs.Common.{◌≡◌, ℕ, ◌≤◌, true, List, [], ◌∷◌, ◌++◌, length, map, get_or, Option, Some, None, Result, refl, sym, ap, ap₂, ◌∙◌, subst, arith}
+use Rattle.std.specs.Prelude.{ℤ, ◌+ℤ◌, All, IfOk, ◌||◌, not, unwrap_or}
 use Rattle.std.specs.Option.{option_map_or}
-use Rattle.std.proofs.lemmas.Int.{ints}
-use Rattle.std.proofs.lemmas.List.Elements.{All-filter, All-head, All-tail, Contains-get_or}
-use Rattle.std.proofs.lemmas.List.FromFn.{get_or-range_with_len, length-range_with_len, get_or-map-range_with_len}
+use Rattle.std.proofs.lemmas.List.Elements.{All-filter, All-tail, Contains-get_or}
+use Rattle.std.proofs.lemmas.List.FromFn.{get_or-range_with_len, length-range_with_len}
 use Rattle.tk_base.specs.Objects.{objects, is_in}
 use Rattle.tk_base.specs.Pairs.{value_at}
-use Rattle.tk_base.specs.Ascending.{IsAscending}
-use Rattle.tk_frames.specs.declared.frame.Frame.{Frame}
 use Rattle.tk_frames.specs.declared.frame.Frame.TheVariants as f
 use Rattle.tk_border.specs.Levels.{level_at, broken, border, outside, resolution, holds, is_above, least_member}
-use Rattle.tk_trail.specs.Assigns.{Assign, row}
+use Rattle.tk_frames.specs.Assigns.{row}
 use Rattle.tk_trail.specs.Setup.{MonitorSetup}
-use Rattle.tk_trail.specs.Readings.{assigns_of, seq_of, members_at, places_at, at_ends, value_of_object, level_of, values_of, levels_of, broken_at}
-use Rattle.tk_trail.specs.Frames.{report_at, settled_at, values_at, values_over, border_over, resolution_at}
+use Rattle.tk_trail.specs.Readings.{assigns_of, seq_of, members_at, value_of_object, level_of, values_of, levels_of, broken_at}
+use Rattle.tk_trail.specs.Frames.{report_at, values_at, values_over, border_over}
 use Rattle.tk_trail.specs.declared.entry.Entry.{Entry}
-use Rattle.tk_trail.specs.declared.entry.Entry.TheVariants.{Raised, Took, Sent}
+use Rattle.tk_trail.specs.declared.entry.Entry.TheVariants.{Took}
 use Rattle.tk_trail.proofs.MappedLemmas.{mapped_same}
-use Rattle.tk_trail.proofs.LevelsLemmas.{length-levels_of, length-values_of, level_at-levels_of, level_at-values_of, level-assign}
+use Rattle.tk_trail.proofs.LevelsLemmas.{length-levels_of, level_at-levels_of, level_at-values_of, level-assign}
 use Rattle.tk_monitor.proofs.RefusalLemmas.{all_in, is_in_from_Contains}
 use Rattle.tk_monitor.specs.Board.{Standing, values_in, assigned, assigned_level}
 use Rattle.tk_monitor.specs.Kept.{standing_of, report_on, values_frame}

@@ -1,12 +1,11 @@
 -- Parts and places: what is left, and one more change.
-use Rattle.std.proofs.Common.{◌≡◌, ℕ, suc, zero, ◌<◌, ◌≤◌, ◌+◌, ◌-◌, Bool, true, false, ◌&&◌, ◌==◌, List, [], ◌∷◌, length, map, take, get_or, set, Option, Some, None, refl, sym, ap, ◌∙◌, subst, arith, eq-eqb, ne_eqb}
+use Rattle.std.proofs.Common.{◌≡◌, ℕ, suc, zero, ◌<◌, ◌≤◌, ◌+◌, ◌-◌, Bool, true, false, ◌&&◌, ◌==◌, List, [], ◌∷◌, length, take, get_or, set, Some, None, refl, sym, ap, ◌∙◌, arith, eq-eqb, ne_eqb}
 use Rattle.std.specs.Prelude.{ℤ, sum_by, slice_get}
 use Rattle.std.specs.List.{zip, list_all}
 use Rattle.std.proofs.lemmas.Map.Views.{exact_unsigned_eq}
 use Rattle.std.proofs.lemmas.List.Sums.{sum_by_more, sum_by-cons}
 use Rattle.std.proofs.lemmas.Slice.Zip.{get_or-zip, length-zip}
-use Rattle.tk_input.specs.Logs.{ArePlaces}
-use Rattle.tk_monitor.specs.Kept.{left_in, next_in}
+use Rattle.tk_monitor.specs.Kept.{left_in}
 
 -- what is left of some parts at their places
 abbrev pub left_count : List (List (ℕ × ℤ) × ℕ) → ℕ

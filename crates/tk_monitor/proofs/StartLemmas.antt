@@ -1,26 +1,25 @@
 -- From where a monitor starts: values at places, and one more change of a part.
-use Rattle.std.proofs.Common.{◌≡◌, ℕ, suc, zero, ◌<◌, ◌≤◌, ◌+◌, ◌-◌, ◌^◌, Bool, true, false, List, [], ◌∷◌, length, map, take, get_or, set, Option, Some, None, refl, sym, ap, ◌∙◌, subst, arith, inl, inr}
-use Rattle.std.specs.Prelude.{ℤ, pos, ◌+ℤ◌, unsigned_abs, slice_get, replicate}
+use Rattle.std.proofs.Common.{◌≡◌, ℕ, suc, zero, ◌<◌, ◌≤◌, ◌+◌, ◌-◌, ◌^◌, List, [], ◌∷◌, length, map, take, get_or, set, Some, refl, sym, ap, ◌∙◌, arith, inl, inr}
+use Rattle.std.specs.Prelude.{ℤ, pos, ◌+ℤ◌, unsigned_abs, replicate}
 use Rattle.std.specs.List.{range_with_len, zip}
 use Rattle.std.proofs.lemmas.Int.{ints}
 use Rattle.std.proofs.lemmas.List.{get_or-replicate, get_or_past, length-replicate}
 use Rattle.std.proofs.lemmas.List.FromFn.{length-map-range_with_len, get_or-map-range_with_len}
 use Rattle.std.proofs.lemmas.Bool.{cases_lt}
 use Rattle.tk_base.specs.Objects.{objects}
-use Rattle.tk_input.specs.Logs.{value_of, AreParts, ArePlaces, sum_for}
+use Rattle.tk_input.specs.Logs.{value_of, AreParts, sum_for}
 use Rattle.tk_border.specs.Levels.{level_at}
-use Rattle.tk_trail.specs.Assigns.{row, members_of}
 use Rattle.tk_trail.specs.Setup.{MonitorSetup}
-use Rattle.tk_trail.specs.Readings.{places_at, value_of_object, values_of, level_of, levels_of}
+use Rattle.tk_trail.specs.Readings.{value_of_object, values_of, level_of, levels_of}
 use Rattle.tk_trail.specs.Frames.{owed_at}
 use Rattle.tk_trail.specs.Legal.{IsLegal}
 use Rattle.tk_trail.proofs.LevelsLemmas.{share_none, share_own}
 use Rattle.tk_trail.proofs.MappedLemmas.{mapped_one, mapped_same}
 use Rattle.tk_trail.proofs.PlacesLemmas.{places_at-start}
-use Rattle.tk_trail.proofs.ValuesLemmas.{value_of-set, value_of-small, share_of, int_sum-cons}
+use Rattle.tk_trail.proofs.ValuesLemmas.{value_of-set, value_of-small, int_sum-cons}
 use Rattle.tk_monitor.specs.Board.{Standing}
 use Rattle.tk_monitor.specs.Kept.{values_on, shifted, next_in, standing_of}
-use Rattle.tk_monitor.specs.Start.{StandsAt, AreZero}
+use Rattle.tk_monitor.specs.Start.{StandsAt}
 use Rattle.tk_monitor.proofs.KeptLemmas.{change_object}
 
 pub length-values_on : (n : ℕ) (parts : List (List (ℕ × ℤ))) (next : List ℕ) → length (values_on n parts next) ≡ n

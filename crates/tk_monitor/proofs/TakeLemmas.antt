@@ -1,10 +1,10 @@
 -- What a frame that is taken leaves of the ties between a monitor and its trail.
-use Rattle.std.proofs.Common.{◌≡◌, ℕ, suc, zero, ◌<◌, ◌≤◌, ◌+◌, ◌-◌, ◌^◌, Bool, true, false, not, ◌&&◌, ◌||◌, ◌==◌, cond, List, [], ◌∷◌, ◌++◌, length, map, get_or, set, Option, Some, None, refl, sym, ap, ap₂, ◌∙◌, subst, arith, inl, inr}
-use Rattle.std.specs.Prelude.{ℤ, ◌+ℤ◌, unsigned_abs, find, if◌then◌else◌, All, nat_lt, nat_le}
+use Rattle.std.proofs.Common.{◌≡◌, ℕ, suc, zero, ◌<◌, ◌≤◌, ◌+◌, ◌^◌, Bool, true, false, not, ◌&&◌, ◌||◌, ◌==◌, cond, List, [], ◌∷◌, ◌++◌, length, map, get_or, Option, Some, None, refl, sym, ap, ap₂, ◌∙◌, subst, arith, inl, inr}
+use Rattle.std.specs.Prelude.{ℤ, unsigned_abs, find, if◌then◌else◌, All, nat_lt, nat_le}
 use Rattle.std.specs.List.{list_all, range_with_len, zip}
 use Rattle.tk_input.specs.Logs.{value_of}
 use Rattle.std.specs.Option.{option_map}
-use Rattle.std.proofs.Math.Bool.{or-true, or-false, false-or}
+use Rattle.std.proofs.Math.Bool.{or-false}
 use Rattle.std.proofs.lemmas.Bool.{leb-true, ltb-true, cases_lt, lt-ltb}
 use Rattle.std.proofs.lemmas.Map.Views.{exact_unsigned_eq}
 use Rattle.std.proofs.lemmas.List.Sums.{AllPass-from_list_all}
@@ -15,24 +15,24 @@ use Rattle.tk_base.proofs.AscendingLemmas.{ascending_positive}
 use Rattle.tk_frames.specs.declared.frame.Frame.{Frame}
 use Rattle.tk_frames.specs.declared.frame.Frame.TheVariants as f
 use Rattle.tk_border.specs.Levels.{AreMembers, broken, holds}
-use Rattle.tk_trail.specs.Assigns.{Assign, assign_in, members_of}
+use Rattle.tk_frames.specs.Assigns.{members_of}
 use Rattle.tk_trail.specs.Setup.{MonitorSetup}
 use Rattle.tk_trail.specs.Readings.{assigns_of, seq_of, members_at, places_at, at_ends, value_of_object, values_of, levels_of, broken_at, is_broken, is_report, is_end, is_reported, is_end_told, is_stopped}
-use Rattle.tk_trail.specs.Frames.{report_at, settled_at, values_at, answer_at, answer_to}
-use Rattle.tk_trail.specs.Refusal.{refusal_of, refusal_of_kind, shown_by, are_members, are_some_of, is_bad_change, is_collect, Shown, refusal_over}
+use Rattle.tk_trail.specs.Frames.{report_at, settled_at, values_at, answer_at}
+use Rattle.tk_trail.specs.Refusal.{refusal_of, shown_by, are_members, are_some_of, is_bad_change, is_collect, Shown, refusal_over}
 use Rattle.tk_trail.specs.Legal.{IsLegal, after_take}
 use Rattle.tk_trail.specs.declared.entry.Entry.{Entry}
-use Rattle.tk_trail.specs.declared.entry.Entry.TheVariants.{Raised, Took, Sent}
+use Rattle.tk_trail.specs.declared.entry.Entry.TheVariants.{Took, Sent}
 use Rattle.tk_trail.specs.declared.refusal.MonitorRefusal.TheVariants.{WrongSequence, BadMembers, BadChange, BadCollect}
-use Rattle.tk_trail.proofs.LegalLemmas.{if_none, and_both, not_refused, legal_taken, legal_members}
-use Rattle.tk_trail.proofs.LevelsLemmas.{Same, same-took, same-sent, values_at-same, values-same, members_of-push}
+use Rattle.tk_trail.proofs.LegalLemmas.{if_none, and_both, not_refused, legal_taken}
+use Rattle.tk_trail.proofs.LevelsLemmas.{Same, same-took, same-sent, values_at-same, members_of-push}
 use Rattle.tk_trail.proofs.PlacesLemmas.{places_at-took, places_at-sent}
-use Rattle.tk_trail.proofs.ReadingsLemmas.{assigns_of-other, assigns_of-assign, assigns_of-sent, seq_of-sent, seq_of-other, seq_of-assign, reported-sent, reported-assign, reported-collect, reported-stop, told-sent, told-assign, told-collect, told-stop, stopped-sent, stopped-took, stopped-stop}
+use Rattle.tk_trail.proofs.ReadingsLemmas.{assigns_of-other, assigns_of-assign, seq_of-sent, seq_of-other, seq_of-assign, reported-sent, reported-assign, reported-collect, reported-stop, told-sent, told-assign, told-collect, told-stop, stopped-sent, stopped-took, stopped-stop}
 use Rattle.tk_monitor.specs.Board.{Standing, assigned, AreFactors}
 use Rattle.tk_monitor.specs.Log.{Logged}
-use Rattle.tk_monitor.specs.Kept.{IsKept, standing_of, phase_of, left_in, report_on, answer_on, values_frame}
+use Rattle.tk_monitor.specs.Kept.{IsKept, standing_of, phase_of, answer_on, values_frame}
 use Rattle.tk_monitor.specs.declared.phase.Phase.{Phase}
-use Rattle.tk_monitor.proofs.KeptLemmas.{kept_same, phase_made, kept_broken, standing-same}
+use Rattle.tk_monitor.proofs.KeptLemmas.{kept_same, phase_made, standing-same}
 use Rattle.tk_monitor.proofs.MessageLemmas.{report-standing, assigned-standing, values-standing}
 
 not_false : (b : Bool) → not b ≡ false → b ≡ true

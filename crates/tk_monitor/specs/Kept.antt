@@ -1,5 +1,5 @@
 -- What the fields of a monitor keep of its trail. No public clause cites this file.
-use Rattle.std.specs.Prelude.{◌≡◌, ℕ, ◌+◌, ◌-◌, ◌^◌, ◌<◌, ℤ, ◌+ℤ◌, Bool, List, [], length, map, sum_by, Option, Some, slice_get, slice_index_or, slice_index, slice_set, nat_lt, if◌then◌else◌}
+use Rattle.std.specs.Prelude.{◌≡◌, ℕ, ◌-◌, ℤ, ◌+ℤ◌, Bool, List, [], length, map, sum_by, Option, slice_get, slice_index_or, slice_index, slice_set, nat_lt, if◌then◌else◌}
 use Rattle.std.specs.List.{zip}
 use Rattle.tk_base.specs.Objects.{objects}
 use Rattle.tk_frames.specs.declared.frame.Frame.{Frame}

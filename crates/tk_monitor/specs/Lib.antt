@@ -4,7 +4,7 @@ pub mod Log
 pub mod Monitored
 pub mod Refusals
 pub mod Start
-pub use Rattle.tk_trail.specs.Assigns
+pub use Rattle.tk_frames.specs.Assigns
 pub use Rattle.tk_trail.specs.Frames
 pub use Rattle.tk_trail.specs.Legal
 pub use Rattle.tk_trail.specs.Readings

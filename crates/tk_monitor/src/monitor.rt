@@ -54,7 +54,8 @@ impl Model for Monitor {
 }
 
 impl Monitor {
-    /// Counts the next change of a feeder, in the time of one update of the levels and with no memory.
+    /// Counts the next change of a feeder: one update of its value and one of its level, which costs a
+    /// logarithm of the objects, and no memory.
     pub fn raise(&mut self, f: Feeder) -> Raised
         requires { IsFeederOf self.old.setup f.0 }
         ensures answer { Raises self.old f result self.new }
@@ -74,20 +75,22 @@ impl Monitor {
         }
     }
 
-    /// Whether some outsider's level is above the least level of a member.
+    /// Whether some outsider's level is above the least level of a member, read at two roots.
     pub fn broken(&self) -> bool
         ensures { result ≡ is_broken self.now.setup self.now.trail }
     {
         self.board.is_broken()
     }
 
-    /// The least member level minus the greatest level of an outsider.
+    /// The least member level minus the greatest level of an outsider, read at two roots. There is none
+    /// before the first Assign, or where every object is a member.
     pub fn slack(&self) -> Option<i128>
         ensures { result ≡ slack_of self.now.setup self.now.trail }
     {
         self.board.slack()
     }
 
+    /// The value of an object plus its factor, in constant time.
     pub fn level(&self, o: Obj) -> i128
         requires { IsOneOf self.now.setup.objects o.0 }
         ensures { result ≡ level_of self.now.setup self.now.trail o.0 }
@@ -117,18 +120,21 @@ impl Monitor {
         self.log.raises() == 0
     }
 
+    /// Whether Stop was taken.
     pub fn stopped(&self) -> bool
         ensures { result ≡ is_stopped self.now.trail }
     {
         self.phase.stopped
     }
 
+    /// The number that it was made with.
     pub fn number(&self) -> Mon
         ensures { result.0 ≡ self.now.setup.number }
     {
         self.number
     }
 
+    /// What it did so far, in order.
     pub fn trail(&self) -> &[Entry]
         ensures value { result.now ≡ self.now.trail }
         ensures legal { IsLegal self.now.setup self.now.trail }
@@ -143,7 +149,7 @@ impl Monitor {
         self.log.sent_len()
     }
 
-    /// One of them, in constant time.
+    /// The frame sent at a place from 0, in constant time.
     pub fn sent_at(&self, i: usize) -> &Frame
         requires { i < length (sent_by self.now.trail) }
         ensures { slice_get (sent_by self.now.trail) i ≡ Some result.now }

@@ -10,7 +10,10 @@ pub enum Raised {
 /// What a check sent.
 #[derive(Clone, Copy, Debug, PartialEq, Eq)]
 pub enum Checked {
+    /// A Report, since something is broken.
     Reported,
+    /// A Settled with `last`, since all parts are at their ends.
     ToldEnd,
+    /// Nothing was due.
     Nothing,
 }

@@ -10,21 +10,20 @@ use Rattle.tk_base.specs.declared.ids.Feeder.{Feeder}
 use Rattle.tk_frames.specs.declared.frame.Frame.{Frame}
 use Rattle.tk_frames.specs.declared.frame.Frame.TheVariants as f
 use Rattle.tk_input.specs.Logs.{ArePlaces}
-use Rattle.tk_trail.specs.History.{EachFrom}
-use Rattle.tk_trail.specs.Assigns.{Assign, assign_in, members_of}
-use Rattle.tk_trail.specs.Setup.{MonitorSetup, IsSetup}
-use Rattle.tk_trail.specs.Readings.{assigns_of, seq_of, members_at, places_at, at_ends, is_broken, is_end, is_report, is_stop, is_end_told, is_reported, is_stopped}
-use Rattle.tk_trail.specs.Frames.{report_at, settled_at, values_at, answer_at, answer_to, owed_after, owed_at, due_at, report_is_due, end_is_due, may_report}
+use Rattle.tk_base.specs.History.{EachFrom}
+use Rattle.tk_frames.specs.Assigns.{Assign, assign_in, members_of}
+use Rattle.tk_trail.specs.Setup.{MonitorSetup}
+use Rattle.tk_trail.specs.Readings.{assigns_of, seq_of, members_at, places_at, at_ends, is_broken, is_end, is_stop, is_end_told, is_stopped}
+use Rattle.tk_trail.specs.Frames.{report_at, settled_at, values_at, answer_to, owed_after, owed_at, due_at, report_is_due, end_is_due, may_report}
 use Rattle.tk_trail.specs.Refusal.{refusal_of, refusal_of_kind, shown_by, are_members, are_some_of, is_bad_change}
-use Rattle.tk_trail.specs.Legal.{Allowed, IsLegal, HasNext, place_of, part_length, to_send, after_take, after_check, with_answer}
+use Rattle.tk_trail.specs.Legal.{Allowed, IsLegal, HasNext, to_send, after_take, after_check, with_answer}
 use Rattle.tk_trail.specs.declared.entry.Entry.{Entry}
 use Rattle.tk_trail.specs.declared.entry.Entry.TheVariants.{Raised, Took, Sent}
-use Rattle.tk_trail.specs.declared.refusal.MonitorRefusal.{MonitorRefusal}
 use Rattle.tk_trail.specs.declared.refusal.MonitorRefusal.TheVariants.{AfterStop, EarlyStop, WrongSequence, BadMembers, BadChange}
-use Rattle.tk_trail.proofs.HistoryLemmas.{each_push, each_front, each_rest, each_at, each_carries}
+use Rattle.tk_base.proofs.HistoryLemmas.{each_push, each_carries}
 use Rattle.tk_trail.proofs.PlacesLemmas.{length-places_at, places_at-raised, places_at-took, places_at-sent, places_at-start}
 use Rattle.tk_trail.proofs.LevelsLemmas.{Same, same-took, same-sent, ends-same, is_broken-same, members_of-push}
-use Rattle.tk_trail.proofs.ReadingsLemmas.{assigns_of-other, assigns_of-assign, assigns_of-raised, assigns_of-sent, told-raised, told-assign, told-collect, told-stop, told-sent, stopped-raised, stopped-took, stopped-stop, stopped-sent, owed-push}
+use Rattle.tk_trail.proofs.ReadingsLemmas.{assigns_of-other, assigns_of-assign, assigns_of-raised, assigns_of-sent, told-raised, told-assign, told-collect, told-stop, told-sent, stopped-raised, stopped-took, stopped-sent, owed-push}
 
 -- a choice that gives nothing did not take its first way
 pub if_none : {X : Type 0} (b : Bool) (x : X) (r : Option X) → (if b then Some x else r) ≡ None → (b ≡ false) × (r ≡ None)

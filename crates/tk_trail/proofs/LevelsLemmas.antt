@@ -1,7 +1,7 @@
 -- Levels of a trail, and what one more entry does to them.
-use Rattle.std.proofs.Common.{◌≡◌, ℕ, suc, zero, ◌<◌, ◌≤◌, ◌+◌, ◌-◌, Bool, true, false, ◌==◌, cond, List, [], ◌∷◌, ◌++◌, length, map, get_or, set, Option, Some, None, refl, sym, ap, ◌∙◌, subst, arith, ne_eqb, eq-eqb}
-use Rattle.std.specs.Prelude.{ℤ, pos, ◌+ℤ◌, unsigned_abs, fold, slice_get, unwrap_or, nat_lt}
-use Rattle.std.specs.List.{range_with_len, list_all, zip}
+use Rattle.std.proofs.Common.{◌≡◌, ℕ, ◌≤◌, ◌-◌, ◌==◌, cond, List, [], ◌∷◌, ◌++◌, length, get_or, set, Some, refl, sym, ap, ◌∙◌, arith, ne_eqb, eq-eqb}
+use Rattle.std.specs.Prelude.{ℤ, pos, ◌+ℤ◌, unsigned_abs, slice_get, unwrap_or, nat_lt}
+use Rattle.std.specs.List.{list_all, zip}
 use Rattle.std.proofs.lemmas.Int.{ints}
 use Rattle.std.proofs.lemmas.List.FromFn.{length-map-range_with_len, get_or-map-range_with_len}
 use Rattle.std.proofs.lemmas.List.Sums.{fold_push}
@@ -10,13 +10,13 @@ use Rattle.tk_base.specs.Pairs.{value_at}
 use Rattle.tk_base.specs.declared.ids.Feeder.{Feeder}
 use Rattle.tk_frames.specs.declared.frame.Frame.{Frame}
 use Rattle.tk_frames.specs.declared.frame.Frame.TheVariants as f
-use Rattle.tk_input.specs.Logs.{value_of, AreParts, ArePlaces, weight_of}
+use Rattle.tk_input.specs.Logs.{value_of, weight_of}
 use Rattle.tk_border.specs.Levels.{broken, border, level_at}
-use Rattle.tk_trail.specs.Assigns.{Assign, row, members_of}
+use Rattle.tk_frames.specs.Assigns.{Assign, row, members_of}
 use Rattle.tk_trail.specs.Setup.{MonitorSetup, IsSetup}
 use Rattle.tk_trail.specs.Readings.{assigns_of, seq_of, members_at, places_at, at_ends, value_of_object, level_of, values_of, levels_of, broken_at, is_broken}
-use Rattle.tk_trail.specs.Frames.{report_at, settled_at, values_at, answer_at, values_over, border_over, resolution_at}
-use Rattle.tk_trail.specs.Legal.{HasNext, place_of, part_length}
+use Rattle.tk_trail.specs.Frames.{values_at, values_over, border_over}
+use Rattle.tk_trail.specs.Legal.{HasNext, place_of}
 use Rattle.tk_trail.specs.declared.entry.Entry.{Entry}
 use Rattle.tk_trail.specs.declared.entry.Entry.TheVariants.{Raised, Took, Sent}
 use Rattle.tk_trail.proofs.MappedLemmas.{mapped_one, mapped_same}

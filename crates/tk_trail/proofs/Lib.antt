@@ -1,8 +1,10 @@
 pub mod BrokenLemmas
-pub mod HistoryLemmas
+mod Examples
+pub mod LawLemmas
 pub mod LegalLemmas
 pub mod LevelsLemmas
 pub mod MappedLemmas
 pub mod PlacesLemmas
 pub mod ReadingsLemmas
+pub mod SlackLemmas
 pub mod ValuesLemmas

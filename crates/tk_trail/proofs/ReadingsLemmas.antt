@@ -1,8 +1,8 @@
 -- Readings of a trail, and what one more entry does to them.
-use Rattle.std.proofs.Common.{◌≡◌, ℕ, suc, zero, ◌<◌, ◌+◌, ◌-◌, ℤ, Bool, true, false, ◌||◌, ◌==◌, cond, List, [], ◌∷◌, ◌++◌, length, map, get_or, set, Option, Some, None, refl, sym, ap, ◌∙◌, subst, arith, add-one, append-nil}
-use Rattle.std.specs.Prelude.{fold, filter_map, count_by}
-use Rattle.std.specs.List.{list_any, list_all, enumerate_from}
-use Rattle.std.proofs.lemmas.List.Sums.{fold_push, sum_by_push}
+use Rattle.std.proofs.Common.{◌≡◌, ℕ, ◌+◌, ℤ, Bool, true, false, ◌||◌, List, [], ◌∷◌, ◌++◌, length, Option, Some, None, refl, ap, ◌∙◌, append-nil}
+use Rattle.std.specs.Prelude.{filter_map}
+use Rattle.std.specs.List.{list_any}
+use Rattle.std.proofs.lemmas.List.Sums.{fold_push}
 use Rattle.std.proofs.lemmas.List.Elements.{filter_map-append}
 use Rattle.std.proofs.lemmas.List.Folds.{list_any-append}
 use Rattle.std.proofs.lemmas.List.{length-append}
@@ -11,8 +11,8 @@ use Rattle.tk_frames.specs.declared.frame.Frame.{Frame}
 use Rattle.tk_frames.specs.declared.frame.Frame.TheVariants as f
 use Rattle.tk_base.specs.declared.ids.Feeder.{Feeder}
 use Rattle.tk_trail.specs.Setup.{MonitorSetup}
-use Rattle.tk_trail.specs.Assigns.{Assign, assign_in}
-use Rattle.tk_trail.specs.Readings.{taken_in, sent_in, taken_by, sent_by, assigns_of, is_raise_of, raised_of, places_at, since_assign, goes_on, is_stop, is_stopped, is_report, is_reported, is_end, is_end_told, seq_of}
+use Rattle.tk_frames.specs.Assigns.{Assign, assign_in}
+use Rattle.tk_trail.specs.Readings.{taken_in, sent_in, taken_by, sent_by, assigns_of, since_assign, goes_on, is_stop, is_stopped, is_report, is_reported, is_end, is_end_told, seq_of}
 use Rattle.tk_trail.specs.Frames.{owed_at, owed_after}
 use Rattle.tk_trail.specs.declared.entry.Entry.{Entry}
 use Rattle.tk_trail.specs.declared.entry.Entry.TheVariants.{Raised, Took, Sent}

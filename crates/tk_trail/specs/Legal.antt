@@ -1,7 +1,7 @@
 -- Legal trails: which entries are allowed after a front, and that no answer is owed at the end.
-use Rattle.std.specs.Prelude.{◌≡◌, ℕ, ◌<◌, ◌≤◌, ◌-◌, false, List, [], ◌∷◌, ◌++◌, length, slice_index, slice_index_or, Option, Some, None, if◌then◌else◌}
+use Rattle.std.specs.Prelude.{◌≡◌, ℕ, ◌<◌, ◌≤◌, ◌-◌, false, List, [], ◌∷◌, ◌++◌, length, slice_index, slice_index_or, Option, Some, None}
 use Rattle.tk_frames.specs.declared.frame.Frame.{Frame}
-use Rattle.tk_trail.specs.History.{EachFrom}
+use Rattle.tk_base.specs.History.{EachFrom}
 use Rattle.tk_trail.specs.Setup.{MonitorSetup}
 use Rattle.tk_trail.specs.Readings.{places_at, is_stopped}
 use Rattle.tk_trail.specs.Frames.{owed_at, due_at, answer_to}

@@ -1,12 +1,12 @@
-pub mod Assigns
 pub mod Frames
-pub mod History
 pub mod Legal
 pub mod Readings
 pub mod Refusal
 pub mod Setup
 pub mod Slack
+pub use Rattle.tk_base.specs.History
 pub use Rattle.tk_base.specs.Objects
 pub use Rattle.tk_border.specs.Levels
+pub use Rattle.tk_frames.specs.Assigns
 pub use Rattle.tk_frames.specs.Frame
 pub use Rattle.tk_input.specs.Logs

@@ -6,7 +6,7 @@ use Rattle.tk_frames.specs.declared.frame.Frame.{Frame}
 use Rattle.tk_frames.specs.declared.frame.Frame.TheVariants as f
 use Rattle.tk_input.specs.Logs.{value_of}
 use Rattle.tk_border.specs.Levels.{broken}
-use Rattle.tk_trail.specs.Assigns.{Assign, assign_in, row, members_of}
+use Rattle.tk_frames.specs.Assigns.{Assign, assign_in, row, members_of}
 use Rattle.tk_trail.specs.Setup.{MonitorSetup}
 use Rattle.tk_trail.specs.declared.entry.Entry.{Entry}
 use Rattle.tk_trail.specs.declared.entry.Entry.TheVariants.{Raised, Took, Sent}

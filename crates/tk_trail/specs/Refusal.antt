@@ -1,5 +1,5 @@
 -- Which refusal a frame meets at a monitor, over the trail before it.
-use Rattle.std.specs.Prelude.{ℕ, suc, ◌+◌, ◌^◌, ℤ, Bool, not, ◌&&◌, ◌||◌, ◌==◌, nat_lt, nat_le, unsigned_abs, List, length, find, Option, Some, None, if◌then◌else◌}
+use Rattle.std.specs.Prelude.{ℕ, ◌+◌, ◌^◌, ℤ, Bool, not, ◌&&◌, ◌||◌, ◌==◌, nat_lt, nat_le, unsigned_abs, List, length, find, Option, Some, None, if◌then◌else◌}
 use Rattle.std.specs.List.{list_all}
 use Rattle.std.specs.Option.{option_map}
 use Rattle.tk_base.specs.Objects.{is_in}

@@ -1,6 +1,7 @@
-ghost use Rattle.std.specs.Prelude.{◌≡◌, ◌≤◌, IfOk, IsTrue, All, length};
+ghost use Rattle.std.specs.Prelude.{◌≡◌, ◌≤◌, IfOk, All, length};
+ghost use Rattle.tk_input.specs.Judged.{last_monitor};
 ghost use Rattle.tk_input.specs.Logs.{IsObject};
-ghost use Rattle.topk.specs.Whole.{AreAgreed};
+ghost use Rattle.topk.specs.Whole.{AreAgreed, greatest_monitor};
 
 use crate::status::{InputKind, Status};
 use crate::words::Words;
@@ -87,15 +88,16 @@ fn order_of(alloc: Global, bytes: &[u8], file: &str) -> Result<Order, Status> {
 }
 
 /// The greatest monitor number among the words, also where one below it is missing.
-fn monitors_of(logs: &[(Mon, &str)]) -> u32 {
-    let mut most = 0;
-    for (mon, _) in logs {
-        most = most.max(mon.0);
-    }
-    most
+fn monitors_of(logs: &[(Mon, &str)]) -> u32
+    ensures { result ≡ greatest_monitor logs.now }
+{
+    logs.iter().fold(0, |most, log| most.max(log.0.0))
 }
 
-fn settings_of(alloc: Global, words: &Words<'_>, names: &Catalog) -> Result<Settings, Status> {
+fn settings_of(alloc: Global, words: &Words<'_>, names: &Catalog) -> Result<Settings, Status>
+    ensures objects { IfOk result (λ s. s.objects ≡ length names.now) }
+    ensures monitors { IfOk result (λ s. s.monitors ≡ greatest_monitor words.now.logs.items) }
+{
     let monitors = u64::from(monitors_of(words.logs.as_slice()));
     let objects = names.len() as u64;
     match Settings::new(words.k, words.epsilon, words.own_weight, objects, monitors) {
@@ -121,6 +123,7 @@ fn parts_of<F: Files>(
 ) -> Result<Vec<(Mon, Part)>, Status>
     requires { All (λ log. (1 ≤ log.0.0) × (log.0.0 ≤ 64)) words.now.logs.items }
     ensures monitors { IfOk result (λ parts. All (λ p. (1 ≤ p.0.0) × (p.0.0 ≤ 64)) parts.items) }
+    ensures last { IfOk result (λ parts. last_monitor parts.items ≡ greatest_monitor words.now.logs.items) }
     ensures objects { IfOk result (λ parts. All (λ p. All (λ c. IsObject (length names.now) c.0) p.1) parts.items) }
     ensures lengths { IfOk result (λ parts. All (λ p. length p.1 ≤ 1000000) parts.items) }
 {
@@ -133,9 +136,7 @@ fn parts_of<F: Files>(
             return Err(bad_file(alloc, file, 0, InputKind::TooManyUpdates));
         }
         updates += part.len();
-        if parts.push((*mon, part)).is_err() {
-            return Err(Status::NoMemory);
-        }
+        parts.push((*mon, part))?;
     }
     Ok(parts)
 }
@@ -144,6 +145,8 @@ fn logs_of(alloc: Global, parts: Vec<(Mon, Part)>, objects: u32) -> Result<Logs,
     requires monitors { All (λ p. (1 ≤ p.0.0) × (p.0.0 ≤ 64)) parts.items }
     requires objects { All (λ p. All (λ c. IsObject objects c.0) p.1) parts.items }
     requires lengths { All (λ p. length p.1 ≤ 1000000) parts.items }
+    ensures objects { IfOk result (λ s. s.objects ≡ objects) }
+    ensures monitors { IfOk result (λ s. length s.logs ≡ last_monitor parts.items) }
 {
     match Logs::new(alloc, parts, objects) {
         Ok(logs) => Ok(logs),
@@ -157,16 +160,6 @@ fn logs_of(alloc: Global, parts: Vec<(Mon, Part)>, objects: u32) -> Result<Logs,
     }
 }
 
-/// Whether catalogue, settings and logs are of one size. They are, since one gives the next; it is tested
-/// so that what runs them need not trust it.
-fn agree(names: &Catalog, settings: &Settings, logs: &Logs) -> bool
-    ensures { IsTrue result → AreAgreed names.now settings.now logs.now }
-{
-    names.len() == settings.objects() as usize
-        && logs.objects() == settings.objects()
-        && logs.monitors() == settings.monitors()
-}
-
 /// Reads all that the words name, in the order of work: the objects, the settings, the logs, the order.
 pub fn load<F: Files>(alloc: Global, words: &Words<'_>, files: &mut F) -> Result<Input, Status>
     requires { All (λ log. (1 ≤ log.0.0) × (log.0.0 ≤ 64)) words.now.logs.items }
@@ -177,9 +170,6 @@ pub fn load<F: Files>(alloc: Global, words: &Words<'_>, files: &mut F) -> Result
     let settings = settings_of(alloc, words, &names)?;
     let parts = parts_of(alloc, words, &names, files)?;
     let logs = logs_of(alloc, parts, names.len() as u32)?;
-    if !agree(&names, &settings, &logs) {
-        return Err(bad_whole(alloc, InputKind::BadCount));
-    }
     let order = match words.order {
         None => None,
         Some(file) => {

@@ -1,3 +1,4 @@
+use std::alloc::AllocFailed;
 use tk_base::{Mon, Obj};
 
 /// How a run ended.
@@ -28,6 +29,12 @@ pub enum Status {
     NoMemory,
     /// The drive stopped before the final set stood.
     Unfinished,
+}
+
+impl<T: Drop> From<AllocFailed<T>> for Status {
+    fn from(_error: AllocFailed<T>) -> Status {
+        Status::NoMemory
+    }
 }
 
 /// What is wrong with an input.

@@ -13,7 +13,8 @@ use tk_base::{Mon, NoMemory, Places, Settings};
 use tk_input::Part;
 
 impl Monitor {
-    /// Takes the room for all raises, in the time of the objects and the changes before the start.
+    /// Takes the room for all raises. Costs the number of objects and of changes before the start, times
+    /// a logarithm of the objects.
     pub fn new(
         alloc: Global,
         settings: &Settings,

@@ -1,5 +1,4 @@
-use Rattle.std.proofs.Common.{◌≡◌, ℕ, ℤ, List, [], ◌∷◌, ◌++◌, not, Bool, true, false, arith, length, get_or, pos, take, refl, sym, ap, ◌∙◌, ◌<◌}
-use Rattle.std.specs.List.{filter}
+use Rattle.std.proofs.Common.{◌≡◌, ℕ, ℤ, not, Bool, arith, length, get_or, pos, sym, ap, ◌∙◌, ◌<◌}
 use Rattle.std.proofs.lemmas.List.{get_or_default, map-append}
 use Rattle.tk_base.specs.declared.ids.Obj.{Obj}
 use Rattle.tk_base.specs.Ascending.{numbers_of}

@@ -1,9 +1,8 @@
-use Rattle.std.proofs.Common.{◌≡◌, ℕ, ℤ, ◌+◌, ◌-◌, ◌<◌, ◌≤◌, List, length, map, get_or, refl, sym, ap, ◌∙◌, subst, not, arith}
+use Rattle.std.proofs.Common.{◌≡◌, ◌+◌, ◌-◌, ◌<◌, length, map, sym, ap, ◌∙◌, subst, not, arith}
 use Rattle.std.proofs.lemmas.Bool.{true≢false}
 use Rattle.std.proofs.lemmas.List.{length-map}
 use Rattle.std.proofs.lemmas.List.Sorted.{length_permutation}
-use Rattle.tk_base.specs.Ascending.{IsAscending, numbers_of}
-use Rattle.tk_base.specs.Pairs.{objects_of}
+use Rattle.tk_base.specs.Ascending.{IsAscending}
 use Rattle.tk_alloc.specs.declared.candidate.Candidate.{Candidate}
 use Rattle.tk_alloc.specs.Candidates.{candidate, comes_first}
 use Rattle.tk_alloc.specs.Pick.{picked}

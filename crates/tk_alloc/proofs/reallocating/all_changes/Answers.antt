@@ -1,4 +1,4 @@
-use Rattle.std.proofs.Common.{◌≡◌, ◌+◌, ◌<◌, ℕ, ℤ, List, length, ap, ◌∙◌}
+use Rattle.std.proofs.Common.{◌+◌, ap}
 use Rattle.tk_base.specs.declared.ids.Mon.{Mon}
 use Rattle.tk_alloc.specs.Parts.{monitor}
 use Rattle.tk_alloc.specs.Terms.{border_by}

@@ -1,12 +1,9 @@
-use Rattle.std.proofs.Common.{◌≡◌, ◌+◌, ◌<◌, ◌≤◌, ◌^◌, ℕ, ℤ, pos, ◌+ℤ◌, ◌-ℤ◌, unsigned_abs, length, take, get_or, refl, sym, ap, ◌∙◌, arith, FitsSigned, to_z, of_z}
+use Rattle.std.proofs.Common.{◌<◌, ℕ, ℤ, pos, length, get_or, refl, ◌∙◌, arith, FitsSigned, to_z, of_z}
 use Rattle.std.specs.Int.{w128}
-use Rattle.std.specs.List.{All}
 use Rattle.std.proofs.lemmas.Int.{ints, to_z-of_z}
 use Rattle.std.proofs.lemmas.List.{length-map}
 use Rattle.tk_base.specs.Pairs.{pairs_of, objects_of}
-use Rattle.tk_share.specs.Shares.{share}
-use Rattle.tk_alloc.specs.Terms.{dealt_by}
-use Rattle.tk_alloc.proofs.PartLemmas.{IsRead, is_read, dealt_next, dealt_done, dealt_ascends}
+use Rattle.tk_alloc.proofs.PartLemmas.{is_read, dealt_next, dealt_done, dealt_ascends}
 use Rattle.tk_alloc.proofs.reallocating.factors.Goals as goal
 
 pub new_factor-requires-clause-value : goal.new_factor-requires-clause-value

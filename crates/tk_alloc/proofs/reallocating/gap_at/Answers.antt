@@ -1,4 +1,4 @@
-use Rattle.std.proofs.Common.{◌≡◌, ℕ, ℤ, pos, List, length, map, take, get_or, refl, sym, ap, ◌∙◌, ◌<◌, ◌≤◌, ◌+ℤ◌, ◌-ℤ◌, unsigned_abs, subst, arith, FitsSigned, to_z, of_z}
+use Rattle.std.proofs.Common.{ℕ, ℤ, length, get_or, ◌∙◌, ◌≤◌, subst, arith, FitsSigned}
 use Rattle.std.specs.Int.{w128}
 use Rattle.std.proofs.lemmas.Int.{ints, to_z-of_z}
 use Rattle.std.proofs.lemmas.List.{length-map}

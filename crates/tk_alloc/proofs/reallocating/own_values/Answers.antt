@@ -1,8 +1,8 @@
-use Rattle.std.proofs.Common.{◌≡◌, ℕ, ℤ, pos, length, map, take, get_or, refl, sym, ap, ◌∙◌, ◌<◌, ◌+◌, arith, if◌then◌else◌, FitsSigned, to_z, of_z}
+use Rattle.std.proofs.Common.{pos, ◌∙◌, arith, if◌then◌else◌, FitsSigned, to_z, of_z}
 use Rattle.std.specs.Int.{w128}
 use Rattle.std.proofs.lemmas.Int.{ints, to_z-of_z}
 use Rattle.tk_base.specs.Objects.{is_in}
-use Rattle.tk_base.specs.Pairs.{pairs_of, objects_of}
+use Rattle.tk_base.specs.Pairs.{pairs_of}
 use Rattle.tk_alloc.proofs.PartLemmas.{put_more, put_done, put_ascends}
 use Rattle.tk_alloc.proofs.reallocating.own_values.Goals as goal
 

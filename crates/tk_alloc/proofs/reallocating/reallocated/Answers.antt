@@ -1,9 +1,7 @@
-use Rattle.std.proofs.Common.{◌≡◌, ◌+◌, ◌<◌, ℕ, ℤ, List, [], ◌∷◌, length, refl, ap, ◌∙◌, arith, FitsSigned, to_z, of_z}
+use Rattle.std.proofs.Common.{refl, arith, FitsSigned}
 use Rattle.std.specs.Int.{w128}
 use Rattle.std.proofs.lemmas.Int.{ints, to_z-of_z}
-use Rattle.tk_base.specs.Pairs.{objects_of}
-use Rattle.tk_alloc.specs.Parts.{by_monitor, dealt_from}
-use Rattle.tk_alloc.specs.Terms.{parts_of, monitors_in, dealt_by}
+use Rattle.tk_alloc.specs.Parts.{by_monitor}
 use Rattle.tk_alloc.proofs.DealtLemmas.{weights_are, dealt_to, joined}
 use Rattle.tk_alloc.proofs.reallocating.reallocated.Goals as goal
 

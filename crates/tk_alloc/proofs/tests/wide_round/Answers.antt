@@ -1,4 +1,4 @@
-use Rattle.std.proofs.Common.{◌≡◌, ℕ, ℤ, pos, ap, ◌∙◌, arith}
+use Rattle.std.proofs.Common.{pos, ◌∙◌, arith}
 use Rattle.tk_alloc.proofs.TestLemmas.{two_reports}
 use Rattle.tk_alloc.proofs.tests.wide_round.Goals as goal
 

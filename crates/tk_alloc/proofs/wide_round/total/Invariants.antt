@@ -1,4 +1,4 @@
-use Rattle.std.proofs.Common.{◌≡◌, ◌≤◌, ◌*◌, ◌^◌, map, take, get_or, unsigned_abs}
+use Rattle.std.proofs.Common.{◌≡◌, ◌≤◌, ◌*◌, ◌^◌, take, get_or, unsigned_abs}
 use Rattle.tk_base.specs.Pairs.{objects_of}
 use Rattle.tk_alloc.specs.Rounds.{total}
 use Rattle.tk_alloc.proofs.wide_round.total.Given as goal

@@ -1,10 +1,10 @@
-use Rattle.std.proofs.Common.{◌≡◌, ◌<◌, ℕ, ℤ, get_or, length, sym, ap, ◌∙◌, arith, FitsSigned, to_z, of_z}
+use Rattle.std.proofs.Common.{ℕ, ℤ, sym, ap, ◌∙◌, arith, FitsSigned}
 use Rattle.std.specs.Int.{w128}
 use Rattle.std.proofs.lemmas.Int.{ints, to_z-of_z}
 use Rattle.std.proofs.lemmas.List.{length-map}
 use Rattle.tk_base.specs.Pairs.{objects_of}
 use Rattle.tk_alloc.specs.Parts.{value_of}
-use Rattle.tk_alloc.proofs.PartLemmas.{IsRead, is_read}
+use Rattle.tk_alloc.proofs.PartLemmas.{is_read}
 use Rattle.tk_alloc.proofs.wide_round.value_at.Goals as goal
 
 pub returns-clause-value : goal.returns-clause-value

@@ -3,7 +3,8 @@ use Rattle.std.specs.Prelude.{slice_get}
 use Rattle.std.proofs.lemmas.Option.{slice_get_read}
 use Rattle.tk_journal.specs.declared.noted.Noted.TheVariants as n
 use Rattle.tk_journal.specs.Links.{sent_to}
-use Rattle.tk_coord.specs.Index.{IsIndex, published_in}
+use Rattle.tk_coord.specs.Index.{IsIndex}
+use Rattle.tk_journal.specs.Publishing.{published_in}
 use Rattle.tk_coord.proofs.IndexLemmas.{index_skip, index_push, sent_more, room_less}
 use Rattle.tk_coord.proofs.index.note_entry.Goals as goal
 
@@ -43,3 +44,9 @@ returns-in-Published-clause-published c =
     subst (λ (l : List ℕ). IsIndex published_in (journal ++ n.Published c.in-Published.field-0 ∷ []) l)
     (ap (λ (k : ℕ). c.args.published.now.items ++ k ∷ []) size ∙ sym c.push_reserved-in-Published.ensures.items)
     (index_push published_in journal c.args.published.now.items (n.Published c.in-Published.field-0) c.in-Published.field-0 refl at))
+
+pub returns-in-Tuned-clause-sent : goal.returns-in-Tuned-clause-sent
+returns-in-Tuned-clause-sent c = rw c.in-Tuned.is (λ journal size at j v is. index_skip (sent_to (suc j)) journal v.items (n.Tuned c.in-Tuned.field-0 c.in-Tuned.field-1) refl (at j v is))
+
+pub returns-in-Tuned-clause-published : goal.returns-in-Tuned-clause-published
+returns-in-Tuned-clause-published c = rw c.in-Tuned.is (λ journal size at. index_skip published_in journal c.args.published.now.items (n.Tuned c.in-Tuned.field-0 c.in-Tuned.field-1) refl at)

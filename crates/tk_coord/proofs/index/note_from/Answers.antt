@@ -1,7 +1,8 @@
-use Rattle.std.proofs.Common.{◌≡◌, ◌+◌, ◌-◌, ◌<◌, ◌≤◌, [], ◌∷◌, ◌++◌, ℕ, List, length, take, sym, ap, subst, arith}
+use Rattle.std.proofs.Common.{◌≡◌, ◌+◌, ◌-◌, [], ◌∷◌, ◌++◌, ℕ, List, length, take, sym, subst, arith}
 use Rattle.std.proofs.lemmas.List.{length-take-le, take_all}
 use Rattle.tk_journal.specs.declared.noted.Noted.{Noted}
-use Rattle.tk_coord.specs.Index.{AreIndexed, IsIndex, HasRoom, published_in}
+use Rattle.tk_coord.specs.Index.{AreIndexed, IsIndex, HasRoom}
+use Rattle.tk_journal.specs.Publishing.{published_in}
 use Rattle.tk_coord.proofs.IndexLemmas.{take_at_place}
 use Rattle.tk_coord.proofs.index.note_from.Goals as goal
 

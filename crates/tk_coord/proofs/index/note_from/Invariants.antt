@@ -1,5 +1,6 @@
 use Rattle.std.proofs.Common.{◌+◌, ◌-◌, ◌≤◌, take, vec_len, vec_capacity}
-use Rattle.tk_coord.specs.Index.{AreIndexed, IsIndex, HasRoom, published_in}
+use Rattle.tk_coord.specs.Index.{AreIndexed, IsIndex, HasRoom}
+use Rattle.tk_journal.specs.Publishing.{published_in}
 use Rattle.tk_coord.proofs.index.note_from.Given as goal
 
 -- the entries up to here are noted, and there is room for the others

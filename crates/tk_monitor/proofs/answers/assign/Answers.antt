@@ -1,6 +1,6 @@
-use Rattle.std.proofs.Common.{◌≡◌, ℕ, ◌≤◌, ◌∙◌, List, length, ap, sym, subst, arith}
+use Rattle.std.proofs.Common.{◌≡◌, ℕ, ◌∙◌, List, length, ap, sym, subst, arith}
 use Rattle.std.specs.Prelude.{ℤ}
-use Rattle.tk_monitor.specs.Board.{Standing, assigned, AreFactors, factors_over}
+use Rattle.tk_monitor.specs.Board.{Standing, assigned, AreFactors}
 use Rattle.tk_monitor.proofs.BoardLemmas.{length-assigned, assigned_undone}
 use Rattle.tk_monitor.proofs.answers.assign.Goals as goal
 

@@ -1,8 +1,8 @@
-use Rattle.std.proofs.Common.{◌≡◌, ◌≤◌, ℕ, List, length, true, ap, ◌∙◌, sym, subst, arith, to_z, of_z}
+use Rattle.std.proofs.Common.{◌≡◌, ◌≤◌, ℕ, List, length, true, ◌∙◌, sym, subst, arith, to_z, of_z}
 use Rattle.std.specs.Prelude.{All, FitsSigned}
 use Rattle.std.specs.Int.{w128}
 use Rattle.std.proofs.lemmas.Int.{ints, to_z-of_z}
-use Rattle.tk_border.specs.Levels.{broken, resolution, holds}
+use Rattle.tk_border.specs.Levels.{resolution, holds}
 use Rattle.tk_frames.specs.declared.frame.Frame.TheVariants as f
 use Rattle.tk_monitor.specs.Kept.{report_on}
 use Rattle.tk_monitor.proofs.MessageLemmas.{broken_within, resolution_holds, resolution_within, report_made, same_ok}

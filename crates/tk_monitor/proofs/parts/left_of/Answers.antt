@@ -1,4 +1,4 @@
-use Rattle.std.proofs.Common.{◌≡◌, ℕ, ℤ, ◌<◌, ◌≤◌, ◌∙◌, List, [], length, get_or, take, ap, sym, arith}
+use Rattle.std.proofs.Common.{◌≡◌, ℕ, ℤ, ◌∙◌, List, [], length, get_or, take, ap, arith}
 use Rattle.std.specs.List.{zip}
 use Rattle.std.proofs.lemmas.List.{get_or_default, take_all}
 use Rattle.std.proofs.lemmas.Slice.Zip.{length-zip}

@@ -1,6 +1,6 @@
-use Rattle.std.proofs.Common.{arith, ◌∙◌, ap, ◌<◌, ◌-◌, ◌≤◌, length, get_or}
+use Rattle.std.proofs.Common.{arith, ◌∙◌, ap, ◌-◌, get_or}
 use Rattle.std.specs.Prelude.{nat_le}
-use Rattle.tk_monitor.proofs.RefusalLemmas.{last_tells, none_tells}
+use Rattle.tk_monitor.proofs.RefusalLemmas.{last_tells}
 use Rattle.tk_monitor.proofs.refusals.are_some_of.Goals as goal
 
 pub returns-then-len-gt0 : goal.returns-then-len-gt0

@@ -1,5 +1,5 @@
-use Rattle.std.proofs.Common.{◌≡◌, ℤ, ℕ, ◌<◌, Some, None, true, false, arith, ap, sym, ◌∙◌, get_or, refl}
-use Rattle.std.specs.Prelude.{option_map, find, slice_get, FitsSigned}
+use Rattle.std.proofs.Common.{◌≡◌, ℤ, true, false, arith, ap, sym, ◌∙◌, refl}
+use Rattle.std.specs.Prelude.{FitsSigned}
 use Rattle.std.specs.Int.{w128}
 use Rattle.std.proofs.lemmas.Int.{to_z-of_z, ints}
 use Rattle.tk_trail.specs.Refusal.{is_bad_change}

@@ -1,4 +1,4 @@
-use Rattle.std.proofs.Common.{◌≡◌, ◌<◌, arith, ap, sym, ◌∙◌, get_or, false}
+use Rattle.std.proofs.Common.{◌≡◌, arith, ap, sym, ◌∙◌, get_or, false}
 use Rattle.std.proofs.lemmas.List.Folds.{list_all_at}
 use Rattle.tk_base.specs.Objects.{is_in}
 use Rattle.tk_monitor.proofs.RefusalLemmas.{all_in, not_in, has_not}

@@ -1,9 +1,8 @@
-use Rattle.std.proofs.Common.{◌≡◌, ℕ, ◌+◌, ◌<◌, ◌≤◌, ◌∙◌, List, [], length, get_or, set, ap, sym, subst, arith, rules, inl, inr}
-use Rattle.std.specs.Prelude.{ℤ, pos, replicate}
+use Rattle.std.proofs.Common.{◌≡◌, ℕ, ◌<◌, ◌∙◌, List, length, get_or, set, ap, sym, subst, arith, rules, inl, inr}
+use Rattle.std.specs.Prelude.{replicate}
 use Rattle.std.proofs.lemmas.Bool.{cases_eq}
 use Rattle.std.proofs.lemmas.List.{length-set, length-replicate, get_or-set_same, get_or-set_other}
 use Rattle.tk_input.specs.Logs.{AreParts}
-use Rattle.tk_monitor.specs.Board.{Standing}
 use Rattle.tk_monitor.specs.Start.{StandsAt}
 use Rattle.tk_monitor.proofs.StartLemmas.{stands_size, zero_place, zero_values, same_places}
 use Rattle.tk_monitor.proofs.start.start.Goals as goal

@@ -1,4 +1,4 @@
-use Rattle.std.proofs.Common.{◌≡◌, ◌≢◌, ℕ, suc, ◌+◌, ◌-◌, ◌<◌, Bool, true, false, List, length, get_or, set, Some, refl, sym, ap, ◌∙◌, subst, arith}
+use Rattle.std.proofs.Common.{◌≡◌, ◌≢◌, ℕ, suc, ◌-◌, ◌<◌, Bool, true, false, List, length, get_or, set, Some, sym, ap, ◌∙◌, subst, arith}
 use Rattle.std.specs.Prelude.{slice_get}
 use Rattle.std.proofs.lemmas.List.{set-set, set-get_or}
 use Rattle.tk_base.specs.Objects.{objects}
@@ -21,8 +21,8 @@ ended-step-requires-clause-reports c =
     let values : report.values ≡ c.args.values.now = ap (λ (r : Reported). r.values) c.replace-before.ensures.after ∙ c.in_ok-values.ensures in
     let told : IsTold f.settings.objects (suc place) report = record {
       named = ap (λ (r : Reported). r.mon.0) c.replace-before.ensures.after ∙ omega arith;
-      objects = ap objects_of values ∙ c.in_default.ensures.objects ∙ ap objects c.objects-objects.ensures.value;
-      small = subst AreSmall (sym values) c.in_default.ensures.small;
+      objects = ap objects_of values ∙ c.requires.objects ∙ sym (ap (λ (s : Seen). objects s.settings.objects) c.self.view_is);
+      small = subst AreSmall (sym values) c.requires.small;
     } in
     let is_open : f.open ≡ true = c.if-not-self.false in
     let alone : (j : ℕ) (l : Link) → j ≢ place → slice_get f.links.items j ≡ Some l → l.waits ≡ false =
@@ -43,6 +43,7 @@ invariant_of-self c =
       subst (λ (rs : List Reported). AreGathered seen f.links.items f.open rs)
           (sym (restored f.gathered.items (c.args.mon.0 - 1) c.replace-before.new.dest c.replace-before.result c.index_mut.result.now c.replace-before.ensures.value c.index_mut.ensures.value)) c.self.invariant.1,
       c.self.invariant.2,
+      c.self.invariant.3,
     )
 
 pub invariant_of-self-2 : goal.invariant_of-self-2
@@ -53,6 +54,7 @@ invariant_of-self-2 c =
       subst (λ (rs : List Reported). AreGathered seen f.links.items f.open rs)
           (sym (restored f.gathered.items (c.args.mon.0 - 1) c.replace-before.new.dest c.replace-before.result c.index_mut.result.now c.replace-before.ensures.value c.index_mut.ensures.value)) c.self.invariant.1,
       c.self.invariant.2,
+      c.self.invariant.3,
     )
 
 pub returns-clause-step : goal.returns-clause-step
@@ -60,3 +62,6 @@ returns-clause-step c =
     let settings = sym (ap (λ (s : Seen). s.settings) c.self.view_is) in
     let table = sym (ap (λ (s : Seen). s.table) c.self.view_is) in
     rw c.in_ok-step.was at (c.ended-step.ensures c.args.mon.0 c.args.self.now settings table)
+
+pub ended-step-requires-clause-some_monitor : goal.ended-step-requires-clause-some_monitor
+ended-step-requires-clause-some_monitor c = c.self.invariant.0.limits.some_monitor

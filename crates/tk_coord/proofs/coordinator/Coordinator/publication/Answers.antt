@@ -1,13 +1,13 @@
-use Rattle.std.proofs.Common.{◌≡◌, ◌<◌, ℕ, List, length, get_or, Some, None, refl, sym, subst, arith, ap, ◌∙◌}
-use Rattle.std.specs.Prelude.{slice_get, slice_index, vec_len}
-use Rattle.std.specs.List.{filter_map}
+use Rattle.std.proofs.Common.{◌≡◌, ◌<◌, ℕ, List, length, get_or, Some, sym, subst, arith, ap, ◌∙◌}
+use Rattle.std.specs.Prelude.{slice_get, slice_index}
 use Rattle.std.proofs.lemmas.List.{get_or_default}
 use Rattle.std.proofs.lemmas.Option.{slice_get_within, get_or_from_slice_get}
 use Rattle.tk_journal.specs.declared.noted.Noted.{Noted}
 use Rattle.tk_journal.specs.declared.noted.Noted.TheVariants as n
 use Rattle.tk_journal.specs.declared.publication.Publication.{Publication}
-use Rattle.tk_coord.specs.Index.{IsIndex, published_in}
-use Rattle.tk_coord.specs.Coordinator.{Seen, publications}
+use Rattle.tk_journal.specs.Publishing.{published_in, publications}
+use Rattle.tk_coord.specs.Index.{IsIndex}
+use Rattle.tk_coord.specs.Coordinator.{Seen}
 use Rattle.tk_coord.proofs.IndexLemmas.{index_reads}
 use Rattle.tk_coord.proofs.coordinator.Coordinator.publication.Goals as goal
 
@@ -15,6 +15,7 @@ use Rattle.tk_coord.proofs.coordinator.Coordinator.publication.Goals as goal
 is_published : (e : Noted) (p : Publication) → published_in e ≡ Some p → e ≡ n.Published p
 is_published (n.Got from frame) p is = cc
 is_published (n.Sent to frame) p is = cc
+is_published (n.Tuned k epsilon) p is = cc
 is_published (n.Published q) p is = ap n.Published (same_some is)
   where
     same_some : {x y : Publication} → Some x ≡ Some y → x ≡ y

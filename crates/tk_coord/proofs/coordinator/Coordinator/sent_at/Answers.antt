@@ -1,5 +1,5 @@
-use Rattle.std.proofs.Common.{◌≡◌, ◌+◌, ◌-◌, ◌<◌, ◌≤◌, ℕ, suc, Bool, true, false, cond, List, length, get_or, Some, None, refl, sym, subst, arith, ap, ◌∙◌, eqb}
-use Rattle.std.specs.Prelude.{slice_get, slice_index, vec_len}
+use Rattle.std.proofs.Common.{◌≡◌, ◌-◌, ◌<◌, ◌≤◌, ℕ, suc, Bool, true, false, cond, List, length, get_or, Some, None, refl, sym, subst, arith, ap, ◌∙◌, eqb}
+use Rattle.std.specs.Prelude.{slice_get, slice_index}
 use Rattle.std.specs.Global.{Vec}
 use Rattle.std.proofs.lemmas.List.{get_or_default}
 use Rattle.std.proofs.lemmas.Option.{slice_get_within, slice_get_read, get_or_from_slice_get}
@@ -22,6 +22,7 @@ is_sent : (j : ℕ) (e : Noted) (g : Frame) → sent_to j e ≡ Some g → (m : 
 is_sent j (n.Got from frame) g is = cc
 is_sent j (n.Sent to frame) g is = (to, ap (λ (f : Frame). n.Sent to f) (chosen (eqb to.0 j) frame g is))
 is_sent j (n.Published q) g is = cc
+is_sent j (n.Tuned k epsilon) g is = cc
 
 -- the entry at the place that the index gives
 read_at : (journal : List Noted) (sent : List (Vec ℕ)) (mon i place : ℕ) (v : Vec ℕ) → 0 < mon → mon ≤ length sent → AreIndexed journal sent → i < length (frames_to mon journal) → v ≡ get_or sent (mon - 1) v → place ≡ get_or v.items i place → (e : Noted) × (g : Frame) × (m : Mon) × (slice_get journal place ≡ Some e) × (e ≡ n.Sent m g) × (slice_get (frames_to mon journal) i ≡ Some g)

@@ -1,5 +1,6 @@
 use Rattle.std.proofs.Common.{◌≡◌, ◌≤◌, ℕ, ℤ, List, Vec, All, length, arith, subst, ap, sym, ◌∙◌}
-use Rattle.tk_input.specs.Judged.{Assigned, logs_by_monitor}
+use Rattle.std.proofs.lemmas.List.FromFn.{length-map-range_with_len}
+use Rattle.tk_input.specs.Judged.{Assigned, feeders_of, last_monitor, logs_by_monitor}
 use Rattle.tk_input.specs.Logs.{IsObject}
 use Rattle.tk_input.specs.Rows.{logs_in}
 use Rattle.tk_input.proofs.LimitsLemmas.{all_logs, few_monitors}
@@ -26,3 +27,12 @@ judge-requires-clause-lengths c =
     let same = rows_are c.as_slice-2.result.now c.in_ok-rows.rows.items c.as_slice.result.now c.in_ok-shared.shared.items c.args.parts.items c.as_slice-2.ensures.value c.in_ok-rows.ensures c.as_slice.ensures.value c.in_ok-shared.ensures in
     subst (λ (ls : List (List (List (ℕ × ℤ)))). All (λ parts. All (λ part. length part ≤ 1000000) parts) ls) (sym same)
     (all_logs (λ part. length part ≤ 1000000) c.args.parts.items c.requires.lengths)
+
+pub returns-clause-made : goal.returns-clause-made
+returns-clause-made c =
+    ap (λ (ls : List (List (List (ℕ × ℤ)))). record { logs = ls; objects = c.args.objects }) (c.in_ok-rows.ensures ∙ ap logs_by_monitor (c.as_slice.ensures.value ∙ c.in_ok-shared.ensures))
+
+pub returns-clause-last : goal.returns-clause-last
+returns-clause-last c =
+    let made : logs_in c.in_ok-rows.rows.items ≡ logs_by_monitor c.args.parts.items = c.in_ok-rows.ensures ∙ ap logs_by_monitor (c.as_slice.ensures.value ∙ c.in_ok-shared.ensures) in
+    ap (λ (ls : List (List (List (ℕ × ℤ)))). length ls) made ∙ length-map-range_with_len (feeders_of c.args.parts.items) 1 (last_monitor c.args.parts.items)

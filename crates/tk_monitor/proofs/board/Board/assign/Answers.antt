@@ -1,9 +1,9 @@
-use Rattle.std.proofs.Common.{◌≡◌, ℕ, ◌+◌, ◌-◌, ◌<◌, ◌≤◌, ◌^◌, ◌∙◌, List, length, take, subst, arith, ap, sym, to_z, of_z}
-use Rattle.std.specs.Prelude.{ℤ, ◌+ℤ◌, FitsSigned, slice_set, unsigned_abs, All}
+use Rattle.std.proofs.Common.{◌≡◌, ℕ, ◌-◌, ◌<◌, ◌^◌, ◌∙◌, List, length, take, subst, arith, ap, sym}
+use Rattle.std.specs.Prelude.{ℤ, ◌+ℤ◌, FitsSigned, slice_set}
 use Rattle.std.specs.Int.{w128}
 use Rattle.std.proofs.lemmas.Int.{ints, to_z-of_z}
 use Rattle.tk_border.specs.Levels.{level_at}
-use Rattle.tk_monitor.specs.Board.{Standing, IsBoard, assigned}
+use Rattle.tk_monitor.specs.Board.{Standing, IsBoard}
 use Rattle.tk_monitor.proofs.BoardLemmas.{assigned_none, assigned_more, length-assigned, change_within, change_small, change_from_one}
 use Rattle.tk_monitor.proofs.board.Board.assign.Goals as goal
 

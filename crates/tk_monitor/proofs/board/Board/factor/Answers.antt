@@ -1,5 +1,4 @@
 use Rattle.std.proofs.Common.{◌≡◌, arith, ap}
-use Rattle.std.specs.Prelude.{ℤ}
 use Rattle.std.proofs.lemmas.Int.{ints}
 use Rattle.tk_border.specs.Levels.{level_at}
 use Rattle.tk_monitor.specs.Board.{Standing}

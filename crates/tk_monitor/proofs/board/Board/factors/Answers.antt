@@ -1,12 +1,11 @@
-use Rattle.std.proofs.Common.{◌≡◌, ℕ, ◌+◌, ◌++◌, ◌∷◌, [], ◌≤◌, ◌∙◌, List, length, take, subst, arith, ap, sym, to_z, of_z}
-use Rattle.std.specs.Prelude.{ℤ, ◌-ℤ◌, FitsSigned}
+use Rattle.std.proofs.Common.{◌≡◌, ℕ, ◌++◌, ◌∷◌, [], ◌∙◌, List, length, take, subst, arith, ap, sym, to_z, of_z}
+use Rattle.std.specs.Prelude.{ℤ, FitsSigned}
 use Rattle.std.specs.Int.{w128}
 use Rattle.std.proofs.lemmas.Int.{ints, to_z-of_z}
 use Rattle.std.proofs.lemmas.List.{map-append, take_all}
 use Rattle.tk_base.specs.Ascending.{IsAscending}
 use Rattle.tk_base.specs.Pairs.{pairs_of, objects_of}
 use Rattle.tk_base.specs.declared.ids.Obj.{Obj}
-use Rattle.tk_border.specs.Levels.{level_at}
 use Rattle.tk_monitor.specs.Board.{factors_over, AreFactors, IsBoard}
 use Rattle.tk_monitor.proofs.BoardLemmas.{factors_limits, factors_more, objects-factors, change_within, change_from_one}
 use Rattle.tk_monitor.proofs.board.Board.factors.Goals as goal

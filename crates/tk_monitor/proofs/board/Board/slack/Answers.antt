@@ -1,9 +1,8 @@
-use Rattle.std.proofs.Common.{◌≡◌, ℕ, ◌<◌, ◌∙◌, List, length, Option, Some, None, subst, arith, ap, ap₂, sym, to_z, of_z}
-use Rattle.std.specs.Prelude.{ℤ, ◌-ℤ◌, FitsSigned}
+use Rattle.std.proofs.Common.{◌≡◌, ◌<◌, ◌∙◌, length, Some, arith, ap, ap₂, sym, to_z, of_z}
+use Rattle.std.specs.Prelude.{◌-ℤ◌}
 use Rattle.std.specs.Int.{w128}
-use Rattle.std.proofs.lemmas.Int.{ints, to_z-of_z}
+use Rattle.std.proofs.lemmas.Int.{ints}
 use Rattle.tk_border.specs.Levels.{least_member, greatest_outside}
-use Rattle.tk_border.proofs.LevelLemmas.{small_least}
 use Rattle.tk_trail.specs.Slack.{difference}
 use Rattle.tk_monitor.specs.Board.{Standing}
 use Rattle.tk_monitor.proofs.BoardLemmas.{board_small, no_members, small_greatest}

@@ -1,7 +1,6 @@
-use Rattle.std.proofs.Common.{◌≡◌, ℕ, ◌+◌, [], ◌∷◌, ◌++◌, length, arith, ap, sym, ◌∙◌, subst, List}
+use Rattle.std.proofs.Common.{◌≡◌, ◌+◌, length, arith, ap}
 use Rattle.std.proofs.lemmas.List.{length_push}
-use Rattle.tk_monitor.specs.Log.{Logged, ArePlacesSent}
-use Rattle.tk_trail.specs.declared.entry.Entry.{Entry}
+use Rattle.tk_monitor.specs.Log.{Logged}
 use Rattle.tk_trail.specs.declared.entry.Entry.TheVariants.{Sent}
 use Rattle.tk_monitor.proofs.LogLemmas.{places-sent}
 use Rattle.tk_monitor.proofs.log.Log.sent.Goals as goal

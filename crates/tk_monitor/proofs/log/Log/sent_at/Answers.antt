@@ -1,12 +1,11 @@
-use Rattle.std.proofs.Common.{◌≡◌, ℕ, ◌<◌, List, length, get_or, Option, Some, arith, ap, sym, ◌∙◌}
+use Rattle.std.proofs.Common.{◌≡◌, ◌<◌, List, length, get_or, Some, arith, ap, sym, ◌∙◌}
 use Rattle.std.specs.Prelude.{slice_get}
 use Rattle.std.proofs.lemmas.List.{get_or_default}
-use Rattle.tk_frames.specs.declared.frame.Frame.{Frame}
 use Rattle.tk_monitor.specs.Log.{Logged}
 use Rattle.tk_trail.specs.Readings.{sent_by}
 use Rattle.tk_trail.specs.declared.entry.Entry.{Entry}
 use Rattle.tk_trail.specs.declared.entry.Entry.TheVariants.{Sent}
-use Rattle.tk_monitor.proofs.LogLemmas.{SentAt, sent_place, got_within, got_is}
+use Rattle.tk_monitor.proofs.LogLemmas.{sent_place, got_within, got_is}
 use Rattle.tk_monitor.proofs.log.Log.sent_at.Goals as goal
 
 pub index-requires-2 : goal.index-requires-2

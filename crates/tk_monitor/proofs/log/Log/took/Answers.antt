@@ -1,7 +1,6 @@
-use Rattle.std.proofs.Common.{◌≡◌, ℕ, ◌+◌, [], ◌∷◌, length, arith, ap}
+use Rattle.std.proofs.Common.{◌≡◌, ◌+◌, length, arith, ap}
 use Rattle.std.proofs.lemmas.List.{length_push}
 use Rattle.tk_monitor.specs.Log.{Logged}
-use Rattle.tk_trail.specs.declared.entry.Entry.{Entry}
 use Rattle.tk_trail.specs.declared.entry.Entry.TheVariants.{Took}
 use Rattle.tk_monitor.proofs.LogLemmas.{places-took}
 use Rattle.tk_monitor.proofs.log.Log.took.Goals as goal

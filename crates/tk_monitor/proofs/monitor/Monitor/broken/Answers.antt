@@ -1,7 +1,4 @@
-use Rattle.std.proofs.Common.{◌≡◌, ℕ, ◌==◌, ◌∙◌, List, length, ap, sym, arith, to_z, of_z}
-use Rattle.std.specs.Prelude.{FitsSigned}
-use Rattle.std.specs.Int.{w128}
-use Rattle.std.proofs.lemmas.Int.{ints, to_z-of_z}
+use Rattle.std.proofs.Common.{◌∙◌, ap}
 use Rattle.tk_trail.specs.Setup.{MonitorSetup}
 use Rattle.tk_monitor.specs.Monitored.{Monitored}
 use Rattle.tk_trail.specs.Readings.{is_broken}

@@ -1,19 +1,5 @@
-use Rattle.std.proofs.Common.{◌≡◌, ℕ, ◌<◌, ◌≤◌, ◌∷◌, ◌++◌, [], ◌∙◌, ◌==◌, List, length, true, false, None, ap, ap₂, sym, subst, arith}
-use Rattle.std.specs.Prelude.{All}
-use Rattle.tk_frames.specs.declared.frame.Frame.{Frame}
-use Rattle.tk_frames.specs.declared.frame.Frame.TheVariants as f
-use Rattle.tk_trail.specs.Setup.{MonitorSetup}
-use Rattle.tk_trail.specs.Readings.{at_ends, seq_of}
-use Rattle.tk_trail.specs.Frames.{report_at, settled_at, report_is_due, end_is_due}
-use Rattle.tk_trail.specs.Refusal.{refusal_of}
-use Rattle.tk_trail.specs.Legal.{after_take, after_check}
+use Rattle.std.proofs.Common.{◌∙◌, List, ap}
 use Rattle.tk_trail.specs.declared.entry.Entry.{Entry}
-use Rattle.tk_trail.specs.declared.entry.Entry.TheVariants as e
-use Rattle.tk_monitor.specs.Board.{Standing}
-use Rattle.tk_monitor.specs.Log.{Logged}
-use Rattle.tk_monitor.specs.Kept.{report_on}
-use Rattle.tk_monitor.specs.Monitored.{Monitored, checked_at}
-use Rattle.tk_monitor.specs.declared.phase.Phase.{Phase}
 use Rattle.tk_monitor.proofs.KeptLemmas.{reported_when, told_when, nothing_when, due_ends, after_report, after_end, after_nothing}
 use Rattle.tk_monitor.proofs.monitor.Monitor.check.Goals as goal
 

@@ -1,5 +1,5 @@
-use Rattle.std.proofs.Common.{◌≡◌, ℕ, ◌≤◌, ◌∙◌, List, [], length, ap, ap₂, sym, subst, arith, refl}
-use Rattle.std.specs.Prelude.{ℤ, pos, replicate}
+use Rattle.std.proofs.Common.{◌≡◌, ℕ, ◌∙◌, List, [], length, ap, ap₂, sym, subst, arith}
+use Rattle.std.specs.Prelude.{ℤ, pos}
 use Rattle.std.proofs.lemmas.List.{length-replicate}
 use Rattle.tk_input.specs.Logs.{AreParts, ArePlaces}
 use Rattle.tk_trail.specs.Setup.{MonitorSetup}
@@ -8,7 +8,7 @@ use Rattle.tk_trail.specs.Legal.{IsLegal}
 use Rattle.tk_trail.proofs.PlacesLemmas.{places_at-start}
 use Rattle.tk_monitor.specs.Board.{Standing}
 use Rattle.tk_monitor.specs.Log.{Logged}
-use Rattle.tk_monitor.specs.Kept.{IsKept, standing_of, phase_of, left_in}
+use Rattle.tk_monitor.specs.Kept.{standing_of, phase_of, left_in}
 use Rattle.tk_monitor.specs.Start.{StandsAt}
 use Rattle.tk_monitor.proofs.StartLemmas.{start_standing, start_legal}
 use Rattle.tk_monitor.proofs.monitor.Monitor.new.Goals as goal

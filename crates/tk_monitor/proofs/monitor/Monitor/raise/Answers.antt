@@ -1,20 +1,15 @@
-use Rattle.std.proofs.Common.{◌≡◌, ℕ, ◌+◌, ◌-◌, ◌<◌, ◌≤◌, ◌∙◌, ◌∷◌, ◌++◌, [], List, length, get_or, set, suc, Option, Some, None, ap, ap₂, sym, subst, refl, arith, to_z, of_z}
-use Rattle.std.specs.Prelude.{ℤ, ◌+ℤ◌, FitsSigned, slice_get, slice_set, option_map}
+use Rattle.std.proofs.Common.{◌≡◌, ℕ, ◌+◌, ◌-◌, ◌≤◌, ◌∙◌, ◌∷◌, ◌++◌, [], List, length, get_or, suc, Some, None, ap, ap₂, sym, subst, refl, arith}
+use Rattle.std.specs.Prelude.{ℤ, FitsSigned, option_map}
 use Rattle.std.specs.Int.{w128}
 use Rattle.std.proofs.lemmas.Int.{ints, to_z-of_z}
 use Rattle.std.proofs.lemmas.List.{get_or_default}
-use Rattle.tk_input.specs.Logs.{ArePlaces}
 use Rattle.tk_input.specs.declared.change.Change.{Change}
-use Rattle.tk_border.specs.Levels.{level_at}
 use Rattle.tk_trail.specs.Setup.{MonitorSetup}
 use Rattle.tk_trail.specs.declared.entry.Entry.TheVariants as e
-use Rattle.tk_trail.specs.Legal.{IsLegal, HasNext, place_of, part_length}
-use Rattle.tk_trail.specs.Readings.{is_broken}
-use Rattle.tk_monitor.specs.Board.{Standing}
+use Rattle.tk_trail.specs.Legal.{HasNext, place_of, part_length}
 use Rattle.tk_monitor.specs.Log.{Logged}
-use Rattle.tk_monitor.specs.Kept.{IsKept, next_in, left_in, shifted}
-use Rattle.tk_monitor.specs.Monitored.{Monitored, Raises}
-use Rattle.tk_monitor.specs.declared.outcome.Raised.TheVariants.{Done, Ended}
+use Rattle.tk_monitor.specs.Kept.{next_in, shifted}
+use Rattle.tk_monitor.specs.Monitored.{Monitored}
 use Rattle.tk_monitor.proofs.PartsLemmas.{left_less, got_below}
 use Rattle.tk_monitor.proofs.KeptLemmas.{kept_places, kept_next, kept_raised, kept_small, kept_size, kept_broken, kept_ended, change_object}
 use Rattle.tk_monitor.proofs.monitor.Monitor.raise.Goals as goal

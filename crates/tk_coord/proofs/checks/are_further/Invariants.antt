@@ -1,0 +1,6 @@
+use Rattle.std.proofs.Common.{◌≡◌, ℕ, ◌<◌, true, get_or}
+use Rattle.std.specs.Prelude.{nat_le}
+use Rattle.tk_coord.proofs.checks.are_further.Given as goal
+
+abbrev pub invariant-loop-f : goal.invariant-loop-f
+invariant-loop-f l = (k : ℕ) → k < l.f → nat_le (get_or l.earlier k 0) (get_or l.places k 0) ≡ true

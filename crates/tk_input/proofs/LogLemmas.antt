@@ -1,0 +1,58 @@
+-- One more change of a log.
+use Rattle.std.proofs.Common.{◌≡◌, ℕ, ℤ, List, [], ◌∷◌, ◌++◌, length, Some, None, Result, Ok, sym, ap, subst, ◌∙◌, arith}
+use Rattle.std.proofs.lemmas.List.{length-map, map-append}
+use Rattle.csv.specs.Records.{field_at}
+use Rattle.tk_input.specs.Log.{IsFault, both_fields, change_added, log_of, next_change}
+use Rattle.tk_input.specs.Part.{changes_of, pair_of}
+use Rattle.tk_input.specs.Records.{and_then, records_in, through}
+use Rattle.tk_input.specs.declared.change.Change.{Change}
+use Rattle.tk_input.specs.declared.part.PartFault.{PartFault}
+use Rattle.tk_input.specs.declared.part.PartFault.TheVariants.{BadNumber, BadRow, NoMemory, TooMany, UnknownName}
+use Rattle.tk_input.proofs.ThroughLemmas.{through-none}
+
+-- a record of two fields has its first one
+pub no_first : (fields : List (List ℕ)) → length fields ≡ 2 → field_at fields 0 ≡ None → ⊥
+unfolding field_at
+no_first [] two none = absurd (omega (arith, two))
+no_first (name ∷ rest) two none = absurd (cc)
+
+-- and its second one
+pub no_second : (fields : List (List ℕ)) → length fields ≡ 2 → field_at fields 1 ≡ None → ⊥
+unfolding field_at
+no_second [] two none = absurd (omega (arith, two))
+no_second (name ∷ []) two none = absurd (omega (arith, two))
+no_second (name ∷ text ∷ rest) two none = absurd (cc)
+
+-- the two fields of a record that has two
+pub both_found : (fields : List (List ℕ)) (name text : List ℕ) → length fields ≡ 2 → Some name ≡ field_at fields 0 → Some text ≡ field_at fields 1 → Some (name, text) ≡ both_fields fields
+unfolding field_at
+both_found [] name text two first second = absurd (omega (arith, two))
+both_found (a ∷ []) name text two first second = absurd (omega (arith, two))
+both_found (a ∷ b ∷ []) name text two first second = let x : name ≡ a = cc in let y : text ≡ b = cc in ap (λ (n : List ℕ). Some (n, text)) x ∙ ap (λ (t : List ℕ). Some (a, t)) y
+both_found (a ∷ b ∷ c ∷ rest) name text two first second = absurd (omega (arith, two))
+
+-- a record that is a change adds it
+pub change_next : (names : List (List ℕ)) (items : List Change) (change : Change) (n : ℕ) (fields : List (List ℕ)) → n ≡ length items → next_change names n fields ≡ Ok (pair_of change) → change_added names (changes_of items) fields ≡ Ok (changes_of (items ++ change ∷ []))
+change_next names items change n fields so_many read =
+    ap (λ (k : ℕ). and_then (λ more. Ok (changes_of items ++ more ∷ [])) (next_change names k fields)) (length-map items pair_of ∙ sym so_many)
+    ∙ ap (and_then (λ more. Ok (changes_of items ++ more ∷ []))) read
+    ∙ ap (λ (all : List (ℕ × ℤ)). Ok all) (sym (map-append pair_of items (change ∷ [])))
+
+fault_ends : {A B : Type 0} (r : Result A PartFault) (e : PartFault) (further : A → Result B PartFault) → IsFault e r → IsFault e (and_then further r)
+fault_ends r TooMany further is = ap (and_then further) is
+fault_ends r (BadRow n) further is = ap (and_then further) is
+fault_ends r (UnknownName n) further is = ap (and_then further) is
+fault_ends r (BadNumber n) further is = ap (and_then further) is
+fault_ends r NoMemory further is = tt
+
+-- the fault of a record is that of the file
+pub log_fault : (names : List (List ℕ)) (bytes : List ℕ) (items : List Change) (n : ℕ) (fields : List (List ℕ)) (rest rows : List (List (List ℕ))) (e : PartFault) → through (change_added names) (changes_of items) rows ≡ through (change_added names) [] (records_in bytes) → rows ≡ fields ∷ rest → n ≡ length items → IsFault e (next_change names n fields) → IsFault e (log_of names bytes)
+unfolding through
+log_fault names bytes items n fields rest rows e same is so_many fault =
+    let here : IsFault e (next_change names (length (changes_of items)) fields) = subst (λ (k : ℕ). IsFault e (next_change names k fields)) (so_many ∙ sym (length-map items pair_of)) fault in
+    subst (λ (r : Result (List (ℕ × ℤ)) PartFault). IsFault e r) same
+    (rw is (fault_ends (change_added names (changes_of items) fields) e (λ after. through (change_added names) after rest) (fault_ends (next_change names (length (changes_of items)) fields) e (λ change. Ok (changes_of items ++ change ∷ [])) here)))
+
+-- after the last record the changes so far are all
+pub log_ends : (names : List (List ℕ)) (bytes : List ℕ) (items : List Change) (rows : List (List (List ℕ))) → through (change_added names) (changes_of items) rows ≡ through (change_added names) [] (records_in bytes) → rows ≡ [] → log_of names bytes ≡ Ok (changes_of items)
+log_ends names bytes items rows same is = sym same ∙ through-none (change_added names) (changes_of items) rows is

@@ -1,0 +1,37 @@
+use Rattle.std.proofs.Common.{◌≡◌, ◌+◌, ℕ, Bool, true, false, List, ◌∷◌, [], ◌++◌, length, Some, Ok, Err, bytes_eq, sym, ap, ◌∙◌, arith}
+use Rattle.std.specs.Prelude.{nat_le, if◌then◌else◌}
+use Rattle.std.specs.List.{list_any}
+use Rattle.std.proofs.lemmas.Bool.{lt-leb}
+use Rattle.csv.specs.Records.{fields_of}
+use Rattle.tk_input.specs.Catalog.{names_of, only_field}
+use Rattle.tk_input.specs.declared.catalog.CatalogFault.TheVariants.{Repeated}
+use Rattle.tk_input.proofs.NamesLemmas.{name_added-proper, names_of-push, length-names_of, any-names_of}
+use Rattle.tk_input.proofs.catalog.take_name.Goals as goal
+
+pub returns-then-contains-clause-err : goal.returns-then-contains-clause-err
+returns-then-contains-clause-err c =
+    let keys = c.args.names.now.keys in
+    let names = names_of keys in
+    let name = c.in-Some.name.now in
+    let few : nat_le 65536 (length names) ≡ false = lt-leb 65536 (length names) (omega (arith, length-names_of keys, c.len.ensures.len, c.if-len-ge-MAX_OBJECTS.false)) in
+    let one : only_field (fields_of c.args.row.now) ≡ Some name = sym c.in-Some.ensures in
+    let again : list_any (λ n. bytes_eq name n) names ≡ true = any-names_of name keys ∙ sym c.contains.ensures ∙ c.if-contains.true in
+    let number : length names + 1 ≡ c.len-2.result + 1 = omega (arith, length-names_of keys, c.len-2.ensures.len) in
+    name_added-proper names (fields_of c.args.row.now) name few one (sym c.is_name.ensures ∙ c.if-not-is_name.false)
+    ∙ ap (λ (b : Bool). if b then Err (Repeated (length names + 1)) else Ok (names ++ name ∷ [])) again
+    ∙ ap (λ (n : ℕ). Err (Repeated n)) number
+
+pub returns-clause-ok : goal.returns-clause-ok
+returns-clause-ok c =
+    let keys = c.args.names.now.keys in
+    let names = names_of keys in
+    let name = c.in-Some.name.now in
+    let key = c.in_ok-from_slice.field-0 in
+    let few : nat_le 65536 (length names) ≡ false = lt-leb 65536 (length names) (omega (arith, length-names_of keys, c.len.ensures.len, c.if-len-ge-MAX_OBJECTS.false)) in
+    let one : only_field (fields_of c.args.row.now) ≡ Some name = sym c.in-Some.ensures in
+    let fresh : list_any (λ k. bytes_eq name k.items) keys ≡ false = sym c.contains.ensures ∙ c.if-contains.false in
+    let added : c.insert.new.self.keys ≡ keys ++ key ∷ [] = c.in_ok-insert.ensures.keys ∙ ap (λ (b : Bool). if b then keys else keys ++ key ∷ []) (ap (λ (bytes : List ℕ). list_any (λ k. bytes_eq bytes k.items) keys) c.in_ok-from_slice.ensures.items ∙ fresh) in
+    name_added-proper names (fields_of c.args.row.now) name few one (sym c.is_name.ensures ∙ c.if-not-is_name.false)
+    ∙ ap (λ (b : Bool). if b then Err (Repeated (length names + 1)) else Ok (names ++ name ∷ [])) (any-names_of name keys ∙ fresh)
+    ∙ ap (λ (bytes : List ℕ). Ok (names ++ bytes ∷ [])) (sym c.in_ok-from_slice.ensures.items)
+    ∙ ap (λ (all : List (List ℕ)). Ok all) (sym (names_of-push keys key) ∙ ap (λ ks. names_of ks) (sym added))

@@ -1,0 +1,108 @@
+ghost use Rattle.std.specs.Prelude.{◌≡◌, ℕ, ◌<◌, ◌≤◌, ℤ, pos, List, [], ◌∷◌, ◌++◌, length, map, true, false, Some, None};
+ghost use Rattle.std.specs.List.{range_with_len};
+ghost use Rattle.tk_base.specs.Pairs.{objects_of};
+ghost use Rattle.tk_base.specs.Settings.{Setup, IsWithinLimits};
+ghost use Rattle.tk_base.specs.Sum.{int_sum};
+ghost use Rattle.tk_frames.specs.Assigns.{members_of};
+ghost use Rattle.tk_base.specs.History.{EachFrom};
+ghost use Rattle.tk_frames.specs.declared.frame.Frame.{Frame};
+ghost use Rattle.tk_frames.specs.declared.frame.Frame.TheVariants as f;
+ghost use Rattle.tk_alloc.specs.Limit.{CanDeal};
+ghost use Rattle.tk_alloc.specs.Resolving.{objects_over};
+ghost use Rattle.tk_journal.specs.Deciding.{reports_at};
+ghost use Rattle.tk_journal.specs.Laws.{AreFactorsSmall, AreMembers, AreNotLast, AreRoundsCounted, AreSentShort, HasEnded, IsMonitor, IsSetUp, KeepsConstraint, SaysWhatIsDue};
+ghost use Rattle.tk_journal.specs.Legal.{Opening, IsLegal, start};
+ghost use Rattle.tk_journal.specs.Publishing.{publications};
+ghost use Rattle.tk_journal.specs.Refusal.{refusal_of};
+ghost use Rattle.tk_journal.specs.Turns.{is_wide, reported};
+ghost use Rattle.tk_journal.specs.Readings.{answer_of, assigns_sent, assigns_to, factor, in_force, is_answer, is_open, members_at, monitors, is_stopped, own, seqs_to, table_at};
+ghost use Rattle.tk_journal.specs.declared.noted.Noted.{Noted};
+ghost use Rattle.tk_journal.specs.declared.noted.Noted.TheVariants as n;
+
+/// The factors of an object, the coordinator's own included, sum to zero.
+pub fn factors_sum_to_zero()
+    ensures { (s : Setup) (j : List Noted) (o : ℕ) → int_sum (own s j o ∷ map (λ mon. factor mon j o) (monitors s)) ≡ pos 0 }
+{}
+
+/// A journal may start from members 1 to k and no factors.
+pub fn a_start_is_set_up()
+    ensures { (s : Setup) → IsWithinLimits s → IsSetUp (start s) }
+{}
+
+/// The members are as many as k says, in ascending order, and of the catalogue.
+pub fn members_are_k_objects()
+    ensures { (o : Opening) (j : List Noted) → IsSetUp o → IsLegal o j → AreMembers o.settings j }
+{}
+
+/// The coordinator's constraint holds after every turn, with the epsilon in force.
+pub fn the_constraint_is_kept()
+    ensures { (o : Opening) (j : List Noted) → IsSetUp o → IsLegal o j → KeepsConstraint o.settings j }
+{}
+
+/// No factor passes its limit.
+pub fn factors_are_small()
+    ensures { (o : Opening) (j : List Noted) → IsSetUp o → IsLegal o j → AreFactorsSmall o.settings j }
+{}
+
+/// Every frame that is sent fits in both versions: it has no more items than there can be objects.
+pub fn frames_are_short()
+    ensures { (o : Opening) (j : List Noted) → IsSetUp o → IsLegal o j → AreSentShort j }
+{}
+
+/// A fresh Report that is taken can be dealt with in a short round, or open a full one: no number leaves its bounds.
+pub fn a_report_can_be_dealt_with()
+    ensures { (o : Opening) (j : List Noted) (mon seq : ℕ) (border : ℤ) (failed : List ℕ) (values : List (ℕ × ℤ))
+        → IsSetUp o → IsLegal o j → IsMonitor o.settings mon
+        → refusal_of o.settings j mon (f.Report seq border failed values) ≡ None → seq ≡ assigns_sent mon j
+        → CanDeal (in_force o.settings j) (table_at o.settings j) (members_at j) (objects_of values) (reported mon border values ∷ []) }
+{}
+
+/// The Values that end a full round leave reports that it can be dealt with.
+pub fn a_full_round_can_be_dealt_with()
+    ensures { (o : Opening) (j : List Noted) (mon round seq : ℕ) (border : ℤ) (values : List (ℕ × ℤ))
+        → IsSetUp o → IsLegal o j → IsMonitor o.settings mon
+        → refusal_of o.settings j mon (f.Values round seq border values) ≡ None
+        → let now = j ++ n.Got (record { 0 = mon }) (f.Values round seq border values) ∷ [] in
+        is_open o.settings now ≡ false → is_wide o.settings now ≡ false
+        → CanDeal (in_force o.settings now) (table_at o.settings now) (members_at now) (objects_over (reports_at o.settings now)) (reports_at o.settings now) }
+{}
+
+/// The numbers of rounds count up.
+pub fn rounds_are_counted()
+    ensures { (o : Opening) (j : List Noted) → IsSetUp o → IsLegal o j → AreRoundsCounted o.settings j }
+{}
+
+/// Stop is sent behind the final publication, to every monitor, and nothing follows.
+pub fn stop_ends_the_journal()
+    ensures { (o : Opening) (j : List Noted) → IsSetUp o → IsLegal o j → is_stopped j ≡ true → HasEnded o.settings j }
+{}
+
+/// Before that no publication is the last.
+pub fn only_the_final_one_is_last()
+    ensures { (o : Opening) (j : List Noted) → IsSetUp o → IsLegal o j → is_stopped j ≡ false → AreNotLast (publications j) }
+{}
+
+/// A current answer is fresh: it speaks of the last Assign.
+pub fn answers_are_fresh()
+    ensures { (mon : ℕ) (j : List Noted) (answer : Frame) → answer_of mon j ≡ Some answer → is_answer (assigns_sent mon j) answer ≡ true }
+{}
+
+/// The last Assign to each monitor names the members.
+pub fn each_monitor_is_sent_the_members()
+    ensures { (o : Opening) (j : List Noted) (mon : ℕ) → IsSetUp o → IsLegal o j → IsMonitor o.settings mon → members_of (assigns_to mon j) ≡ members_at j }
+{}
+
+/// The sequence numbers of the Assigns to each monitor count up from 1.
+pub fn assigns_are_numbered()
+    ensures { (o : Opening) (j : List Noted) (mon : ℕ) → IsSetUp o → IsLegal o j → IsMonitor o.settings mon → seqs_to mon j ≡ range_with_len 1 (assigns_sent mon j) }
+{}
+
+/// Publications are numbered from 1.
+pub fn publications_are_numbered()
+    ensures { (o : Opening) (j : List Noted) → IsLegal o j → map (λ p. p.number) (publications j) ≡ range_with_len 1 (length (publications j)) }
+{}
+
+/// A publication stands only where one is due, and says what there is to say.
+pub fn publications_are_due()
+    ensures { (o : Opening) (j : List Noted) → IsLegal o j → EachFrom (SaysWhatIsDue o.settings) [] j }
+{}
