@@ -81,10 +81,9 @@ gathered_called setup grid present reports first sums members g = record {
 
 -- what the code deals by is the round's
 pub gathered_set : (setup : Setup) (grid : Grid) (present : List ℕ) (reports : List Reported) (first : Reported) (sums : List (ℕ × ℤ)) (members : List ℕ) (weight : ℕ) (border epsilon : ℤ) (values : List (ℕ × ℤ))
-    → IsGathered setup grid present reports first sums members → weight ≡ setup.own_weight → border ≡ round_border setup grid present (objects_of first.values) → epsilon ≡ setup.epsilon
+    → IsGathered setup grid present reports first sums members → weight ≡ setup.own_weight → border ≡ round_border setup grid present (objects_over reports) → epsilon ≡ setup.epsilon
     → values ≡ map (λ o. (o, if is_in members o then epsilon else pos 0)) (objects_of sums) → IsSet setup grid present (chosen setup present reports (objects_over reports)) (objects_over reports) weight border values
 gathered_set setup grid present reports first sums members weight border epsilon values g w b e v =
-    set_of setup grid present (chosen setup present reports (objects_over reports)) (objects_over reports) weight border epsilon values w
-    (b ∙ ap (round_border setup grid present) (gathered_over setup grid present reports first sums members g)) e
+    set_of setup grid present (chosen setup present reports (objects_over reports)) (objects_over reports) weight border epsilon values w b e
     (v ∙ ap (map (λ o. (o, if is_in members o then epsilon else pos 0))) (gathered_objects setup grid present reports first sums members g)
     ∙ ap (λ (m : List ℕ). map (λ o. (o, if is_in m o then epsilon else pos 0)) (objects_over reports)) (gathered_members setup grid present reports first sums members g))

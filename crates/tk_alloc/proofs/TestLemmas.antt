@@ -1,17 +1,20 @@
 -- What the tests' reports are.
-use Rattle.std.proofs.Common.{◌≡◌, ℕ, suc, zero, ◌<◌, ◌≤◌, ◌^◌, ℤ, pos, ◌+ℤ◌, ◌≤ℤ◌, unsigned_abs, List, [], ◌∷◌, length, map, Contains, refl, sym, ap, ◌∙◌, subst, arith, inl, inr}
+use Rattle.std.proofs.Common.{◌≡◌, ℕ, suc, zero, ◌<◌, ◌≤◌, ◌^◌, ℤ, pos, ◌+ℤ◌, ◌≤ℤ◌, unsigned_abs, List, [], ◌∷◌, length, map, get_or, Contains, Some, None, refl, sym, ap, ap₂, ◌∙◌, subst, arith, inl, inr}
 use Rattle.std.specs.List.{All, range_with_len}
 use Rattle.std.proofs.lemmas.Int.{ints}
 use Rattle.std.proofs.lemmas.Bool.{cases_eq}
+use Rattle.std.proofs.lemmas.List.{length-map}
 use Rattle.std.proofs.lemmas.List.Elements.{All-nil, All-cons}
 use Rattle.tk_base.specs.Objects.{objects}
 use Rattle.tk_base.specs.Pairs.{objects_of}
 use Rattle.tk_base.specs.Settings.{Setup}
+use Rattle.tk_border.specs.Levels.{level_at, least_of, greatest_of, least_member, outside, greatest_outside}
 use Rattle.tk_rows.specs.Factors.{Grid, factor_at}
 use Rattle.tk_alloc.specs.Parts.{value_of}
-use Rattle.tk_alloc.specs.Resolving.{CanTakePart, IsReady, objects_over}
+use Rattle.tk_alloc.specs.Resolving.{CanTakePart, IsReady, objects_over, own_factors, round_border}
 use Rattle.tk_alloc.specs.declared.reported.Reported.{Reported}
 use Rattle.tk_alloc.specs.Rounds.{AreValues, AreReports}
+use Rattle.tk_alloc.proofs.BorderLemmas.{border_inside, own_level}
 
 two_values : (a b : ℤ) → unsigned_abs a ≤ 2 ^ 100 → unsigned_abs b ≤ 2 ^ 100 → AreValues (1 ∷ 2 ∷ []) ((1, a) ∷ (2, b) ∷ [])
 two_values a b small slight = record {
@@ -60,6 +63,29 @@ two_ready setup grid present all k objects monitors no_debt rows nodes members o
       ] in
       omega (arith, ints, no_debt, first, second, ap (factor_at grid 0) one, ap (factor_at grid 0) two);
 }
+
+-- nothing is outside both objects
+outside_none : (n : ℕ) (all : List ℕ) → n ≡ 2 → all ≡ 1 ∷ 2 ∷ [] → outside n all ≡ []
+unfolding objects
+outside_none n all two over = ap₂ outside two over
+
+-- so there is no greatest level outside
+greatest_none : (levels : List ℤ) (all : List ℕ) → length levels ≡ 2 → all ≡ 1 ∷ 2 ∷ [] → greatest_outside levels all ≡ None
+unfolding greatest_of
+greatest_none levels all two over = ap (λ (os : List ℕ). greatest_of (map (level_at levels) os)) (outside_none (length levels) all two over)
+
+-- the least level of a member is that of the only one
+least_sole : (levels : List ℤ) (present : List ℕ) → present ≡ 1 ∷ [] → least_member levels present ≡ Some (level_at levels 1)
+unfolding least_of
+least_sole levels present members = ap (λ (os : List ℕ). least_of (map (level_at levels) os)) members
+
+-- the coordinator's border over both objects, where the member's own factor is 0, is epsilon
+pub two_border : (setup : Setup) (grid : Grid) (present all : List ℕ) → length grid.rows ≡ 2 → present ≡ 1 ∷ [] → all ≡ 1 ∷ 2 ∷ [] → factor_at grid 0 1 ≡ pos 0 → round_border setup grid present all ≡ setup.epsilon
+two_border setup grid present all rows members over first =
+    let own = own_factors grid in
+    let none = greatest_none own all (length-map grid.rows (λ (row : List ℤ). get_or row 0 (pos 0)) ∙ rows) over in
+    let inside = border_inside setup grid present all (level_at own 1) none (least_sole own present members) in
+    omega (arith, ints, inside, own_level grid 1, first)
 
 -- a report of both objects
 pub two_take : (grid : Grid) (present all : List ℕ) (report : Reported) (a b border factor : ℤ) → present ≡ 1 ∷ [] → all ≡ 1 ∷ 2 ∷ [] → report.values ≡ (1, a) ∷ (2, b) ∷ [] → report.border ≡ border

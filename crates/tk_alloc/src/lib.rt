@@ -23,9 +23,9 @@ mod tests;
 mod wide_round;
 
 pub use alloc_fault::AllocFault;
-pub use full_round::full;
+pub use full_round::{full, full_with_border};
 pub use laws::rounds_stay_small;
 pub use picking::pick;
 pub use reported::Reported;
-pub use short_round::{short, short_test};
+pub use short_round::{short, short_test, short_with_border};
 pub use wide_round::wide;

@@ -3,7 +3,7 @@ ghost use Rattle.std.specs.List.{All};
 ghost use Rattle.tk_base.specs.Pairs.{objects_of};
 ghost use Rattle.tk_rows.specs.Replacing.{IsReplacement};
 ghost use Rattle.tk_alloc.specs.Limit.{AreAllWithin, TellsFault, short_factors};
-ghost use Rattle.tk_alloc.specs.Resolving.{CanTakePart, IsReady, IsShortRound, PassesShortTest};
+ghost use Rattle.tk_alloc.specs.Resolving.{CanTakePart, IsReady, IsShortRound, PassesShortTest, round_border};
 ghost use Rattle.tk_alloc.specs.Rounds.{AreValues, KeepsLevels, KeepsOwn};
 ghost use Rattle.tk_alloc.specs.Search.{BoundsOthers, IsReachedBelow, joint_of};
 
@@ -70,8 +70,9 @@ pub fn short_test(settings: &Settings, table: &Table, members: &ObjSet, report: 
     true
 }
 
-/// The round of the coordinator and one monitor, over the objects of its report. It keeps the members. Its
-/// cost is the objects of the report, and one look at each object of the table.
+/// The round of the coordinator and one monitor, over the objects of its report. It keeps the members. It
+/// scans the table for the coordinator's border: its cost is the objects of the report, and one look at each
+/// object of the table.
 pub fn short(
     alloc: Global,
     settings: &Settings,
@@ -94,10 +95,40 @@ pub fn short(
     ensures own { IfOk result (λ r. KeepsOwn table.now settings.now.epsilon r) }
     ensures levels { IfOk result (λ r. KeepsLevels table.now r report.now) }
 {
+    let border = own_border(settings, table, members, &report.values);
+    short_with_border(alloc, settings, table, members, report, border)
+}
+
+/// The same round, to which the caller brings the coordinator's border. Its cost is the objects of the
+/// report: it does not look at the rest of the table.
+pub fn short_with_border(
+    alloc: Global,
+    settings: &Settings,
+    table: &Table,
+    members: &ObjSet,
+    report: &Reported,
+    own_border: i128,
+) -> Result<Reallocation, AllocFault>
+    requires ready { IsReady settings.now table.now members.now (objects_of report.now.values) }
+    requires report { CanTakePart table.now members.now (objects_of report.now.values) report.now }
+    requires test { PassesShortTest settings.now table.now members.now report.now }
+    requires border { own_border ≡ round_border settings.now table.now members.now (objects_of report.now.values) }
+    // which factors
+    ensures value { IfOk result (IsShortRound settings.now table.now members.now report.now) }
+    // a fault names the first factor past the limit, if there is one
+    ensures within { IfOk result (λ _.
+        AreAllWithin (short_factors settings.now table.now members.now report.now)) }
+    ensures past { IfErr result (TellsFault (short_factors settings.now table.now members.now report.now)) }
+    // a table can take them
+    ensures fits { IfOk result (λ r. IsReplacement table.now r) }
+    // the constraints hold
+    ensures own { IfOk result (λ r. KeepsOwn table.now settings.now.epsilon r) }
+    ensures levels { IfOk result (λ r. KeepsLevels table.now r report.now) }
+{
     table.promise();
     let terms = Terms {
         own_weight: settings.own_weight(),
-        own_border: own_border(settings, table, members, &report.values),
+        own_border,
         own_values: own_values(alloc, settings.epsilon(), members, &report.values)?,
         borders: Borders::AsReported,
     };

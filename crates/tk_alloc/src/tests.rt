@@ -1,6 +1,8 @@
 ghost use Rattle.std.specs.Prelude.{◌≡◌, ◌≤ℤ◌, pos, [], ◌∷◌, IfOk};
 
-use crate::{AllocFault, Reported, full, pick, short, short_test, wide};
+use crate::{
+    AllocFault, Reported, full, full_with_border, pick, short, short_test, short_with_border, wide,
+};
 use std::alloc::Global;
 use std::test::Fail;
 use tk_base::{Mon, Obj, ObjSet, Pairs, Settings};
@@ -162,6 +164,9 @@ fn short_round(rt: HostRuntime) -> Result<(), Fail> {
     assert_eq!(rt; found.at.len(), 1);
     assert_eq!(rt; found.at[0].mon, Mon(2));
     assert!(rt; found.at[0].changes == pairs(alloc, 0, -4)?);
+    // No object is left out, so the border is the member's own factor, which is 0, and epsilon.
+    let again = short_with_border(alloc, &near, &table, &members, &report, near.epsilon())?;
+    assert!(rt; is_same(&again, &found));
     Ok(())
 }
 
@@ -178,6 +183,16 @@ fn full_round(rt: HostRuntime) -> Result<(), Fail> {
     let own = pairs(alloc, 0, 0)?;
     let wanted = reallocation(alloc, 1, own, pairs(alloc, 0, 4)?, pairs(alloc, 0, -4)?)?;
     assert!(rt; is_same(&found, &wanted));
+    let border = settings.epsilon();
+    let again = full_with_border(
+        alloc,
+        &settings,
+        &table,
+        &members,
+        reports.as_slice(),
+        border,
+    )?;
+    assert!(rt; is_same(&again, &wanted));
     Ok(())
 }
 

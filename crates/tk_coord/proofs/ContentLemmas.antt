@@ -1,7 +1,8 @@
 -- The tests of the content of Reports and Values.
-use Rattle.std.proofs.Common.{◌≡◌, ℕ, ◌<◌, ◌≤◌, ◌+◌, ◌==◌, eq-eqb, ℤ, Bool, true, false, ◌&&◌, ◌||◌, List, [], ◌∷◌, length, get_or, map, take, Option, Some, None, not, refl, sym, ap, ap₂, ◌∙◌, subst, inl, inr}
+use Rattle.std.proofs.Common.{◌≡◌, ℕ, ◌<◌, ◌≤◌, ◌+◌, ◌==◌, eq-eqb, ℤ, Bool, true, false, ◌&&◌, ◌||◌, List, [], ◌∷◌, length, get_or, map, take, refl, sym, ap, ap₂, ◌∙◌, subst, inl, inr}
+use Rattle.std.proofs.Math.Bool.{and-false}
 use Rattle.std.specs.List.{list_all, All}
-use Rattle.std.proofs.lemmas.Bool.{false≢true, false_from_ne_true, or_cases, or_left, or_right, and_parts, eqb-true, cases_Bool, not-false}
+use Rattle.std.proofs.lemmas.Bool.{false≢true, false_from_ne_true, or_cases, or_left, or_right, and_parts, eqb-true, cases_Bool}
 use Rattle.std.proofs.lemmas.List.{map_more}
 use Rattle.tk_base.specs.Ascending.{IsAscending}
 use Rattle.tk_base.specs.Objects.{objects, is_in}
@@ -10,16 +11,7 @@ use Rattle.tk_border.specs.Levels.{holds, least_of, lowered, resolution}
 use Rattle.tk_border.proofs.LevelLemmas.{least_of-push}
 use Rattle.tk_border.proofs.MembershipLemmas.{held_in, holds_from}
 use Rattle.tk_border.proofs.RisingLemmas.{Rises, rises, rises-filter, rises-objects, same_rising, is_in-filter, is_in-objects, is_in-within, is_in-positive, in_catalogue}
-use Rattle.tk_base.specs.Pairs.{objects_of}
-use Rattle.tk_frames.specs.declared.frame.Frame.TheVariants as f
-use Rattle.tk_journal.specs.Refusal.{Known, are_same, asked_in, is_awaited, or_else, refusal_of_border, refusal_of_kind, refusal_over, too_great}
-use Rattle.tk_journal.specs.declared.refusal.CoordRefusal.{CoordRefusal}
-use Rattle.tk_journal.specs.declared.refusal.CoordRefusal.TheVariants.{AfterStop, WrongObjects}
-use Rattle.tk_journal.proofs.Accepted.{accepted_values, if_none}
-use Rattle.tk_journal.proofs.Content.{same_list, values_small}
-use Rattle.tk_coord.specs.Checks.{AreSmall}
-use Rattle.tk_coord.specs.Refusals.{shown_in, waits_in}
-use Rattle.tk_coord.specs.declared.refusals.Shown.{Shown as Seen}
+use Rattle.tk_journal.specs.Refusal.{are_same}
 
 -- two lists that differ are told apart
 pub not_same : (xs ys : List ℕ) → (xs ≡ ys → ⊥) → are_same xs ys ≡ false
@@ -37,22 +29,22 @@ least_next f xs i within = ap least_of (map_more f xs i 0 within) ∙ least_of-p
 
 -- ---- the resolution set
 
-either_in_catalogue : (members failed : List ℕ) (n o : ℕ) → Rises 0 members → Rises 0 failed → All (λ q. q ≤ n) members → All (λ q. q ≤ n) failed → (is_in members o || is_in failed o) ≡ true → is_in (objects n) o ≡ true
+-- a member or a failed object is in the catalogue
+either_in_catalogue : (members failed : List ℕ) (n o : ℕ) → Rises 0 members → Rises 0 failed → All (λ q. q ≤ n) members → All (λ q. q ≤ n) failed → (is_in members o || is_in failed o) ≡ true
+    → is_in (objects n) o ≡ true
 either_in_catalogue members failed n o left right low high here = elim (or_cases (is_in members o) (is_in failed o) here) [
   | inl member ↦ is_in-objects n o ∙ in_catalogue n o (is_in-positive members o left member) (is_in-within members n o low member)
   | inr broken ↦ is_in-objects n o ∙ in_catalogue n o (is_in-positive failed o right broken) (is_in-within failed n o high broken)
 ]
 
-and_false : (a : Bool) → (a && false) ≡ false
-and_false true = refl
-and_false false = refl
-
-in_resolution : (members failed : List ℕ) (n o : ℕ) → Rises 0 members → Rises 0 failed → All (λ q. q ≤ n) members → All (λ q. q ≤ n) failed → is_in (resolution n members failed) o ≡ (is_in members o || is_in failed o)
+-- the resolution set holds the members and the failed objects
+in_resolution : (members failed : List ℕ) (n o : ℕ) → Rises 0 members → Rises 0 failed → All (λ q. q ≤ n) members → All (λ q. q ≤ n) failed
+    → is_in (resolution n members failed) o ≡ (is_in members o || is_in failed o)
 in_resolution members failed n o left right low high =
     is_in-filter (λ q. is_in members q || is_in failed q) (objects n) o
     ∙ elim (cases_Bool (is_in members o || is_in failed o)) as (λ _. (is_in (objects n) o && (is_in members o || is_in failed o)) ≡ (is_in members o || is_in failed o)) [
       | inl here ↦ rw (either_in_catalogue members failed n o left right low high here) refl
-      | inr gone ↦ rw gone (and_false (is_in (objects n) o))
+      | inr gone ↦ rw gone (and-false (is_in (objects n) o))
     ]
 
 -- a test that all of a list pass, one of them passes
@@ -85,29 +77,9 @@ over_both n members failed named left right up low high =
     let e : named ≡ resolution n members failed = (numbers_tell named (resolution n members failed)).0 same in
     let inside : (o : ℕ) → is_in named o ≡ either o = λ o. ap (λ (l : List ℕ). is_in l o) e ∙ in' o in
     ap₂ ◌&&◌ (every either named (λ o here. sym (inside o) ∙ here))
-    (ap₂ ◌&&◌ (holds_from named members (λ o here. inside o ∙ or_left (is_in members o) (is_in failed o) here)) (holds_from named failed (λ o here. inside o ∙ or_right (is_in members o) (is_in failed o) here))))
+    (ap₂ ◌&&◌ (holds_from named members (λ o here. inside o ∙ or_left (is_in members o) (is_in failed o) here))
+    (holds_from named failed (λ o here. inside o ∙ or_right (is_in members o) (is_in failed o) here))))
   where
     every : (p : ℕ → Bool) (xs : List ℕ) → ((o : ℕ) → is_in xs o ≡ true → p o ≡ true) → list_all p xs ≡ true
     every p [] each = refl
     every p (q ∷ xs) each = ap₂ ◌&&◌ (each q (or_left (q == q) (is_in xs q) (eq-eqb q q refl))) (every p xs (λ o here. each o (or_right (q == o) (is_in xs o) here)))
-
--- ---- Values that are awaited and not refused
-
-both_none : (a b : Option CoordRefusal) → or_else a b ≡ None → (a ≡ None) × (b ≡ None)
-both_none None b none = (refl, none)
-both_none (Some r) b none = cc
-
-asked_all : (n : ℕ) (waits : Option ℕ) (round : ℕ) → is_awaited (waits_in n waits) round ≡ true → asked_in (waits_in n waits) ≡ objects n
-asked_all n None round here = cc
-asked_all n (Some r) round here = refl
-
--- they are over all objects, and small
-pub values_fit : (n : ℕ) (seen : Seen) (known : Known) (round seq : ℕ) (border : ℤ) (values : List (ℕ × ℤ)) → refusal_over (shown_in n seen) known (f.Values round seq border values) ≡ None
-    → (objects_of values ≡ objects n) × AreSmall values
-values_fit n seen known round seq border values none =
-    let kind = if_none seen.stopped AfterStop (refusal_of_kind (shown_in n seen) known (f.Values round seq border values)) none in
-    let a = accepted_values (shown_in n seen) known round seq border values kind.1 in
-    let asked = asked_in (waits_in n seen.waits) in
-    let rest = if_none (not (are_same (objects_of values) asked)) WrongObjects (or_else (too_great values) (refusal_of_border known values border)) a.content in
-    let great = both_none (too_great values) (refusal_of_border known values border) rest.1 in
-    (same_list (objects_of values) asked (not-false (are_same (objects_of values) asked) rest.0) ∙ asked_all n seen.waits round a.awaited, values_small values great.0)

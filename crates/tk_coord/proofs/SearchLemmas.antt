@@ -5,6 +5,7 @@ use Rattle.std.specs.List.{list_all}
 use Rattle.std.proofs.lemmas.Bool.{cases_lt}
 use Rattle.std.proofs.lemmas.List.{get_or_default}
 use Rattle.std.proofs.lemmas.List.Sums.{list_all-from_AllPass}
+use Rattle.std.proofs.lemmas.Option.{get_or_from_slice_get}
 
 -- where each element passes, all do
 pub all_pass : {X : Type 0} (p : X → Bool) (xs : List X) (d : X) → ((k : ℕ) → k < length xs → p (get_or xs k d) ≡ true) → list_all p xs ≡ true
@@ -21,21 +22,18 @@ find_first p (x ∷ xs) (suc i) c before got passes =
     let first : p x ≡ false = before 0 x (omega arith) in
     rw first (find_first p xs i c (λ k d below. before (suc k) d (omega arith)) got passes)
 
+-- no element that passes
 pub find_none : {X : Type 0} (p : X → Bool) (xs : List X) → ((k : ℕ) (d : X) → k < length xs → p (get_or xs k d) ≡ false) → find p xs ≡ None
 find_none p [] none = refl
 find_none p (x ∷ xs) none =
     let first : p x ≡ false = none 0 x (omega arith) in
     rw first (find_none p xs (λ k d below. none (suc k) d (omega arith)))
 
-got_is : {X : Type 0} (xs : List X) (i : ℕ) (c d : X) → slice_get xs i ≡ Some c → get_or xs i d ≡ c
-got_is [] i c d got = cc
-got_is (x ∷ xs) zero c d got = cc
-got_is (x ∷ xs) (suc i) c d got = got_is xs i c d got
-
 -- one more element that does not pass
-pub passed_more : {X : Type 0} (p : X → Bool) (xs : List X) (i : ℕ) (c : X) → ((k : ℕ) (d : X) → k < i → p (get_or xs k d) ≡ false) → slice_get xs i ≡ Some c → p c ≡ false → (k : ℕ) (d : X) → k < i + 1 → p (get_or xs k d) ≡ false
+pub passed_more : {X : Type 0} (p : X → Bool) (xs : List X) (i : ℕ) (c : X) → ((k : ℕ) (d : X) → k < i → p (get_or xs k d) ≡ false) → slice_get xs i ≡ Some c → p c ≡ false → (k : ℕ) (d : X)
+    → k < i + 1 → p (get_or xs k d) ≡ false
 passed_more p xs i c before got fails k d below =
     elim (cases_lt k i) [
       | inl there ↦ before k d there
-      | inr here ↦ let is : k ≡ i = omega arith in rw is (ap p (got_is xs i c d got) ∙ fails)
+      | inr here ↦ let is : k ≡ i = omega arith in rw is (ap p (get_or_from_slice_get xs i c d got) ∙ fails)
     ]

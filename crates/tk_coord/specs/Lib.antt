@@ -1,8 +1,14 @@
 pub mod Batches
 pub mod Checks
+pub mod Closing
 pub mod Coordinator
+pub mod Dealing
 pub mod Index
+pub mod Keeping
+pub mod Ranking
 pub mod Refusals
+pub mod State
+pub mod Steps
 pub use Rattle.tk_base.specs.Objects
 pub use Rattle.tk_base.specs.Settings
 pub use Rattle.tk_rows.specs.Factors

@@ -1,45 +1,43 @@
--- Why a frame is refused, and what the code that refuses it looks at.
-use Rattle.std.specs.Prelude.{◌≡◌, ℕ, List, Option, Some, None}
-use Rattle.tk_base.specs.Objects.{objects}
-use Rattle.tk_frames.specs.declared.frame.Frame.{Frame}
-use Rattle.tk_journal.specs.Readings.{is_stopped}
-use Rattle.tk_journal.specs.Refusal.{Shown, Known, refusal_over}
-use Rattle.tk_journal.specs.declared.refusal.CoordRefusal.{CoordRefusal}
-use Rattle.tk_coord.specs.Coordinator.{Seen as Coordinator}
+-- What the code that refuses a frame looks at. No public clause cites this.
+use Rattle.std.specs.Prelude.{ℕ, Bool, true, false, if◌then◌else◌, List, Option, Some, None}
+use Rattle.tk_journal.specs.Refusal.{Shown}
+use Rattle.tk_coord.specs.declared.answer.Answer.{Answer}
+use Rattle.tk_coord.specs.declared.answer.Answer.TheVariants as a
+use Rattle.tk_coord.specs.declared.link.Link.{Link}
+use Rattle.tk_coord.specs.declared.round.Round.{Round}
+use Rattle.tk_coord.specs.declared.refusals.Awaited.{Awaited}
 use Rattle.tk_coord.specs.declared.refusals.Shown.{Shown as Seen}
 
--- the round that waits for a monitor, with the objects asked: all of a catalogue of n
-abbrev pub waits_in : ℕ → Option ℕ → Option (ℕ × List ℕ)
-waits_in n None = None
-waits_in n (Some round) = Some (round, objects n)
+-- the round that waits for a monitor, with the objects that it asks for
+abbrev pub waits_in : Option Awaited → Option (ℕ × List ℕ)
+waits_in None = None
+waits_in (Some awaited) = Some (awaited.round, awaited.asked.now)
 
 -- what the code sees, as what a journal shows
-abbrev pub shown_in : ℕ → Seen → Shown
-shown_in n seen = record {
+abbrev pub shown_in : Seen → Shown
+shown_in seen = record {
   at = seen.at;
   reported = seen.reported;
   progress = seen.progress.now;
-  waits = waits_in n seen.waits;
+  waits = waits_in seen.waits;
   stopped = seen.stopped;
 }
 
--- what the content of a monitor's frame is tested over
-abbrev pub known_of : Coordinator → ℕ → Known
-known_of c mon = record {
-  mon = mon;
-  objects = c.settings.objects;
-  members = c.members;
-  table = c.table;
+-- whether an answer is a Report
+abbrev pub is_report_in : Option Answer → Bool
+is_report_in (Some a.Report) = true
+is_report_in answer = false
+
+-- the round that waits for the monitor of a link, with the objects that it asks for
+abbrev pub waits_by : Link → Round → Option (ℕ × List ℕ)
+waits_by link round = if link.waits then Some (round.number, round.asked) else None
+
+-- what a link and the round show of a monitor
+abbrev pub shown_from : Link → Round → Bool → Shown
+shown_from link round stopped = record {
+  at = link.assigns;
+  reported = is_report_in link.answer;
+  progress = link.progress;
+  waits = waits_by link round;
+  stopped = stopped;
 }
-
--- the first of the tests that a monitor's frame does not pass refuses it
-pub record IsRefused (c : Coordinator) (mon : ℕ) (frame : Frame) (refusal : CoordRefusal) : Type 0 where
-  pub shown : Shown
-  pub ends : shown.stopped ≡ is_stopped c.journal
-  pub first : refusal_over shown (known_of c mon) frame ≡ Some refusal
-
--- a monitor's frame passes all tests
-pub record IsPassed (c : Coordinator) (mon : ℕ) (frame : Frame) : Type 0 where
-  pub shown : Shown
-  pub ends : shown.stopped ≡ is_stopped c.journal
-  pub none : refusal_over shown (known_of c mon) frame ≡ None

@@ -1,8 +1,8 @@
-ghost use Rattle.std.specs.Prelude.{◌≡◌, ◌<◌, ◌≤◌, ◌^◌, ◌&&◌, ◌||◌, ◌==◌, nat_le, not, length, unsigned_abs, IfNone};
+ghost use Rattle.std.specs.Prelude.{◌≡◌, ◌<◌, ◌≤◌, ◌^◌, ◌&&◌, ◌||◌, ◌==◌, nat_le, not, length, unsigned_abs};
 ghost use Rattle.std.specs.List.{list_all, zip};
 ghost use Rattle.tk_alloc.specs.Parts.{value_of as value_in};
 ghost use Rattle.tk_base.specs.Ascending.{IsAscending};
-ghost use Rattle.tk_base.specs.Objects.{objects as objects_in, is_in};
+ghost use Rattle.tk_base.specs.Objects.{is_in};
 ghost use Rattle.tk_base.specs.Pairs.{objects_of};
 ghost use Rattle.tk_border.specs.Levels.{holds, is_above as is_above_of, lowered, resolution};
 ghost use Rattle.tk_journal.specs.Refusal.{are_outsiders as are_outsiders_of, are_places as are_places_of, are_same, bad_border, go_on as go_on_of, least_in, level_in, not_broken as not_broken_of, refusal_of_report, refusal_of_values, too_great as too_great_of};
@@ -31,16 +31,16 @@ pub struct Known<'a> {
     pub table: &'a Table,
 }
 
-/// Whether the values are over exactly the objects from 1 to n.
-fn are_over_all(values: &Pairs, n: u32) -> bool
-    ensures { result ≡ are_same (objects_of values.now) (objects_in n) }
+/// Whether the values are over exactly these objects.
+fn are_over(values: &Pairs, asked: &ObjSet) -> bool
+    ensures { result ≡ are_same (objects_of values.now) asked.now }
 {
-    if values.len() != n as usize {
+    if values.len() != asked.len() {
         return false;
     }
     for i in 0..values.len() {
         let (o, _) = values.at(i);
-        if o.0 as usize != i + 1 {
+        if o != asked.at(i) {
             return false;
         }
     }
@@ -254,14 +254,17 @@ pub fn report_refusal(
     border_refusal(border, least.unwrap_or(0))
 }
 
-/// Why the content of awaited Values is refused, if it is.
-pub fn values_refusal(known: Known, border: i128, values: &Pairs) -> Option<CoordRefusal>
+/// Why the content of Values over the asked objects is refused, if it is.
+pub fn values_refusal(
+    known: Known,
+    asked: &ObjSet,
+    border: i128,
+    values: &Pairs,
+) -> Option<CoordRefusal>
     requires { IsKnown (known_in known) }
-    ensures value { result ≡ refusal_of_values (known_in known.entry) (objects_in (known_in known.entry).objects) border values.now }
-    ensures objects { IfNone result (objects_of values.now ≡ objects_in (known_in known.entry).objects) }
-    ensures small { IfNone result (AreSmall values.now) }
+    ensures { result ≡ refusal_of_values (known_in known.entry) asked.now border values.now }
 {
-    if !are_over_all(values, known.objects) {
+    if !are_over(values, asked) {
         return Some(CoordRefusal::WrongObjects);
     }
     if let Some(refusal) = too_great(values) {

@@ -1,78 +1,99 @@
-ghost use Rattle.std.specs.Prelude.{◌≡◌, ◌⊎◌, false, ℕ, ◌+◌, ◌<◌, ◌≤◌, List, ◌∷◌, ◌++◌, length, IfOk, IfErr, IsOk, OnOk, Some, slice_get};
-ghost use Rattle.tk_base.specs.Objects.{objects};
-ghost use Rattle.tk_rows.specs.Factors.{factor_at};
-ghost use Rattle.tk_journal.specs.declared.noted.Noted.{Noted};
-ghost use Rattle.tk_journal.specs.Readings.{is_stopped, members_at};
-ghost use Rattle.tk_journal.specs.Legal.{IsLegal, opened, start};
-ghost use Rattle.tk_journal.specs.Links.{frames_to};
-ghost use Rattle.tk_journal.specs.Entries.{IsEntryOf};
-ghost use Rattle.tk_base.specs.Pairs.{objects_of};
-ghost use Rattle.tk_coord.specs.Checks.{AreSmall, IsKnown, known_in};
-ghost use Rattle.tk_coord.specs.Refusals.{IsPassed, IsRefused, known_of};
+ghost use Rattle.std.specs.Prelude.{◌≡◌, ◌⊎◌, not, false, nat_lt, ℕ, List, [], ◌<◌, ◌≤◌, ◌++◌, length, pos, IfOk, IfErr, OnOk, Some, None, slice_get};
 ghost use Rattle.std.specs.List.{All};
+ghost use Rattle.tk_base.specs.Objects.{objects};
+ghost use Rattle.tk_frames.specs.declared.frame.Frame.{Frame};
+ghost use Rattle.tk_journal.specs.Entries.{IsEntryOf};
+ghost use Rattle.tk_journal.specs.Legal.{Opening, IsLegal, opened, start, turn_of};
+ghost use Rattle.tk_journal.specs.Links.{frames_to};
+ghost use Rattle.tk_journal.specs.Publishing.{differs, publications};
+ghost use Rattle.tk_journal.specs.Walks.{last_of};
+ghost use Rattle.tk_journal.specs.Readings.{assigns_sent, factor, in_force, is_open, is_stopped, members_at, own, table_at};
+ghost use Rattle.tk_journal.specs.Refusal.{known_by, refusal_of, retune_refusal_of, shown_by};
+ghost use Rattle.tk_journal.specs.Turns.{passes_at};
+ghost use Rattle.tk_journal.specs.declared.noted.Noted.{Noted};
+ghost use Rattle.tk_journal.specs.declared.noted.Noted.TheVariants.{Got, Tuned};
+ghost use Rattle.tk_journal.specs.declared.refusal.CoordRefusal.TheVariants.{NoMemory as NoRoom};
+ghost use Rattle.tk_journal.specs.declared.refusal.RetuneRefusal.TheVariants.{NoMemory as NoRoomToTune};
+ghost use Rattle.tk_coord.specs.Checks.{IsKnown, known_in};
+ghost use Rattle.tk_coord.specs.Coordinator.{Begins, CanBegin, IsJournal, with_factors};
+ghost use Rattle.tk_coord.specs.Ranking.{ranks_of};
+ghost use Rattle.tk_coord.specs.Refusals.{shown_in};
+ghost use Rattle.tk_coord.specs.State.{AreLinks, Stands};
+ghost use Rattle.tk_coord.specs.Steps.{AreValues, Follows, IsReport, IsReported, IsSettled, IsStep, report_frame, retuned_to};
+ghost use Rattle.tk_coord.specs.declared.step.Reply.TheVariants.{Nothing};
 
-use crate::answer::{Answer, Progress};
+use crate::answer::Progress;
 use crate::checks::Known;
-use crate::entries::{assigns, collects, first_assigns, first_objects};
-use crate::gathering::{ended, no_reports};
+use crate::dealing::passes;
+use crate::entries::{first_assigns, first_objects};
 use crate::index::{Index, note_from, note_turn, reserve};
-use crate::link::{Link, ask_each, assign_each, new_links, waits_for_no_other};
-use crate::publishing::{others_settled, publishing};
-use crate::refusals::{Shown, refusal_of};
-use crate::step::{Change, Step};
+use crate::link::{new_links, waits_for_no_other};
+use crate::opening::table_assigns;
+use crate::outcomes::{Grounds, end_round, end_short, nothing, open_full, open_wide};
+use crate::publishing::{Answers, is_other, others_settled, publishing};
+use crate::ranking::new_ranks;
+use crate::refusals::{Shown, refusal_of, shown_of};
+use crate::reports::no_reports;
+use crate::round::Round;
+use crate::standing::Standing;
+use crate::state::State;
+use crate::step::{Outcome, Reply, Step, Told};
 use std::alloc::Global;
 use std::marker::Model;
 use std::mem;
 use tk_alloc::Reported;
-use tk_base::{Mon, NoMemory, Obj, ObjSet, Pairs, Places, Settings};
-use tk_frames::Frame;
-use tk_journal::{CoordRefusal, Noted, Publication};
+use tk_base::{Mon, NoMemory, Obj, ObjSet, Pairs, Places, SettingFault, Settings};
+use tk_frames::{Frame, KeptFrame};
+use tk_journal::{CoordRefusal, KeptEpsilon, Noted, Publication, RetuneRefusal};
 use tk_rows::Table;
+
+/// The settings with another k and epsilon, unless one of them is past its limit.
+fn retuned(settings: &Settings, k: u64, epsilon: u128) -> Result<Settings, RetuneRefusal>
+    ensures { result ≡ retuned_to settings.now k epsilon }
+{
+    let own_weight = settings.own_weight() as u64;
+    let objects = settings.objects() as u64;
+    match Settings::new(k, epsilon, own_weight, objects, settings.monitors() as u64) {
+        Ok(settings) => Ok(settings),
+        Err(SettingFault::BadK) => Err(RetuneRefusal::BadK),
+        Err(SettingFault::BadEpsilon) => Err(RetuneRefusal::BadEpsilon),
+        Err(_) => unreachable!(),
+    }
+}
 
 /// The node that keeps the members, the table of factors and the journal.
 #[derive(Drop)]
 pub struct Coordinator {
     settings: Settings,
-    members: ObjSet,
-    table: Table,
-    links: Vec<Link>,
-    /// How many rounds were opened.
-    rounds: u64,
-    /// Whether the last of them is open.
-    open: bool,
-    /// What each monitor last told to a round.
-    gathered: Vec<Reported>,
+    state: State,
+    standing: Standing,
     journal: Vec<Noted>,
     index: Index,
-    finished: bool,
 }
 
 impl Model for Coordinator {
-    ghost use Rattle.tk_coord.specs.Coordinator.{Seen, IsSized, AreGathered, IsNoted, IsTied};
+    ghost use Rattle.tk_coord.specs.Coordinator.{Seen, IsJournal, IsNoted};
+    ghost use Rattle.std.specs.Prelude.{◌≡◌};
+    ghost use Rattle.tk_coord.specs.Ranking.{ranks_of};
+    ghost use Rattle.tk_coord.specs.State.{Holds, Stands};
 
     ghost Value = { Seen };
 
     ghost view = { λ c. record {
       settings = c.settings;
-      members = c.members;
-      table = c.table;
+      members = c.state.members;
+      table = c.state.table;
       journal = c.journal.items;
     } };
 
-    ghost invariant = { λ c. let seen : Seen = record {
-      settings = c.settings;
-      members = c.members;
-      table = c.table;
-      journal = c.journal.items;
-    } in IsSized seen × AreGathered seen c.links.items c.open c.gathered.items × IsNoted seen c.index.sent.items c.index.published.items × IsTied seen c.finished };
+    ghost invariant = { λ c. IsJournal c.settings c.journal.items
+        × Holds c.settings c.journal.items c.state
+        × Stands c.settings c.journal.items c.standing
+        × IsNoted c.settings c.journal.items c.index.sent.items c.index.published.items
+        × (c.state.ranks ≡ ranks_of c.state.table c.state.members) };
 }
 
 impl Coordinator {
-    ghost use Rattle.tk_coord.specs.Coordinator.{IsStep, IsChange};
-    ghost use Rattle.tk_journal.specs.Publishing.{publications};
-    ghost use Rattle.tk_journal.specs.declared.noted.Noted.TheVariants.{Got};
-    ghost use Rattle.tk_journal.specs.declared.refusal.CoordRefusal.TheVariants.{NoMemory as NoRoom};
-
     /// The members are objects 1 to k, all factors are 0, and each monitor is sent its first Assign.
     pub fn new(alloc: Global, settings: Settings) -> Result<Coordinator, NoMemory>
         ensures settings { IfOk result (λ c. c.settings ≡ settings) }
@@ -82,25 +103,63 @@ impl Coordinator {
     {
         let monitors = settings.monitors();
         let members = first_objects(alloc, settings.k())?;
-        let mut journal = first_assigns(alloc, &members, monitors)?;
+        let table = Table::new(alloc, settings.objects(), monitors)?;
+        table.promise();
+        let journal = first_assigns(alloc, &members, monitors)?;
+        Coordinator::begin(alloc, settings, members, table, journal)
+    }
+
+    /// Begins with these members and factors: each monitor is sent its factor of every object.
+    pub fn with_table(
+        alloc: Global,
+        settings: Settings,
+        members: ObjSet,
+        table: Table,
+    ) -> Result<Coordinator, NoMemory>
+        requires { CanBegin settings members table }
+        ensures settings { IfOk result (λ c. c.settings ≡ settings) }
+        ensures members { IfOk result (λ c. c.members ≡ members) }
+        ensures journal { IfOk result (λ c. c.journal ≡ opened (with_factors settings members table)) }
+        ensures legal { IfOk result (λ c. IsLegal (with_factors settings members table) c.journal) }
+    {
+        table.promise();
+        let journal = table_assigns(alloc, &settings, &members, &table)?;
+        Coordinator::begin(alloc, settings, members, table, journal)
+    }
+
+    /// Begins with a journal of the first Assigns.
+    fn begin(
+        alloc: Global,
+        settings: Settings,
+        members: ObjSet,
+        table: Table,
+        journal: Vec<Noted>,
+    ) -> Result<Coordinator, NoMemory>
+        requires { Begins settings members table journal.items }
+        ensures { IfOk result (λ c. c ≡ record { settings = settings; members = members; table = table; journal = journal.items }) }
+    {
+        let mut journal = journal;
+        let monitors = settings.monitors();
         let mut index = Index::new(alloc, monitors)?;
         let more = journal.len();
         reserve(&mut journal, &mut index, more)?;
         let sent = index.sent.as_mut_slice();
         note_from(sent, &mut index.published, journal.as_slice(), 0);
-        let mut links = new_links(alloc, monitors)?;
-        assign_each(links.as_mut_slice());
-        Ok(Coordinator {
-            table: Table::new(alloc, settings.objects(), monitors)?,
-            gathered: no_reports(alloc, monitors)?,
-            settings,
+        let ranks = new_ranks(alloc, &table, settings.objects(), &members)?;
+        let state = State {
             members,
-            links,
-            rounds: 0,
-            open: false,
+            table,
+            ranks,
+            links: new_links(alloc, monitors)?,
+            round: Round::none(alloc),
+            gathered: no_reports(alloc, monitors)?,
+        };
+        Ok(Coordinator {
+            settings,
+            state,
+            standing: Standing::new(settings),
             journal,
             index,
-            finished: false,
         })
     }
 
@@ -108,12 +167,14 @@ impl Coordinator {
     pub fn take(&mut self, mon: Mon, frame: Frame) -> Result<(), (CoordRefusal, Frame)>
         requires some_monitor { 0 < mon.0 }
         requires monitor { mon.0 ≤ self.old.settings.monitors }
-        ensures ok { OnOk result ((more : List Noted) × (self.new.journal ≡ self.old.journal ++ Got mon frame ∷ more)) }
-        ensures running { OnOk result (is_stopped self.old.journal ≡ false) }
-        ensures passed { OnOk result (IsPassed self.old mon.0 frame) }
-        ensures refused { IfErr result (λ e. (e.0 ≡ NoRoom) ⊎ IsRefused self.old mon.0 frame e.0) }
+        // a frame that is refused by no test is noted with all that it brings about
+        ensures ok { OnOk result (refusal_of self.old.settings self.old.journal mon.0 frame ≡ None) }
+        ensures turn { OnOk result (self.new.journal ≡ self.old.journal ++ turn_of self.old.settings self.old.journal (Got mon frame)) }
+        // the first test that it does not pass refuses it
+        ensures refused { IfErr result (λ e. (e.0 ≡ NoRoom) ⊎ (refusal_of self.old.settings self.old.journal mon.0 frame ≡ Some e.0)) }
         ensures err { IfErr result (λ e. (e.1 ≡ frame) × (self.new ≡ self.old)) }
         ensures settings { self.new.settings ≡ self.old.settings }
+        ensures legal { (o : Opening) → o.settings ≡ self.old.settings → IsLegal o self.old.journal → IsLegal o self.new.journal }
     {
         let step = match self.prepare(mon, &frame) {
             Ok(step) => step,
@@ -127,204 +188,318 @@ impl Coordinator {
         requires some_monitor { 0 < mon.0 }
         requires monitor { mon.0 ≤ self.old.settings.monitors }
         ensures same { self.new ≡ self.old }
-        ensures step { IfOk result (IsStep self.old mon.0) }
-        ensures running { IfOk result (λ _. is_stopped self.old.journal ≡ false) }
-        ensures passed { IfOk result (λ _. IsPassed self.old mon.0 frame.now) }
-        ensures refused { IfErr result (λ e. (e ≡ NoRoom) ⊎ IsRefused self.old mon.0 frame.now e) }
+        ensures taken { IfOk result (λ _. refusal_of self.old.settings self.old.journal mon.0 frame.now ≡ None) }
+        ensures step { IfOk result (IsStep self.old.settings self.old.journal mon frame.now) }
+        ensures refused { IfErr result (λ e. (e ≡ NoRoom) ⊎ (refusal_of self.old.settings self.old.journal mon.0 frame.now ≡ Some e)) }
     {
         if let Some(refusal) = refusal_of(self.shown(mon), self.known(mon), frame) {
             return Err(refusal);
         }
         match frame {
-            Frame::Report { seq, .. } => self.on_report(mon, *seq),
-            Frame::Values { border, values, .. } => self.on_values(mon, *border, values),
-            Frame::Settled { seq, last, places } => self.on_settled(mon, *seq, *last, places),
+            Frame::Report { .. } => Ok(self.on_report(mon, frame)?),
+            Frame::Values { .. } => Ok(self.on_values(mon, frame)?),
+            Frame::Settled { .. } => Ok(self.on_settled(mon, frame)?),
             _ => unreachable!(),
         }
     }
 
-    fn on_report(&self, mon: Mon, seq: u64) -> Result<Step, CoordRefusal>
+    fn on_report(&self, mon: Mon, frame: &Frame) -> Result<Step, NoMemory>
         requires some_monitor { 0 < mon.0 }
         requires monitor { mon.0 ≤ self.now.settings.monitors }
-        ensures step { IfOk result (IsStep self.now mon.0) }
-        ensures room { IfErr result (λ e. e ≡ NoRoom) }
+        requires kind { IsReport frame.now }
+        requires taken { refusal_of self.now.settings self.now.journal mon.0 frame.now ≡ None }
+        ensures { IfOk result (IsStep self.now.settings self.now.journal mon frame.now) }
     {
-        let alloc = *self.journal.allocator();
-        if self.is_stale(mon, seq) {
-            return Ok(Step::quiet(alloc, Change::Nothing));
+        let Frame::Report {
+            seq,
+            border,
+            values,
+            ..
+        } = frame
+        else {
+            unreachable!()
+        };
+        if self.is_stale(mon, *seq) {
+            return Ok(self.quiet(Told::Nothing));
         }
-        if self.open {
-            return Ok(Step::quiet(alloc, Change::Reported));
+        if self.state.round.waiting {
+            return Ok(self.quiet(Told::Report));
         }
-        let objects = self.settings.objects();
-        let monitors = self.settings.monitors();
-        let entries = collects(alloc, self.next_round(), objects, monitors)?;
-        let change = Change::Opened;
-        Ok(Step { entries, change })
-    }
-
-    fn on_settled(
-        &self,
-        mon: Mon,
-        seq: u64,
-        last: bool,
-        places: &Places,
-    ) -> Result<Step, CoordRefusal>
-        requires some_monitor { 0 < mon.0 }
-        requires monitor { mon.0 ≤ self.now.settings.monitors }
-        ensures step { IfOk result (IsStep self.now mon.0) }
-        ensures room { IfErr result (λ e. e ≡ NoRoom) }
-    {
-        let alloc = *self.journal.allocator();
-        if self.is_stale(mon, seq) {
-            return Ok(Step::quiet(alloc, Change::Nothing));
-        }
-        let place = mon.0 as usize - 1;
-        let progress = Progress::of(places, last)?;
-        let links = self.links.as_slice();
-        if self.open || !others_settled(links, place) {
-            let last = false;
-            return Ok(Step::quiet(alloc, Change::Settled { progress, last }));
-        }
-        let before = self.last_published();
-        let settings = &self.settings;
-        let members = &self.members;
-        let (entries, last) = publishing(
-            alloc, links, settings, place, &progress, members, before,
-        )?;
-        let change = Change::Settled { progress, last };
-        Ok(Step { entries, change })
-    }
-
-    fn on_values(&mut self, mon: Mon, border: i128, values: &Pairs) -> Result<Step, CoordRefusal>
-        requires some_monitor { 0 < mon.0 }
-        requires monitor { mon.0 ≤ self.old.settings.monitors }
-        requires objects { objects_of values.now ≡ objects self.old.settings.objects }
-        requires small { AreSmall values.now }
-        ensures same { self.new ≡ self.old }
-        ensures step { IfOk result (IsStep self.old mon.0) }
-        ensures room { IfErr result (λ e. e ≡ NoRoom) }
-    {
-        let values = values.try_clone()?;
         let report = Reported {
             mon,
-            values,
-            border,
+            values: values.try_clone()?,
+            border: *border,
         };
-        let alloc = *self.journal.allocator();
-        let place = mon.0 as usize - 1;
-        if !self.open || !waits_for_no_other(self.links.as_slice(), place) {
-            return Ok(Step::quiet(alloc, Change::Gathered(report)));
+        let outcome = self.answered(report)?;
+        let told = Told::Report;
+        Ok(Step { told, outcome })
+    }
+
+    /// Whether a fresh Report that finds no round open passes the short test.
+    fn passes(&self, report: &Reported) -> bool
+        requires some_monitor { 0 < report.now.mon.0 }
+        requires monitor { report.now.mon.0 ≤ self.now.settings.monitors }
+        requires taken { IsReported self.now.settings self.now.journal report.now }
+        requires closed { is_open self.now.settings self.now.journal ≡ false }
+        ensures { result ≡ passes_at self.now.settings self.now.journal report.now }
+    {
+        passes(
+            &self.standing.settings,
+            &self.state.table,
+            &self.state.members,
+            report,
+        )
+    }
+
+    /// The round of a fresh Report that finds none open.
+    fn answered(&self, report: Reported) -> Result<Outcome, NoMemory>
+        requires some_monitor { 0 < report.mon.0 }
+        requires monitor { report.mon.0 ≤ self.now.settings.monitors }
+        requires taken { IsReported self.now.settings self.now.journal report }
+        requires closed { is_open self.now.settings self.now.journal ≡ false }
+        ensures { (failed : List ℕ) → refusal_of self.now.settings self.now.journal report.mon.0 (report_frame self.now.journal report failed) ≡ None
+            → IfOk result (Follows self.now.settings self.now.journal report.mon (report_frame self.now.journal report failed)) }
+    {
+        let grounds = self.grounds();
+        if self.passes(&report) {
+            return end_short(grounds, &report);
         }
-        let before = mem::replace(&mut self.gathered[place], report);
-        let links = self.links.as_slice();
-        let reports = self.gathered.as_slice();
-        let step = ended(
-            alloc,
-            &self.settings,
-            &self.table,
-            &self.members,
+        let standing = grounds.standing.failed();
+        if grounds.standing.is_tired() {
+            return open_wide(grounds.alloc, standing);
+        }
+        open_full(
+            Grounds {
+                standing,
+                ..grounds
+            },
+            report,
+        )
+    }
+
+    fn on_settled(&self, mon: Mon, frame: &Frame) -> Result<Step, NoMemory>
+        requires some_monitor { 0 < mon.0 }
+        requires monitor { mon.0 ≤ self.now.settings.monitors }
+        requires kind { IsSettled frame.now }
+        requires taken { refusal_of self.now.settings self.now.journal mon.0 frame.now ≡ None }
+        ensures { IfOk result (IsStep self.now.settings self.now.journal mon frame.now) }
+    {
+        let Frame::Settled { seq, last, places } = frame else {
+            unreachable!()
+        };
+        let links = self.state.links.as_slice();
+        if self.is_stale(mon, *seq) {
+            return Ok(self.quiet(Told::Nothing));
+        }
+        let place = mon.0 as usize - 1;
+        let progress = Progress::of(places, *last)?;
+        if self.state.round.waiting || !others_settled(links, place) {
+            return Ok(self.quiet(Told::Settled(progress)));
+        }
+        let answers = Answers {
             links,
-            reports,
-        );
-        self.gathered[place] = before;
-        Ok(step?)
+            place,
+            here: &progress,
+        };
+        let (entries, stopped) = publishing(
+            *self.journal.allocator(),
+            answers,
+            &self.standing.settings,
+            &self.state.members,
+            self.has_news(),
+            self.published() as u64 + 1,
+        )?;
+        let outcome = Outcome {
+            entries,
+            reply: Reply::Nothing,
+            standing: self.standing.calm(stopped),
+        };
+        let told = Told::Settled(progress);
+        Ok(Step { told, outcome })
+    }
+
+    fn on_values(&mut self, mon: Mon, frame: &Frame) -> Result<Step, NoMemory>
+        requires some_monitor { 0 < mon.0 }
+        requires monitor { mon.0 ≤ self.old.settings.monitors }
+        requires kind { AreValues frame.now }
+        requires taken { refusal_of self.old.settings self.old.journal mon.0 frame.now ≡ None }
+        ensures same { self.new ≡ self.old }
+        ensures step { IfOk result (IsStep self.old.settings self.old.journal mon frame.now) }
+    {
+        let Frame::Values { border, values, .. } = frame else {
+            unreachable!()
+        };
+        let report = Reported {
+            mon,
+            values: values.try_clone()?,
+            border: *border,
+        };
+        let place = mon.0 as usize - 1;
+        if !waits_for_no_other(self.state.links.as_slice(), place) {
+            let more = true;
+            return Ok(self.quiet(Told::Values { report, more }));
+        }
+        let before = mem::replace(&mut self.state.gathered[place], report);
+        let grounds = Grounds {
+            alloc: *self.journal.allocator(),
+            standing: self.standing,
+            members: &self.state.members,
+            table: &self.state.table,
+            ranks: &self.state.ranks,
+            links: self.state.links.as_slice(),
+        };
+        let wide = self.state.round.wide;
+        let outcome = end_round(grounds, wide, self.state.gathered.as_slice());
+        let report = mem::replace(&mut self.state.gathered[place], before);
+        let more = false;
+        let told = Told::Values { report, more };
+        Ok(Step {
+            told,
+            outcome: outcome?,
+        })
+    }
+
+    /// A frame that nothing follows.
+    fn quiet(&self, told: Told) -> Step
+        ensures told { result.told ≡ told }
+        ensures entries { result.outcome.entries.items ≡ [] }
+        ensures reply { result.outcome.reply ≡ Nothing }
+        ensures standing { Stands self.now.settings self.now.journal result.outcome.standing }
+    {
+        let outcome = nothing(*self.journal.allocator(), self.standing);
+        Step { told, outcome }
+    }
+
+    fn grounds(&self) -> Grounds
+        ensures journal { IsJournal self.now.settings self.now.journal }
+        ensures standing { Stands self.now.settings self.now.journal result.standing }
+        ensures members { result.members.now ≡ members_at self.now.journal }
+        ensures table { result.table.now ≡ table_at self.now.settings self.now.journal }
+        ensures ranks { result.ranks.now ≡ ranks_of result.table.now result.members.now }
+        ensures links { AreLinks self.now.settings self.now.journal result.links.now }
+    {
+        Grounds {
+            alloc: *self.journal.allocator(),
+            standing: self.standing,
+            members: &self.state.members,
+            table: &self.state.table,
+            ranks: &self.state.ranks,
+            links: self.state.links.as_slice(),
+        }
     }
 
     fn known(&self, mon: Mon) -> Known
         requires some_monitor { 0 < mon.0 }
         requires monitor { mon.0 ≤ self.now.settings.monitors }
         ensures known { IsKnown (known_in result) }
-        ensures value { known_in result ≡ known_of self.now mon.0 }
+        ensures value { known_in result ≡ known_by self.now.settings mon.0 self.now.journal }
     {
         Known {
             mon,
             objects: self.settings.objects(),
-            members: &self.members,
-            table: &self.table,
+            members: &self.state.members,
+            table: &self.state.table,
         }
     }
 
     fn shown(&self, mon: Mon) -> Shown
         requires some_monitor { 0 < mon.0 }
         requires monitor { mon.0 ≤ self.now.settings.monitors }
-        ensures stopped { result.stopped ≡ is_stopped self.now.journal }
+        ensures { shown_in result ≡ shown_by mon.0 self.now.journal }
     {
-        let link = &self.links[mon.0 as usize - 1];
-        Shown {
-            at: link.assigns,
-            reported: link.answer == Some(Answer::Report),
-            progress: &link.progress,
-            waits: if self.open && link.waits {
-                Some(self.rounds)
-            } else {
-                None
-            },
-            stopped: self.finished,
-        }
+        let link = &self.state.links[mon.0 as usize - 1];
+        shown_of(link, &self.state.round, self.standing.stopped)
     }
 
     /// Whether an answer of the monitor is from before the last Assign to it.
     fn is_stale(&self, mon: Mon, seq: u64) -> bool
         requires some_monitor { 0 < mon.0 }
         requires monitor { mon.0 ≤ self.now.settings.monitors }
+        ensures value { result ≡ nat_lt seq (assigns_sent mon.0 self.now.journal) }
+        ensures journal { IsJournal self.now.settings self.now.journal }
     {
-        seq < self.links[mon.0 as usize - 1].assigns
+        seq < self.state.links[mon.0 as usize - 1].assigns
     }
 
     /// Appends a frame and what it brings about; all room is taken first.
     fn note(&mut self, mon: Mon, frame: Frame, step: Step) -> Result<(), (CoordRefusal, Frame)>
         requires some_monitor { 0 < mon.0 }
         requires monitor { mon.0 ≤ self.old.settings.monitors }
-        requires running { is_stopped self.old.journal ≡ false }
-        requires step { IsStep self.old mon.0 step }
-        ensures ok { OnOk result (self.new.journal ≡ self.old.journal ++ Got mon frame ∷ step.entries.items) }
+        requires taken { refusal_of self.old.settings self.old.journal mon.0 frame ≡ None }
+        requires step { IsStep self.old.settings self.old.journal mon frame step }
+        ensures ok { OnOk result (self.new.journal ≡ self.old.journal ++ turn_of self.old.settings self.old.journal (Got mon frame)) }
         ensures err { IfErr result (λ e. (e.0 ≡ NoRoom) × (e.1 ≡ frame) × (self.new ≡ self.old)) }
         ensures settings { self.new.settings ≡ self.old.settings }
     {
-        let Step { entries, change } = step;
-        let journal = &mut self.journal;
-        if let Err(frame) = note_turn(journal, &mut self.index, mon, frame, entries) {
-            return Err((CoordRefusal::NoMemory, frame));
+        let Step { told, outcome } = step;
+        let Outcome {
+            entries,
+            reply,
+            standing,
+        } = outcome;
+        let kept = match KeptFrame::new(*self.journal.allocator(), frame) {
+            Ok(kept) => kept,
+            Err(frame) => return Err((CoordRefusal::NoMemory, frame)),
+        };
+        let first = Noted::Got(mon, kept);
+        match note_turn(&mut self.journal, &mut self.index, first, entries) {
+            Ok(()) => {}
+            Err(Noted::Got(_, kept)) => return Err((CoordRefusal::NoMemory, kept.into_frame())),
+            Err(_) => unreachable!(),
         }
-        let place = mon.0 as usize - 1;
-        match change {
-            Change::Nothing => {}
-            Change::Reported => self.links[place].answer = Some(Answer::Report),
-            Change::Opened => {
-                self.links[place].answer = Some(Answer::Report);
-                self.rounds = self.rounds.saturating_add(1);
-                self.open = true;
-                ask_each(self.links.as_mut_slice());
-            }
-            Change::Settled { progress, last } => {
-                let link = &mut self.links[place];
-                link.answer = Some(Answer::Settled);
-                link.progress = Some(progress);
-                self.finished = last;
-            }
-            Change::Gathered(report) => {
-                self.gathered[place] = report;
-                self.links[place].waits = false;
-            }
-            Change::Reallocated(reallocation) => {
-                self.table.replace(&reallocation);
-                self.members = reallocation.members;
-                self.open = false;
-                assign_each(self.links.as_mut_slice());
-            }
-        }
+        self.state.take(mon, told);
+        self.state.reply(reply);
+        self.standing = standing;
         Ok(())
     }
 
-    fn next_round(&self) -> u64 {
-        self.rounds.saturating_add(1)
+    /// Takes another k and epsilon: they are in force from the end of the wide round that opens.
+    pub fn retune(&mut self, k: u64, epsilon: u128) -> Result<(), RetuneRefusal>
+        ensures ok { OnOk result (retune_refusal_of self.old.settings self.old.journal k epsilon ≡ None) }
+        ensures turn { OnOk result (self.new.journal ≡ self.old.journal ++ turn_of self.old.settings self.old.journal (Tuned k (pos epsilon))) }
+        ensures refused { IfErr result (λ e. (e ≡ NoRoomToTune) ⊎ (retune_refusal_of self.old.settings self.old.journal k epsilon ≡ Some e)) }
+        ensures err { IfErr result (λ _. self.new ≡ self.old) }
+        ensures settings { self.new.settings ≡ self.old.settings }
+        ensures legal { (o : Opening) → o.settings ≡ self.old.settings → IsLegal o self.old.journal → IsLegal o self.new.journal }
+    {
+        if self.standing.stopped {
+            return Err(RetuneRefusal::AfterStop);
+        }
+        if self.state.round.waiting {
+            return Err(RetuneRefusal::RoundOpen);
+        }
+        let next = retuned(&self.settings, k, epsilon)?;
+        let alloc = *self.journal.allocator();
+        let (Ok(outcome), Ok(kept)) = (
+            open_wide(alloc, self.standing),
+            KeptEpsilon::new(alloc, next.epsilon()),
+        ) else {
+            return Err(RetuneRefusal::NoMemory);
+        };
+        let Outcome {
+            entries,
+            reply,
+            standing,
+        } = outcome;
+        let first = Noted::Tuned(next.k(), kept);
+        if note_turn(&mut self.journal, &mut self.index, first, entries).is_err() {
+            return Err(RetuneRefusal::NoMemory);
+        }
+        self.state.reply(reply);
+        self.standing = Standing { next, ..standing };
+        Ok(())
     }
 
-    fn last_published(&self) -> Option<&Publication> {
+    /// Whether the members, or the k and epsilon in force, differ from those last published.
+    fn has_news(&self) -> bool
+        ensures { result ≡ differs (in_force self.now.settings self.now.journal) (members_at self.now.journal) (last_of (publications self.now.journal)) }
+    {
         match self.published() {
-            0 => None,
-            count => Some(self.publication(count - 1)),
+            0 => true,
+            count => {
+                let last = self.publication(count - 1);
+                is_other(last, &self.standing.settings, &self.state.members)
+            }
         }
     }
 
@@ -334,27 +509,44 @@ impl Coordinator {
         &self.settings
     }
 
+    /// The k in force: that of the last retune whose round is over.
+    pub fn k(&self) -> u32
+        ensures { result ≡ (in_force self.now.settings self.now.journal).k }
+    {
+        self.standing.settings.k()
+    }
+
+    /// The epsilon in force.
+    pub fn epsilon(&self) -> i128
+        ensures { result ≡ (in_force self.now.settings self.now.journal).epsilon }
+    {
+        self.standing.settings.epsilon()
+    }
+
     pub fn members(&self) -> &ObjSet
         ensures value { result.now ≡ self.now.members }
         ensures named { result.now ≡ members_at self.now.journal }
     {
-        &self.members
+        &self.state.members
     }
 
     /// Whether no round is open.
-    pub fn idle(&self) -> bool {
-        !self.open
+    pub fn idle(&self) -> bool
+        ensures { result ≡ not (is_open self.now.settings self.now.journal) }
+    {
+        !self.state.round.waiting
     }
 
     /// Whether the final set was published, and Stop was sent.
     pub fn finished(&self) -> bool
         ensures { result ≡ is_stopped self.now.journal }
     {
-        self.finished
+        self.standing.stopped
     }
 
     pub fn journal(&self) -> &[Noted]
         ensures value { result.now ≡ self.now.journal }
+        ensures legal { IsJournal self.now.settings self.now.journal }
         ensures entries { All (IsEntryOf self.now.settings.monitors self.now.settings.objects) self.now.journal }
     {
         self.journal.as_slice()
@@ -404,9 +596,9 @@ impl Coordinator {
     pub fn own(&self, o: Obj) -> i128
         requires some { 0 < o.0 }
         requires within { o.0 ≤ self.now.settings.objects }
-        ensures { result ≡ factor_at self.now.table 0 o.0 }
+        ensures { result ≡ own self.now.settings self.now.journal o.0 }
     {
-        self.table.own(o)
+        self.state.table.own(o)
     }
 
     /// The factor of an object at a monitor.
@@ -415,8 +607,8 @@ impl Coordinator {
         requires within { o.0 ≤ self.now.settings.objects }
         requires some_monitor { 0 < mon.0 }
         requires monitor { mon.0 ≤ self.now.settings.monitors }
-        ensures { result ≡ factor_at self.now.table mon.0 o.0 }
+        ensures { result ≡ factor mon.0 self.now.journal o.0 }
     {
-        self.table.at(mon, o)
+        self.state.table.at(mon, o)
     }
 }

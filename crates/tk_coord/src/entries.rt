@@ -1,13 +1,14 @@
-ghost use Rattle.std.specs.Prelude.{◌≡◌, ℕ, ◌<◌, ◌≤◌, [], ◌++◌, false, length, filter_map, Some, IfOk, OnOk, vec_len};
+ghost use Rattle.std.specs.Prelude.{◌≡◌, ℕ, ◌+◌, ◌-◌, ◌^◌, ◌<◌, ◌≤◌, [], ◌++◌, length, IfOk, OnOk};
 ghost use Rattle.std.specs.List.{All};
 ghost use Rattle.tk_base.specs.Objects.{objects};
+ghost use Rattle.tk_base.specs.Pairs.{objects_of as objects_in};
 ghost use Rattle.tk_journal.specs.Entries.{IsEntryOf};
-ghost use Rattle.tk_frames.specs.declared.frame.Frame.TheVariants.{Assign, Collect, Stop};
+ghost use Rattle.tk_frames.specs.declared.frame.Frame.TheVariants.{Assign, Stop};
 ghost use Rattle.tk_journal.specs.declared.noted.Noted.TheVariants.{Sent};
-ghost use Rattle.tk_journal.specs.Readings.{is_stopped, members_in};
-ghost use Rattle.tk_journal.specs.Walks.{last_of};
+ghost use Rattle.tk_journal.specs.Turns.{collects as collects_of};
 ghost use Rattle.tk_coord.specs.Batches.{to_each};
 ghost use Rattle.tk_coord.specs.Checks.{AreNamed};
+ghost use Rattle.tk_coord.specs.Dealing.{assigns_by, assigns_over, decided_in, is_but as is_but_of, mons_but};
 
 use crate::link::Link;
 use std::alloc::Global;
@@ -16,7 +17,7 @@ use tk_frames::{Frame, KeptFrame};
 use tk_journal::Noted;
 use tk_rows::Reallocation;
 
-fn sent(alloc: Global, mon: u32, frame: Frame) -> Result<Noted, NoMemory>
+pub fn sent(alloc: Global, mon: u32, frame: Frame) -> Result<Noted, NoMemory>
     ensures value { IfOk result (λ n. n ≡ Sent (record { 0 = mon }) frame) }
     ensures monitor { (monitors n : ℕ) → 0 < mon → mon ≤ monitors → IfOk result (IsEntryOf monitors n) }
 {
@@ -50,6 +51,16 @@ pub fn no_pairs(alloc: Global) -> Pairs
     }
 }
 
+/// No objects at all.
+pub fn no_objects(alloc: Global) -> ObjSet
+    ensures { result ≡ [] }
+{
+    match ObjSet::new(Vec::new(alloc)) {
+        Ok(objects) => objects,
+        Err(_) => unreachable!(),
+    }
+}
+
 /// The first Assign to each monitor: the members, and no changes.
 pub fn first_assigns(alloc: Global, members: &ObjSet, monitors: u32) -> Result<Vec<Noted>, NoMemory>
     ensures value { IfOk result (λ v. v.items ≡ to_each (Assign 1 members.now []) monitors) }
@@ -69,22 +80,63 @@ pub fn first_assigns(alloc: Global, members: &ObjSet, monitors: u32) -> Result<V
     Ok(entries)
 }
 
-/// A Collect over all objects to each monitor.
+/// The objects that have a value.
+pub fn objects_of(alloc: Global, values: &Pairs) -> Result<ObjSet, NoMemory>
+    ensures { IfOk result (λ s. s ≡ objects_in values.now) }
+{
+    let mut list = Vec::with_capacity(alloc, values.len())?;
+    for i in 0..values.len() {
+        let (o, _) = values.at(i);
+        list.push(o)?;
+    }
+    match ObjSet::new(list) {
+        Ok(objects) => Ok(objects),
+        Err(_) => unreachable!(),
+    }
+}
+
+fn is_but(but: Option<Mon>, mon: u32) -> bool
+    ensures { result ≡ is_but_of but mon }
+{
+    match but {
+        None => false,
+        Some(but) => mon == but.0,
+    }
+}
+
+/// A Collect to each monitor but one.
 pub fn collects(
     alloc: Global,
     round: u64,
-    catalogue: u32,
+    asked: &ObjSet,
     monitors: u32,
+    but: Option<Mon>,
 ) -> Result<Vec<Noted>, NoMemory>
-    ensures value { IfOk result (λ v. v.items ≡ to_each (Collect round (objects catalogue)) monitors) }
+    ensures value { IfOk result (λ v. v.items ≡ collects_of round asked.now (mons_but monitors but)) }
     ensures entries { (n : ℕ) → IfOk result (λ v. All (IsEntryOf monitors n) v.items) }
 {
     let mut entries = Vec::with_capacity(alloc, monitors as usize)?;
     for j in 0..monitors {
-        let objects = first_objects(alloc, catalogue)?;
-        entries.push(sent(alloc, j + 1, Frame::Collect { round, objects })?)?;
+        if !is_but(but, j + 1) {
+            let objects = asked.try_clone()?;
+            entries.push(sent(alloc, j + 1, Frame::Collect { round, objects })?)?;
+        }
     }
     Ok(entries)
+}
+
+/// The number of the next Assign to a monitor.
+fn next_assign(links: &[Link], mon: Mon) -> Result<u64, NoMemory>
+    requires some { 0 < mon.0 }
+    requires named { mon.0 ≤ length links.now }
+    ensures value { IfOk result (λ seq. seq ≡ assigns_by links.now mon.0 + 1) }
+    ensures room { IfOk result (λ _. assigns_by links.now mon.0 < 2 ^ 64 - 1) }
+{
+    let link = &links[mon.0 as usize - 1];
+    match link.assigns.checked_add(1) {
+        Some(seq) => Ok(seq),
+        None => Err(NoMemory),
+    }
 }
 
 /// An Assign to each monitor that a reallocation names, with the members and its new factors.
@@ -93,19 +145,20 @@ pub fn assigns(
     links: &[Link],
     reallocation: &Reallocation,
 ) -> Result<Vec<Noted>, NoMemory>
-    requires some { AreNamed (length links.now) reallocation.now.at.items }
-    ensures named { IfOk result (λ v. 0 < length reallocation.now.at.items → last_of (filter_map members_in v.items) ≡ Some reallocation.now.members) }
-    ensures running { IfOk result (λ v. is_stopped v.items ≡ false) }
+    requires { AreNamed (length links.now) reallocation.now.at.items }
+    ensures value { IfOk result (λ v. v.items ≡ assigns_over links.now (decided_in reallocation.now)) }
+    ensures room { IfOk result (λ _. All (λ c. assigns_by links.now c.mon.0 < 2 ^ 64 - 1) reallocation.now.at.items) }
     ensures entries { (n : ℕ) → IfOk result (λ v. All (IsEntryOf (length links.now) n) v.items) }
 {
     let mut entries = Vec::with_capacity(alloc, reallocation.at.len())?;
     for change in &reallocation.at {
-        let link = &links[change.mon.0 as usize - 1];
         let members = reallocation.members.try_clone()?;
+        let seq = next_assign(links, change.mon)?;
+        let changes = change.changes.try_clone()?;
         let frame = Frame::Assign {
-            seq: link.assigns.saturating_add(1),
+            seq,
             members,
-            changes: change.changes.try_clone()?,
+            changes,
         };
         entries.push(sent(alloc, change.mon.0, frame)?)?;
     }

@@ -2,13 +2,11 @@ ghost use Rattle.std.specs.Prelude.{◌≡◌, ℕ, ◌+◌, ◌-◌, ◌<◌, �
 ghost use Rattle.tk_journal.specs.declared.noted.Noted.{Noted};
 ghost use Rattle.tk_coord.specs.Index.{AreIndexed, IsIndex, HasRoom, IsForOneOf};
 ghost use Rattle.tk_journal.specs.Publishing.{published_in};
-ghost use Rattle.tk_journal.specs.declared.noted.Noted.TheVariants.{Got};
 ghost use Rattle.std.specs.List.{All};
 
 use crate::step::append;
 use std::alloc::{AllocError, Global};
-use tk_base::{Mon, NoMemory};
-use tk_frames::{Frame, KeptFrame};
+use tk_base::NoMemory;
 use tk_journal::Noted;
 
 /// Where in a journal the frames to each monitor and the publications stand.
@@ -105,33 +103,31 @@ pub fn note_from(
     }
 }
 
-/// Appends a taken frame and the entries that follow it, and notes their places. All room is taken first,
-/// and the frame is handed back where there is none.
+/// Appends an entry and those that follow it, and notes their places. All room is taken first, and the
+/// entry is handed back where there is none.
 pub fn note_turn(
     journal: &mut Vec<Noted>,
     index: &mut Index,
-    mon: Mon,
-    frame: Frame,
+    first: Noted,
     entries: Vec<Noted>,
-) -> Result<(), Frame>
-    requires monitor { IsForOneOf (vec_len index.old.sent) (Got mon frame) }
+) -> Result<(), Noted>
+    requires monitor { IsForOneOf (vec_len index.old.sent) first }
     requires journal { All (IsForOneOf (vec_len index.old.sent)) journal.old.items }
     requires entries { All (IsForOneOf (vec_len index.old.sent)) entries.items }
     requires sent { AreIndexed journal.old.items index.old.sent.items }
     requires published { IsIndex published_in journal.old.items index.old.published.items }
-    ensures ok { OnOk result (journal.new.items ≡ journal.old.items ++ Got mon frame ∷ entries.items) }
-    ensures err { IfErr result (λ f. (f ≡ frame) × (journal.new.items ≡ journal.old.items)) }
+    ensures ok { OnOk result (journal.new.items ≡ journal.old.items ++ first ∷ entries.items) }
+    ensures err { IfErr result (λ e. (e ≡ first) × (journal.new.items ≡ journal.old.items)) }
     ensures monitors { vec_len index.new.sent ≡ vec_len index.old.sent }
     ensures sent { AreIndexed journal.new.items index.new.sent.items }
     ensures published { IsIndex published_in journal.new.items index.new.published.items }
 {
-    let kept = KeptFrame::new(*journal.allocator(), frame)?;
     let more = entries.len() + 1;
     if reserve(journal, index, more).is_err() {
-        return Err(kept.into_frame());
+        return Err(first);
     }
     let from = journal.len();
-    append(journal, Noted::Got(mon, kept), entries);
+    append(journal, first, entries);
     let sent = index.sent.as_mut_slice();
     note_from(sent, &mut index.published, journal.as_slice(), from);
     Ok(())

@@ -1,20 +1,29 @@
 //! The coordinator: it takes the monitors' frames, keeps the members and the factors, and publishes.
 //!
-//! It promises that a frame that it takes is noted with what it brings about, and that a refusal hands
-//! the frame back and leaves the journal as it was. It stands on the frames, the table of factors, the
-//! reallocation and the entries of a journal.
+//! It promises that its journal is legal after every call: a taken frame, or a retune, makes it grow by exactly
+//! its turn, and what is not taken changes nothing and comes back with the first reason against it. It stands on
+//! the definitions of tk_journal, the table of factors and the reallocation of rounds.
 #![tactic(auto)]
 
 mod answer;
 mod checks;
 mod coordinator;
+mod dealing;
 mod entries;
-mod gathering;
 mod index;
 mod link;
+mod opening;
+mod outcomes;
 mod publishing;
+mod ranking;
 mod refusals;
+mod reports;
+mod round;
+mod standing;
+mod state;
 mod step;
+#[cfg(test)]
+mod tests;
 
 pub use coordinator::Coordinator;
 pub use tk_journal::CoordRefusal;

@@ -1,7 +1,7 @@
-ghost use Rattle.std.specs.Prelude.{◌≡◌, ◌≢◌, ℕ, Some, slice_get, false, true, length, IfOk, map, vec_len};
-ghost use Rattle.std.specs.List.{All};
-ghost use Rattle.std.specs.Bool.{OnTrue};
+ghost use Rattle.std.specs.Prelude.{◌≡◌, ◌≢◌, ℕ, None, Some, slice_get, not, false, true, length, IfOk};
+ghost use Rattle.std.specs.Bool.{OnTrue, OnFalse};
 ghost use Rattle.tk_coord.specs.declared.link.Link.{Link};
+ghost use Rattle.tk_coord.specs.Keeping.{AreChanged, is_but};
 
 use crate::answer::{Answer, Progress};
 use std::alloc::Global;
@@ -20,14 +20,15 @@ pub struct Link {
     pub waits: bool,
 }
 
-/// The links of monitors to which nothing was sent.
+/// The links of monitors to each of which one Assign was sent.
 pub fn new_links(alloc: Global, monitors: u32) -> Result<Vec<Link>, NoMemory>
-    ensures { IfOk result (λ v. vec_len v ≡ monitors) }
+    ensures count { IfOk result (λ links. length links.items ≡ monitors) }
+    ensures each { IfOk result (λ links. (i : ℕ) (l : Link) → slice_get links.items i ≡ Some l → l ≡ record { assigns = 1; answer = None; progress = None; waits = false }) }
 {
     let mut links = Vec::with_capacity(alloc, monitors as usize)?;
     for j in 0..monitors {
         links.push(Link {
-            assigns: 0,
+            assigns: 1,
             answer: None,
             progress: None,
             waits: false,
@@ -36,30 +37,20 @@ pub fn new_links(alloc: Global, monitors: u32) -> Result<Vec<Link>, NoMemory>
     Ok(links)
 }
 
-/// Each monitor was sent one more Assign.
-pub fn assign_each(links: &mut [Link])
-    ensures { length links.new ≡ length links.old }
-{
-    for link in links.iter_mut() {
-        link.assigns = link.assigns.saturating_add(1);
-        link.answer = None;
-        link.waits = false;
-    }
-}
-
-/// Each monitor was sent a Collect.
-pub fn ask_each(links: &mut [Link])
+/// Each monitor was sent a Collect, but for the one at this place.
+pub fn ask(links: &mut [Link], but: Option<usize>)
     ensures count { length links.new ≡ length links.old }
-    ensures waits { All (λ l. l.waits ≡ true) links.new }
+    ensures each { AreChanged (λ i l. record l { waits = not (is_but but i) }) links.old links.new }
 {
-    for link in links.iter_mut() {
-        link.waits = true;
+    for (place, link) in links.iter_mut().enumerate() {
+        link.waits = but != Some(place);
     }
 }
 
 /// Whether the round waits for no other monitor than the one at this place.
 pub fn waits_for_no_other(links: &[Link], place: usize) -> bool
-    ensures { OnTrue result ((i : ℕ) (l : Link) → i ≢ place → slice_get links.now i ≡ Some l → l.waits ≡ false) }
+    ensures none { OnTrue result ((i : ℕ) (l : Link) → i ≢ place → slice_get links.now i ≡ Some l → l.waits ≡ false) }
+    ensures some { OnFalse result ((i : ℕ) × (l : Link) × (i ≢ place) × (slice_get links.now i ≡ Some l) × (l.waits ≡ true)) }
 {
     for (other, link) in links.iter().enumerate() {
         if other != place && link.waits {

@@ -1,8 +1,12 @@
-ghost use Rattle.std.specs.Prelude.{◌≡◌, ℕ, [], filter_map, IfOk, IfSome};
-ghost use Rattle.tk_journal.specs.Readings.{is_stopped, members_in};
+ghost use Rattle.std.specs.Prelude.{◌≡◌, ◌≢◌, ◌+◌, ◌<◌, ℕ, true, false, Some, None, IfOk, IfSome, IfNone, slice_get, length, map};
+ghost use Rattle.std.specs.Bool.{OnTrue, OnFalse};
 ghost use Rattle.std.specs.List.{All};
+ghost use Rattle.tk_journal.specs.Publishing.{differs};
+ghost use Rattle.tk_journal.specs.Readings.{is_stopped};
 ghost use Rattle.tk_journal.specs.Entries.{IsEntryOf};
 ghost use Rattle.tk_coord.specs.Checks.{AreWithin};
+ghost use Rattle.tk_coord.specs.Closing.{are_last, closing_by, said_at, said_by, settled_by};
+ghost use Rattle.tk_coord.specs.declared.link.Link.{Link};
 
 use crate::answer::{Answer, Progress};
 use crate::entries::push_stops;
@@ -12,95 +16,106 @@ use tk_base::{Cut, NoMemory, ObjSet, Settings};
 use tk_journal::{KeptPublication, Noted, Publication};
 
 /// How far a monitor is, where its current answer is Settled.
-fn settled(link: &Link) -> Option<&Progress> {
+fn settled(link: &Link) -> Option<&Progress>
+    ensures some { IfSome result (λ p. settled_by (Some link.now) ≡ Some p.now) }
+    ensures none { IfNone result (settled_by (Some link.now) ≡ None) }
+{
     match link.answer {
         Some(Answer::Settled) => link.progress.as_ref(),
         _ => None,
     }
 }
 
+/// What all monitors say, where the one at this place says this now.
+#[derive(Clone, Copy)]
+pub struct Answers<'a> {
+    pub links: &'a [Link],
+    pub place: usize,
+    pub here: &'a Progress,
+}
+
+/// What the monitor at another place says, where all have settled.
+fn said<'a>(answers: Answers<'a>, other: usize) -> &'a Progress
+    requires { other < length answers.links.now }
+    ensures { result.now ≡ said_at answers.entry.links.now answers.entry.place answers.entry.here.now (other + 1) }
+{
+    if other == answers.place {
+        return answers.here;
+    }
+    settled(&answers.links[other]).unwrap_or(answers.here)
+}
+
 /// Whether every monitor but the one at this place has Settled as its current answer.
-pub fn others_settled(links: &[Link], place: usize) -> bool {
-    for (other, link) in links.iter().enumerate() {
-        if other != place && settled(link).is_none() {
+pub fn others_settled(links: &[Link], place: usize) -> bool
+    ensures all { OnTrue result ((i : ℕ) (l : Link) → i ≢ place → slice_get links.now i ≡ Some l → settled_by (Some l) ≢ None) }
+    ensures one { OnFalse result ((i : ℕ) × (l : Link) × (i ≢ place) × (slice_get links.now i ≡ Some l) × (settled_by (Some l) ≡ None)) }
+{
+    for other in 0..links.len() {
+        if other != place && settled(&links[other]).is_none() {
             return false;
         }
     }
     true
 }
 
-/// Whether every monitor but the one at this place has told that its parts are at their ends.
-fn others_ended(links: &[Link], place: usize) -> bool {
-    for (other, link) in links.iter().enumerate() {
-        if other != place && !settled(link).is_some_and(|progress| progress.last) {
+/// Whether a set was published with other members, k or epsilon than these.
+pub fn is_other(last: &Publication, settings: &Settings, members: &ObjSet) -> bool
+    ensures { result ≡ differs settings.now members.now (Some last.now) }
+{
+    !(last.members == *members && last.k == settings.k() && last.epsilon == settings.epsilon())
+}
+
+/// Whether all parts of all monitors are at their ends.
+fn all_last(answers: Answers) -> bool
+    ensures { result ≡ are_last (said_by answers.entry.links.now answers.entry.place answers.entry.here.now) }
+{
+    for other in 0..answers.links.len() {
+        if !said(answers, other).last {
             return false;
         }
     }
     true
 }
 
-/// The places of all monitors, with these of the one that answers now.
-fn cut_of(alloc: Global, links: &[Link], place: usize, here: &Progress) -> Result<Cut, NoMemory> {
-    let mut list = Vec::with_capacity(alloc, links.len())?;
-    for (other, link) in links.iter().enumerate() {
-        let progress = if other == place {
-            here
-        } else {
-            settled(link).unwrap_or(here)
-        };
-        list.push(progress.places.try_clone()?)?;
+/// The places of all monitors.
+fn cut_of(alloc: Global, answers: Answers) -> Result<Cut, NoMemory>
+    ensures { IfOk result (λ c. c ≡ map (λ p. p.places) (said_by answers.entry.links.now answers.entry.place answers.entry.here.now)) }
+{
+    let mut list = Vec::with_capacity(alloc, answers.links.len())?;
+    for other in 0..answers.links.len() {
+        list.push(said(answers, other).places.try_clone()?)?;
     }
     Ok(Cut::new(list))
 }
 
-/// The set that stands where every monitor has settled, if it is new or the final one.
-fn publication(
+/// The entries that end a turn in which every monitor has settled, and whether Stop is among them. The
+/// settings hold the k and epsilon in force; `news` is whether they or the members differ from the last set.
+pub fn publishing(
     alloc: Global,
-    links: &[Link],
-    place: usize,
-    here: &Progress,
+    answers: Answers,
     settings: &Settings,
     members: &ObjSet,
-    before: Option<&Publication>,
-) -> Result<Option<Publication>, NoMemory>
-    ensures { IfOk result (λ o. IfSome o (λ p. p.members ≡ members.now)) }
+    news: bool,
+    number: u64,
+) -> Result<(Vec<Noted>, bool), NoMemory>
+    requires some { 0 < settings.now.monitors }
+    ensures value { IfOk result (λ r. r.0.items ≡ closing_by settings.now members.now (said_by answers.entry.links.now answers.entry.place answers.entry.here.now) news number) }
+    ensures ends { IfOk result (λ r. is_stopped r.0.items ≡ r.1) }
+    ensures entries { (n : ℕ) → AreWithin n members.now → IfOk result (λ r. All (IsEntryOf settings.now.monitors n) r.0.items) }
 {
-    let last = here.last && others_ended(links, place);
-    let number = match before {
-        Some(earlier) if !last && earlier.members == *members => return Ok(None),
-        Some(earlier) => earlier.number.saturating_add(1),
-        None => 1,
-    };
-    Ok(Some(Publication {
+    let mut entries = Vec::new(alloc);
+    let last = all_last(answers);
+    if !news && !last {
+        return Ok((entries, false));
+    }
+    let publication = Publication {
         number,
         last,
         k: settings.k(),
         epsilon: settings.epsilon(),
         members: members.try_clone()?,
-        cut: cut_of(alloc, links, place, here)?,
-    }))
-}
-
-/// The entries that follow where every monitor has settled, and whether the final set is among them.
-pub fn publishing(
-    alloc: Global,
-    links: &[Link],
-    settings: &Settings,
-    place: usize,
-    here: &Progress,
-    members: &ObjSet,
-    before: Option<&Publication>,
-) -> Result<(Vec<Noted>, bool), NoMemory>
-    ensures named { IfOk result (λ r. filter_map members_in r.0.items ≡ []) }
-    ensures ends { IfOk result (λ r. is_stopped r.0.items ≡ r.1) }
-    ensures entries { (n : ℕ) → AreWithin n members.now → IfOk result (λ r. All (IsEntryOf settings.now.monitors n) r.0.items) }
-{
-    let mut entries = Vec::new(alloc);
-    let Some(publication) = publication(alloc, links, place, here, settings, members, before)?
-    else {
-        return Ok((entries, false));
+        cut: cut_of(alloc, answers)?,
     };
-    let last = publication.last;
     let Ok(kept) = KeptPublication::new(alloc, publication) else {
         return Err(NoMemory);
     };

@@ -1,14 +1,23 @@
 // Which refusal a frame meets, as a function of what the coordinator shows.
-ghost use Rattle.std.specs.Prelude.{◌≡◌, ℕ};
-ghost use Rattle.tk_journal.specs.Refusal.{is_awaited as is_awaited_of, refusal_of_answer, refusal_of_awaited, refusal_of_cut, refusal_of_report, refusal_over};
+ghost use Rattle.std.specs.Prelude.{◌≡◌, true, false, IfSome, IfNone};
+ghost use Rattle.tk_journal.specs.Refusal.{asked_in as asked_of, is_awaited as is_awaited_of, refusal_of_answer, refusal_of_awaited, refusal_of_cut, refusal_of_report, refusal_over};
 ghost use Rattle.tk_coord.specs.Checks.{IsKnown, known_in};
-ghost use Rattle.tk_coord.specs.Refusals.{shown_in, waits_in};
+ghost use Rattle.tk_coord.specs.Refusals.{is_report_in, shown_from, shown_in, waits_in, waits_by};
 
-use crate::answer::Progress;
+use crate::answer::{Answer, Progress};
 use crate::checks::{Known, is_cut, report_refusal, values_refusal};
+use crate::link::Link;
+use crate::round::Round;
 use tk_base::{ObjSet, Pairs, Places};
 use tk_frames::Frame;
 use tk_journal::CoordRefusal;
+
+/// A round that waits for a monitor, and the objects that it asks for.
+#[derive(Clone, Copy)]
+pub struct Awaited<'a> {
+    pub round: u64,
+    pub asked: &'a ObjSet,
+}
 
 /// What the tests of a frame look at, of one monitor.
 #[derive(Clone, Copy)]
@@ -19,16 +28,49 @@ pub struct Shown<'a> {
     pub reported: bool,
     /// What its last fresh Settled says.
     pub progress: &'a Option<Progress>,
-    /// The open round, over all objects, where it waits for this monitor.
-    pub waits: Option<u64>,
+    /// The round that waits for it, with the objects that it asks for.
+    pub waits: Option<Awaited<'a>>,
     /// Whether Stop was sent.
     pub stopped: bool,
+}
+
+/// Whether a monitor's current answer is a Report.
+fn is_reported(link: &Link) -> bool
+    ensures { result ≡ is_report_in link.now.answer }
+{
+    matches!(link.answer, Some(Answer::Report))
+}
+
+/// The round, where it waits for the monitor of a link.
+fn awaited_by<'a>(link: &Link, round: &'a Round) -> Option<Awaited<'a>>
+    ensures { waits_in result ≡ waits_by link.now round.now }
+{
+    if !link.waits {
+        return None;
+    }
+    Some(Awaited {
+        round: round.number,
+        asked: &round.asked,
+    })
+}
+
+/// What the link of a monitor and the last round show.
+pub fn shown_of<'a>(link: &'a Link, round: &'a Round, stopped: bool) -> Shown<'a>
+    ensures { shown_in result ≡ shown_from link.now round.now stopped }
+{
+    Shown {
+        at: link.assigns,
+        reported: is_reported(link),
+        progress: &link.progress,
+        waits: awaited_by(link, round),
+        stopped,
+    }
 }
 
 /// The first test that the frame does not pass, in the order of the tests, if there is one.
 pub fn refusal_of(shown: Shown, known: Known, frame: &Frame) -> Option<CoordRefusal>
     requires { IsKnown (known_in known) }
-    ensures { result ≡ refusal_over (shown_in known.entry.objects shown.entry) (known_in known.entry) frame.now }
+    ensures { result ≡ refusal_over (shown_in shown.entry) (known_in known.entry) frame.now }
 {
     if shown.stopped {
         return Some(CoordRefusal::AfterStop);
@@ -60,7 +102,7 @@ fn of_report(
     values: &Pairs,
 ) -> Option<CoordRefusal>
     requires { IsKnown (known_in known) }
-    ensures { result ≡ refusal_of_answer (shown_in known.entry.objects shown.entry) seq (refusal_of_report (known_in known.entry) border failed.now values.now) }
+    ensures { result ≡ refusal_of_answer (shown_in shown.entry) seq (refusal_of_report (known_in known.entry) border failed.now values.now) }
 {
     let at = shown.at;
     if seq > at {
@@ -82,7 +124,7 @@ fn of_settled(
     last: bool,
     places: &Places,
 ) -> Option<CoordRefusal>
-    ensures { result ≡ refusal_of_answer (shown_in known.entry.objects shown.entry) seq (refusal_of_cut (shown_in known.entry.objects shown.entry).progress last places.now) }
+    ensures { result ≡ refusal_of_answer (shown_in shown.entry) seq (refusal_of_cut (shown_in shown.entry).progress last places.now) }
 {
     let at = shown.at;
     if seq > at {
@@ -106,10 +148,15 @@ fn cut_refusal(before: &Option<Progress>, last: bool, places: &Places) -> Option
     Some(CoordRefusal::BadCut)
 }
 
-fn is_awaited(waits: Option<u64>, round: u64) -> bool
-    ensures { (n : ℕ) → result ≡ is_awaited_of (waits_in n waits) round }
+/// The objects that the round asks for, where it is the one that waits.
+fn asked_in<'a>(waits: Option<Awaited<'a>>, round: u64) -> Option<&'a ObjSet>
+    ensures some { IfSome result (λ asked. (is_awaited_of (waits_in waits.entry) round ≡ true) × (asked.now ≡ asked_of (waits_in waits.entry))) }
+    ensures none { IfNone result (is_awaited_of (waits_in waits.entry) round ≡ false) }
 {
-    waits == Some(round)
+    match waits {
+        Some(awaited) if awaited.round == round => Some(awaited.asked),
+        _ => None,
+    }
 }
 
 fn of_values(
@@ -121,17 +168,17 @@ fn of_values(
     values: &Pairs,
 ) -> Option<CoordRefusal>
     requires { IsKnown (known_in known) }
-    ensures { result ≡ refusal_of_awaited (shown_in known.entry.objects shown.entry) (known_in known.entry) round seq border values.now }
+    ensures { result ≡ refusal_of_awaited (shown_in shown.entry) (known_in known.entry) round seq border values.now }
 {
     let at = shown.at;
     if seq > at {
         return Some(CoordRefusal::AheadOfSequence { at, got: seq });
     }
-    if !is_awaited(shown.waits, round) {
+    let Some(asked) = asked_in(shown.waits, round) else {
         return Some(CoordRefusal::NotAsked { round });
-    }
+    };
     if seq < at {
         return Some(CoordRefusal::BehindSequence { at, got: seq });
     }
-    values_refusal(known, border, values)
+    values_refusal(known, asked, border, values)
 }

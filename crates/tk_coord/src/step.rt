@@ -1,48 +1,51 @@
-ghost use Rattle.tk_journal.specs.Readings.{is_stopped};
-ghost use Rattle.std.specs.Prelude.{◌≡◌, false, ◌+◌, ◌≤◌, [], ◌∷◌, ◌++◌, vec_len, vec_capacity};
+ghost use Rattle.std.specs.Prelude.{◌≡◌, ◌+◌, ◌≤◌, ◌∷◌, ◌++◌, vec_len, vec_capacity};
 
 use crate::answer::Progress;
-use std::alloc::Global;
+use crate::round::Round;
+use crate::standing::Standing;
 use tk_alloc::Reported;
 use tk_journal::Noted;
 use tk_rows::Reallocation;
 
-/// What a taken frame brings about: the entries that follow it, and how the coordinator changes.
+/// What a taken frame brings about: what it tells, and what follows.
 #[derive(Drop)]
 pub struct Step {
-    pub entries: Vec<Noted>,
-    pub change: Change,
+    pub told: Told,
+    pub outcome: Outcome,
 }
 
-/// How the coordinator changes by a taken frame.
+/// What a taken frame tells of its monitor.
 #[derive(Drop)]
-pub enum Change {
-    /// The frame is stale, and only noted.
+pub enum Told {
+    /// The frame is stale.
     Nothing,
-    /// A fresh Report becomes the monitor's answer, during a round.
-    Reported,
-    /// A fresh Report becomes the monitor's answer, and a round opens.
-    Opened,
-    /// A fresh Settled becomes the monitor's answer, and perhaps the final set was published.
-    Settled { progress: Progress, last: bool },
-    /// Values came, and the round waits for more.
-    Gathered(Reported),
-    /// The last Values came, and the round ends.
-    Reallocated(Reallocation),
+    /// A Report is its answer.
+    Report,
+    /// A Settled is its answer.
+    Settled(Progress),
+    /// Its values for the open round, and whether that waits for more.
+    Values { report: Reported, more: bool },
 }
 
-impl Step {
-    /// A step that appends nothing to the frame.
-    pub fn quiet(alloc: Global, change: Change) -> Step
-        ensures entries { result.entries.items ≡ [] }
-        ensures change { result.change ≡ change }
-        ensures ends { is_stopped result.entries.items ≡ false }
-    {
-        Step {
-            entries: Vec::new(alloc),
-            change,
-        }
-    }
+/// What follows: entries, what they send, and what holds after the turn.
+#[derive(Drop)]
+pub struct Outcome {
+    pub entries: Vec<Noted>,
+    pub reply: Reply,
+    pub standing: Standing,
+}
+
+/// What is sent to monitors, but for Stop.
+#[derive(Drop)]
+pub enum Reply {
+    Nothing,
+    /// The Collects of a new round. A full one does not ask the monitor with whose Report it begins.
+    Ask {
+        round: Round,
+        opener: Option<Reported>,
+    },
+    /// The Assigns of a round that has ended.
+    Assign(Reallocation),
 }
 
 /// Appends an entry and those that follow it, for which there is room.

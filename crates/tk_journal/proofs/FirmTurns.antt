@@ -287,7 +287,7 @@ got_sizes s j from frame z = record {
   each = λ o mon r m. subst IsFactor (sym (factor_by j (j ++ n.Got from frame ∷ []) (λ q. got_assigns q j from frame) mon o)) (z.each o mon r m);
 }
 
-takes_at_end : (s : Setup) (before : List Noted) (from : Mon) (frame : Frame) (all : List ℕ) (reports : List Reported) → reports ≡ reports_at s (before ++ n.Got from frame ∷ []) → IsRoundOver s (before ++ n.Got from frame ∷ []) all
+pub takes_at_end : (s : Setup) (before : List Noted) (from : Mon) (frame : Frame) (all : List ℕ) (reports : List Reported) → reports ≡ reports_at s (before ++ n.Got from frame ∷ []) → IsRoundOver s (before ++ n.Got from frame ∷ []) all
     → All (CanTakePart (table_at s (before ++ n.Got from frame ∷ [])) (members_at (before ++ n.Got from frame ∷ [])) all) reports
 takes_at_end s before from frame all reports is r =
     let now = before ++ n.Got from frame ∷ [] in

@@ -1,5 +1,5 @@
 -- Worked journals: what the definitions give for small runs, entry by entry.
-use Rattle.std.proofs.Common.{ℕ, ◌^◌, ℤ, pos, negsuc, neg_ℤ, List, [], ◌∷◌, Bool, true, false, refl, arith}
+use Rattle.std.proofs.Common.{ℕ, ◌≡◌, ◌^◌, ℤ, pos, negsuc, neg_ℤ, List, [], ◌∷◌, Bool, true, false, refl, arith}
 use Rattle.tk_base.specs.Settings.{Setup}
 use Rattle.tk_base.specs.Objects.{objects}
 use Rattle.tk_alloc.specs.Parts.{leeway}
@@ -69,6 +69,11 @@ two_monitors_is_legal = record {
   played = refl;
   accepted = ((omega arith, omega arith, refl), ((omega arith, omega arith, refl), ((omega arith, omega arith, refl), ((omega arith, omega arith, refl), ((omega arith, omega arith, refl), ((omega arith, omega arith, refl), ((omega arith, omega arith, refl), tt)))))));
 }
+
+-- both monitors are settled at the end of the round, and the streak falls
+pub two_monitors_streak : streak (pair_of_monitors 0) two_monitors ≡ 0
+unfolding objects round_border leeway picked least_of greatest_of share units owned_units assigns_sent members_at factor own table_at answer_of progress_of last_round asked_of values_of waits_for is_open is_calm in_force is_stopped report_of reports_at short_decides full_decides wide_decides passes_short_test streak kind_of rounds is_wide demanded closing refusal_of retune_refusal_of turn_of
+two_monitors_streak = refl
 
 -- ---- a short round: monitor 1 has a 5, monitor 2 has b 3, and epsilon is 4
 

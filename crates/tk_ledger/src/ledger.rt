@@ -1,8 +1,7 @@
 use crate::counts::Counts;
+use crate::reading::Reading;
 use std::alloc::Global;
-use tk_base::{Mon, NoMemory};
-use tk_frames::Frame;
-use tk_journal::Noted;
+use tk_base::NoMemory;
 use tk_story::Story;
 
 /// What a journal holds, counted.
@@ -22,56 +21,6 @@ pub struct Ledger {
     pub bytes: u128,
 }
 
-/// What the ledger knows of a journal that it has read up to some place.
-#[derive(Drop)]
-struct Reading {
-    ledger: Ledger,
-    /// How many Assigns each monitor was sent.
-    assigns: Vec<u64>,
-    /// The last round that was opened.
-    round: u64,
-}
-
-impl Reading {
-    fn count(&mut self, mon: Mon, frame: &Frame) {
-        let place = (mon.0 as usize).saturating_sub(1);
-        if place < self.ledger.per.len() {
-            self.ledger.per[place].add(frame.kind());
-        }
-        self.ledger.bytes = self.ledger.bytes.saturating_add(frame.size());
-    }
-
-    fn sent(&mut self, mon: Mon, frame: &Frame) {
-        self.count(mon, frame);
-        match frame {
-            Frame::Assign { seq, .. } => {
-                let place = (mon.0 as usize).saturating_sub(1);
-                if place < self.assigns.len() {
-                    self.assigns[place] = *seq;
-                }
-            }
-            Frame::Collect { round, .. } if *round > self.round => {
-                self.round = *round;
-                self.ledger.wide = self.ledger.wide.saturating_add(1);
-            }
-            _ => {}
-        }
-    }
-
-    fn got(&mut self, mon: Mon, frame: &Frame) {
-        self.count(mon, frame);
-        match frame {
-            Frame::Report { seq, .. } | Frame::Settled { seq, .. } => {
-                let place = (mon.0 as usize).saturating_sub(1);
-                if place < self.assigns.len() && *seq < self.assigns[place] {
-                    self.ledger.stale = self.ledger.stale.saturating_add(1);
-                }
-            }
-            _ => {}
-        }
-    }
-}
-
 impl Ledger {
     /// Counts a story's journal, in one pass over it.
     pub fn of(alloc: Global, story: &Story) -> Result<Ledger, NoMemory> {
@@ -86,14 +35,12 @@ impl Ledger {
                 bytes: 0,
             },
             assigns: vec![in alloc; 0u64; monitors]?,
-            round: 0,
+            members: None,
+            rounds: 0,
+            reporter: None,
         };
         for entry in story.journal() {
-            match entry {
-                Noted::Got(mon, frame) => reading.got(*mon, frame.get()),
-                Noted::Sent(mon, frame) => reading.sent(*mon, frame.get()),
-                Noted::Published(_) | Noted::Tuned(_, _) => {}
-            }
+            reading.read(entry);
         }
         Ok(reading.ledger)
     }

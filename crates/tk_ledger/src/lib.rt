@@ -7,6 +7,7 @@
 mod counts;
 mod ledger;
 mod printing;
+mod reading;
 mod text;
 
 pub use counts::Counts;

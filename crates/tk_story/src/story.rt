@@ -69,7 +69,7 @@ impl Story {
           trails = map (λ m. m.trail) monitors.items;
         } }
     {
-        // The entries of a journal speak of its coordinator's monitors and objects.
+        // The journal is legal, and its entries speak of its coordinator's monitors and objects.
         coordinator.journal();
         Story {
             logs,

@@ -19,7 +19,8 @@ returns-then-not-is_above c =
     let within : c.loop-i.i < length c.args.failed.now = omega (arith, c.len-i-end.ensures.value) in
     let level : _ ≡ level_in known c.args.values.now c.at-o.result.0 = to_z-of_z w128 c.level.result fits ∙ c.level.ensures in
     let bad : whole known c.args.values.now c.at-o.result.0 ≡ true = ap not (sym (c.is_above.ensures ∙ ap₂ is_above c.requires.least level) ∙ c.if-not-is_above.true) in
-    rw (find_first (whole known c.args.values.now) c.args.failed.now c.loop-i.i c.at-o.result.0 c.loop-i.invariant (slice_get-get_or c.args.failed.now c.loop-i.i 0 within ∙ ap Some (sym c.at-o.ensures.value)) bad) refl
+    rw (find_first (whole known c.args.values.now) c.args.failed.now c.loop-i.i c.at-o.result.0 c.loop-i.invariant
+    (slice_get-get_or c.args.failed.now c.loop-i.i 0 within ∙ ap Some (sym c.at-o.ensures.value)) bad) refl
 
 pub loop-i-preserved : goal.loop-i-preserved
 loop-i-preserved c =
@@ -28,7 +29,8 @@ loop-i-preserved c =
     let within : c.loop-i.i < length c.args.failed.now = omega (arith, c.len-i-end.ensures.value) in
     let level : _ ≡ level_in known c.args.values.now c.at-o.result.0 = to_z-of_z w128 c.level.result fits ∙ c.level.ensures in
     let good : whole known c.args.values.now c.at-o.result.0 ≡ false = ap not (sym (c.is_above.ensures ∙ ap₂ is_above c.requires.least level) ∙ c.if-not-is_above.false) in
-    passed_more (whole known c.args.values.now) c.args.failed.now c.loop-i.i c.at-o.result.0 c.loop-i.invariant (slice_get-get_or c.args.failed.now c.loop-i.i 0 within ∙ ap Some (sym c.at-o.ensures.value)) good
+    passed_more (whole known c.args.values.now) c.args.failed.now c.loop-i.i c.at-o.result.0 c.loop-i.invariant
+    (slice_get-get_or c.args.failed.now c.loop-i.i 0 within ∙ ap Some (sym c.at-o.ensures.value)) good
 
 pub returns : goal.returns
 returns c =

@@ -1,26 +1,37 @@
-use Rattle.std.proofs.Common.{arith, ◌<◌, ◌≤◌, List, length, subst, sym}
-use Rattle.tk_rows.specs.declared.mon_change.MonChange.{MonChange}
+use Rattle.std.proofs.Common.{◌≡◌, ℕ, ◌+◌, ◌-◌, ◌^◌, ◌<◌, ◌≤◌, List, length, get_or, below_more, sym, ap, ◌∙◌, subst}
+use Rattle.std.proofs.lemmas.List.{get_or_default}
 use Rattle.std.proofs.lemmas.List.Elements.{All-push}
+use Rattle.tk_frames.specs.declared.frame.Frame.TheVariants as f
+use Rattle.tk_rows.specs.declared.mon_change.MonChange.{MonChange}
 use Rattle.tk_journal.specs.Entries.{IsEntryOf}
-use Rattle.tk_coord.proofs.BatchLemmas.{named_push, none_stops, runs_push}
-use Rattle.tk_coord.specs.Checks.{AreNamed}
+use Rattle.tk_journal.specs.declared.noted.Noted.TheVariants as n
+use Rattle.tk_coord.specs.Dealing.{assigns_by}
+use Rattle.tk_coord.proofs.EntriesLemmas.{assign_to, assigns_more}
 use Rattle.tk_coord.proofs.entries.assigns.Goals as goal
 
-pub loop-change-init : goal.loop-change-init
-loop-change-init c = (λ some. absurd (omega (arith, some)), rw c.in_ok-entries.ensures.items none_stops, λ q. rw c.in_ok-entries.ensures.items (λ k d below. absurd (omega (arith, below))))
-
 pub loop-change-preserved : goal.loop-change-preserved
-loop-change-preserved c = (
-  λ _. named_push c.args.reallocation.now.members _ c.in_ok-push.ensures.items c.in_ok-sent.ensures.value c.in_ok-members.ensures,
-  runs_push _ c.in_ok-push.ensures.items c.in_ok-sent.ensures.value c.loop-change.invariant.1,
-  λ q.
-      let item = c.change-item.result in
-      let some : AreNamed (length c.args.links.now) c.deref-change-items.result.now =
-      subst (λ (l : List MonChange). AreNamed (length c.args.links.now) l) (sym c.deref-change-items.ensures.value) c.requires.some in
-      let named = some c.loop-change.change-index item c.loop-change-test.true in
-      let low : 0 < item.mon.0 = subst (λ (x : MonChange). 0 < x.mon.0) (sym c.change-item.is) named.0 in
-      let high : item.mon.0 ≤ length c.args.links.now = subst (λ (x : MonChange). x.mon.0 ≤ length c.args.links.now) (sym c.change-item.is) named.1 in
-      rw c.in_ok-push.ensures.items
-      (All-push (IsEntryOf (length c.args.links.now) q) c.loop-change.entries.items c.in_ok-sent.field-0 (c.loop-change.invariant.2 q)
-      (c.in_ok-sent.ensures.monitor (length c.args.links.now) q low high)),
-)
+loop-change-preserved c =
+    let links = c.args.links.now in
+    let members = c.args.reallocation.now.members in
+    let at = c.args.reallocation.now.at.items in
+    let i = c.loop-change.change-index in
+    let item = c.change-item.result in
+    let here : item ≡ get_or at i item = c.change-item.is ∙ ap (λ (l : List MonChange). get_or l i item) c.deref-change-items.ensures.value in
+    let within : i < length at = subst (λ (l : List MonChange). i < length l) c.deref-change-items.ensures.value c.loop-change-test.true in
+    let named = c.requires i item within in
+    let low : 0 < item.mon.0 = subst (λ (x : MonChange). 0 < x.mon.0) (sym here) named.0 in
+    let high : item.mon.0 ≤ length links = subst (λ (x : MonChange). x.mon.0 ≤ length links) (sym here) named.1 in
+    let seq : c.in_ok-seq.seq ≡ assigns_by links item.mon.0 + 1 = c.in_ok-seq.ensures.value in
+    let told : n.Sent (record { 0 = item.mon.0 }) (f.Assign c.in_ok-seq.seq c.in_ok-members.members c.in_ok-changes.changes) ≡ assign_to links members (item.mon.0, item.changes) =
+    λ k. n.Sent (record { 0 = item.mon.0 }) (f.Assign (seq k) (c.in_ok-members.ensures k) (c.in_ok-changes.ensures k)) in
+    let each : ℕ → Type 0 = λ k. (d : MonChange) → assigns_by links (get_or at k d).mon.0 < 2 ^ 64 - 1 in (
+      assigns_more links members at i item within c.loop-change.invariant.0 c.in_ok-push.ensures.items
+          (c.in_ok-sent.ensures.value ∙ told ∙ ap (λ (x : MonChange). assign_to links members (x.mon.0, x.changes)) here),
+      λ k d below.
+          below_more each i (λ q low' e. c.loop-change.invariant.1 q e low')
+          (λ e. subst (λ (x : MonChange). assigns_by links x.mon.0 < 2 ^ 64 - 1) (here ∙ get_or_default at i item e within) c.in_ok-seq.ensures.room) k below d,
+      λ q.
+          rw c.in_ok-push.ensures.items
+          (All-push (IsEntryOf (length links) q) c.loop-change.entries.items c.in_ok-sent.field-0 (c.loop-change.invariant.2 q)
+          (c.in_ok-sent.ensures.monitor (length links) q low high)),
+    )

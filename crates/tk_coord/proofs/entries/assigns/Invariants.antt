@@ -1,12 +1,14 @@
-use Rattle.std.proofs.Common.{◌≡◌, ◌<◌, ℕ, Some, false, length}
-use Rattle.std.specs.List.{All, filter_map}
+use Rattle.std.proofs.Common.{◌≡◌, ◌<◌, ◌^◌, ◌-◌, ℕ, length, map, take, get_or}
+use Rattle.std.specs.List.{All}
+use Rattle.tk_rows.specs.declared.mon_change.MonChange.{MonChange}
+use Rattle.tk_alloc.specs.Parts.{by_monitor}
 use Rattle.tk_journal.specs.Entries.{IsEntryOf}
-use Rattle.tk_journal.specs.Readings.{is_stopped, members_in}
-use Rattle.tk_journal.specs.Walks.{last_of}
+use Rattle.tk_coord.specs.Dealing.{assigns_by}
+use Rattle.tk_coord.proofs.EntriesLemmas.{assign_to}
 use Rattle.tk_coord.proofs.entries.assigns.Given as goal
 
 abbrev pub invariant-loop-change : goal.invariant-loop-change
 invariant-loop-change l =
-    (0 < l.change-index → last_of (filter_map members_in l.entries.items) ≡ Some l.reallocation.members)
-    × (is_stopped l.entries.items ≡ false)
+    (l.entries.items ≡ map (assign_to l.links l.reallocation.members) (by_monitor (take l.change-index l.reallocation.at.items)))
+    × ((k : ℕ) (d : MonChange) → k < l.change-index → assigns_by l.links (get_or l.reallocation.at.items k d).mon.0 < 2 ^ 64 - 1)
     × ((n : ℕ) → All (IsEntryOf (length l.links) n) l.entries.items)

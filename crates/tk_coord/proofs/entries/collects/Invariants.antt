@@ -1,10 +1,9 @@
 use Rattle.std.proofs.Common.{◌≡◌, ℕ}
 use Rattle.std.specs.List.{All}
-use Rattle.tk_base.specs.Objects.{objects}
-use Rattle.tk_frames.specs.declared.frame.Frame.TheVariants as f
 use Rattle.tk_journal.specs.Entries.{IsEntryOf}
-use Rattle.tk_coord.specs.Batches.{to_each}
+use Rattle.tk_journal.specs.Turns.{collects}
+use Rattle.tk_coord.specs.Dealing.{mons_but}
 use Rattle.tk_coord.proofs.entries.collects.Given as goal
 
 abbrev pub invariant-loop-j : goal.invariant-loop-j
-invariant-loop-j l = (l.entries.items ≡ to_each (f.Collect l.round (objects l.catalogue)) l.j) × ((n : ℕ) → All (IsEntryOf l.monitors n) l.entries.items)
+invariant-loop-j l = (l.entries.items ≡ collects l.round l.asked (mons_but l.j l.but)) × ((n : ℕ) → All (IsEntryOf l.monitors n) l.entries.items)

@@ -18,7 +18,8 @@ pub returns-in-Sent-clause-sent : goal.returns-in-Sent-clause-sent
 returns-in-Sent-clause-sent c =
     let place = c.in-Sent.mon.0 - 1 in
     let monitor : (0 < c.in-Sent.mon.0) × (c.in-Sent.mon.0 ≤ length c.args.sent.now) = rw c.in-Sent.is at c.requires.monitor in
-    let old : slice_get c.args.sent.now place ≡ Some c.index-sent-mon.result = slice_get_read c.args.sent.now (length c.args.sent.now) place c.index-sent-mon.result refl (omega arith) c.index-sent-mon.is in
+    let old : slice_get c.args.sent.now place ≡ Some c.index-sent-mon.result =
+    slice_get_read c.args.sent.now (length c.args.sent.now) place c.index-sent-mon.result refl (omega arith) c.index-sent-mon.is in
     rw c.in-Sent.is (λ journal size at. sent_more c.args.sent.now journal c.in-Sent.mon c.in-Sent.field-1 c.index-sent-mon.result c.push_reserved.new.self monitor.0 monitor.1 old
     (c.push_reserved.ensures.items ∙ ap (λ v. v.items ++ c.args.place ∷ []) (sym c.index-sent-mon.is) ∙ ap (λ (k : ℕ). c.index-sent-mon.result.items ++ k ∷ []) (sym size)) at)
 

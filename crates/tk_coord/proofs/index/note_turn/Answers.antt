@@ -3,7 +3,6 @@ use Rattle.std.specs.Global.{Vec}
 use Rattle.std.specs.List.{All}
 use Rattle.std.proofs.lemmas.List.Elements.{All-append, All-cons}
 use Rattle.tk_journal.specs.declared.noted.Noted.{Noted}
-use Rattle.tk_journal.specs.declared.noted.Noted.TheVariants as n
 use Rattle.tk_coord.specs.Index.{AreIndexed, IsForOneOf}
 use Rattle.tk_coord.proofs.NotedLemmas.{written_back, front_of}
 use Rattle.tk_coord.proofs.index.note_turn.Goals as goal
@@ -15,20 +14,20 @@ returns-then-is_err-clause-sent c =
 pub note_from-requires-clause-monitors : goal.note_from-requires-clause-monitors
 note_from-requires-clause-monitors c =
     let m = vec_len c.args.index.now.sent in
-    let got : Noted = n.Got c.args.mon c.in_ok-kept.kept in
+    let first = c.args.first in
     let entries = c.args.entries.items in
     let count : length c.as_mut_slice-sent.result.now ≡ m = omega (arith, c.as_mut_slice-sent.ensures.len, c.reserve.ensures.same_monitors) in
-    let journal : c.as_slice.result.now ≡ c.args.journal.now.items ++ got ∷ entries =
-    c.as_slice.ensures.value ∙ c.append.ensures ∙ ap (λ (l : List Noted). l ++ got ∷ entries) c.reserve.ensures.same_journal in
+    let journal : c.as_slice.result.now ≡ c.args.journal.now.items ++ first ∷ entries =
+    c.as_slice.ensures.value ∙ c.append.ensures ∙ ap (λ (l : List Noted). l ++ first ∷ entries) c.reserve.ensures.same_journal in
     subst (λ (k : ℕ). All (IsForOneOf k) c.as_slice.result.now) (sym count)
     (subst (λ (l : List Noted). All (IsForOneOf m) l) (sym journal)
-    (All-append (IsForOneOf m) c.args.journal.now.items (got ∷ entries) c.requires.journal (All-cons (IsForOneOf m) got entries tt c.requires.entries)))
+    (All-append (IsForOneOf m) c.args.journal.now.items (first ∷ entries) c.requires.journal (All-cons (IsForOneOf m) first entries c.requires.monitor c.requires.entries)))
 
 pub note_from-requires-clause-sent : goal.note_from-requires-clause-sent
 note_from-requires-clause-sent c =
-    let got : Noted = n.Got c.args.mon c.in_ok-kept.kept in
     let front : take c.len-from.result c.as_slice.result.now ≡ c.reserve.new.journal.items =
-    front_of c.as_slice.result.now c.reserve.new.journal.items (got ∷ c.args.entries.items) c.len-from.result (c.as_slice.ensures.value ∙ c.append.ensures) (omega (arith, c.len-from.ensures)) in
+    front_of c.as_slice.result.now c.reserve.new.journal.items (c.args.first ∷ c.args.entries.items) c.len-from.result (c.as_slice.ensures.value ∙ c.append.ensures)
+    (omega (arith, c.len-from.ensures)) in
     subst (λ (l : List Noted). AreIndexed l c.as_mut_slice-sent.result.now) (sym (front ∙ c.reserve.ensures.same_journal))
     (rw c.as_mut_slice-sent.ensures.value (c.reserve.ensures.kept c.args.journal.now.items c.requires.sent))
 

@@ -5,18 +5,21 @@ use Rattle.std.proofs.lemmas.Option.{slice_get_read, slice_get_within}
 use Rattle.tk_journal.specs.declared.noted.Noted.{Noted}
 use Rattle.tk_journal.specs.Links.{sent_to}
 use Rattle.tk_coord.specs.Index.{IsIndex, AreIndexed}
-use Rattle.tk_coord.proofs.IndexLemmas.{slice_get-set}
+use Rattle.tk_coord.proofs.ElementLemmas.{read_set}
 use Rattle.tk_coord.proofs.index.reserve_each.Goals as goal
 
 -- lists that hold what they held are indexed as they were
-still : (journal : List Noted) (old new : List (Vec ℕ)) → ((j : ℕ) (v : Vec ℕ) → slice_get new j ≡ Some v → (w : Vec ℕ) × (slice_get old j ≡ Some w) × (v.items ≡ w.items)) → AreIndexed journal old → AreIndexed journal new
+still : (journal : List Noted) (old new : List (Vec ℕ)) → ((j : ℕ) (v : Vec ℕ) → slice_get new j ≡ Some v → (w : Vec ℕ) × (slice_get old j ≡ Some w) × (v.items ≡ w.items))
+    → AreIndexed journal old → AreIndexed journal new
 still journal old new kept at j v is =
     let (w, here, same) = kept j v is in
     subst (λ (l : List ℕ). IsIndex (sent_to (suc j)) journal l) (sym same) (at j w here)
 
 -- a list written over with one that holds the same
-written : (old now : List (Vec ℕ)) (i : ℕ) (x y : Vec ℕ) → i < length now → slice_get now i ≡ Some x → y.items ≡ x.items → ((j : ℕ) (v : Vec ℕ) → slice_get now j ≡ Some v → (w : Vec ℕ) × (slice_get old j ≡ Some w) × (v.items ≡ w.items)) → (j : ℕ) (v : Vec ℕ) → slice_get (slice_set now i y) j ≡ Some v → (w : Vec ℕ) × (slice_get old j ≡ Some w) × (v.items ≡ w.items)
-written old now i x y within there same kept j v is = elim (slice_get-set now i j y v within is) [
+written : (old now : List (Vec ℕ)) (i : ℕ) (x y : Vec ℕ) → i < length now → slice_get now i ≡ Some x → y.items ≡ x.items
+    → ((j : ℕ) (v : Vec ℕ) → slice_get now j ≡ Some v → (w : Vec ℕ) × (slice_get old j ≡ Some w) × (v.items ≡ w.items)) → (j : ℕ) (v : Vec ℕ) → slice_get (slice_set now i y) j ≡ Some v
+    → (w : Vec ℕ) × (slice_get old j ≡ Some w) × (v.items ≡ w.items)
+written old now i x y within there same kept j v is = elim (read_set now i j y v within is) [
   | inl here ↦
       let (w, old_is, items) = kept i x there in
       (w, ap (λ k. slice_get old k) here.0 ∙ old_is, ap (λ (u : Vec ℕ). u.items) here.1 ∙ same ∙ items)
@@ -37,7 +40,7 @@ loop-places-preserved c =
     let there : slice_get c.loop-places.sent c.loop-places.places-index ≡ Some c.places-item.result =
     slice_get_read c.loop-places.sent (length c.loop-places.sent) c.loop-places.places-index c.places-item.result refl within c.places-item.is in
     record {
-      room = λ j v below is. elim (slice_get-set c.loop-places.sent c.loop-places.places-index j c.reserve.new.self v within is) [
+      room = λ j v below is. elim (read_set c.loop-places.sent c.loop-places.places-index j c.reserve.new.self v within is) [
         | inl here ↦
             let l : vec_len v ≡ vec_len c.reserve.new.self = ap vec_len here.1 in
             let k : vec_capacity v ≡ vec_capacity c.reserve.new.self = ap vec_capacity here.1 in

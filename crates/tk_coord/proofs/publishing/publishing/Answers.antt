@@ -1,11 +1,11 @@
-use Rattle.tk_coord.proofs.BatchLemmas.{none_stops, published_alone, published_last}
-use Rattle.std.proofs.Common.{[], ◌∷◌, ◌++◌, ◌≡◌, ◌≤◌, ℕ, List, sym, subst, ap, ◌∙◌, arith}
+use Rattle.std.proofs.Common.{◌≡◌, ◌≤◌, ℕ, List, [], ◌∷◌, ◌++◌, sym, ap, ◌∙◌, subst, arith}
 use Rattle.std.specs.List.{All}
 use Rattle.std.proofs.lemmas.List.Elements.{All-push}
+use Rattle.tk_coord.proofs.BatchLemmas.{none_stops, published_alone, published_last}
+use Rattle.tk_journal.specs.Entries.{IsEntryOf}
 use Rattle.tk_journal.specs.declared.noted.Noted.{Noted}
 use Rattle.tk_journal.specs.declared.noted.Noted.TheVariants as n
 use Rattle.tk_journal.specs.declared.publication.Publication.{Publication}
-use Rattle.tk_journal.specs.Entries.{IsEntryOf}
 use Rattle.tk_coord.proofs.publishing.publishing.Goals as goal
 use Rattle.tk_coord.proofs.publishing.publishing.Goals.{then-last+in_ok-push_stops, else-last}
 
@@ -16,32 +16,27 @@ stops_over m n objects xs ys same stops all =
 
 pub returns-clause-entries : goal.returns-clause-entries
 returns-clause-entries c = λ objects within.
-    let set : c.in-Some.publication.members ≡ c.args.members.now = rw c.in-Some.is at c.in_ok-publication.ensures in
-    let members : c.in-Ok.kept.members ≡ c.args.members.now = ap (λ (p : Publication). p.members) c.in-Ok.ensures.ok ∙ set in
+    let members : c.in-Ok.kept.members ≡ c.args.members.now = ap (λ (p : Publication). p.members) c.in-Ok.ensures.ok ∙ c.in_ok-try_clone.ensures in
     let here : All (λ t. t ≤ objects) c.in-Ok.kept.members = subst (λ (l : List ℕ). All (λ t. t ≤ objects) l) (sym members) within in
     let none : All (IsEntryOf c.args.settings.now.monitors objects) c.new-entries.result.items = rw c.new-entries.ensures.items (λ k d below. absurd (omega arith)) in
     let first : All (IsEntryOf c.args.settings.now.monitors objects) c.push.new.self.items =
     rw c.in_ok-push.ensures.items (All-push (IsEntryOf c.args.settings.now.monitors objects) c.new-entries.result.items (n.Published c.in-Ok.kept) none here) in
     elim c.if-last.branch [
-      | then-last+in_ok-push_stops w ↦ rw w.entries-is (stops_over w.monitors.result c.args.settings.now.monitors objects c.push.new.self.items w.push_stops.new.entries.items w.monitors.ensures.value (w.in_ok-push_stops.ensures.entries objects) first)
+      | then-last+in_ok-push_stops w ↦ rw w.entries-is
+          (stops_over w.monitors.result c.args.settings.now.monitors objects c.push.new.self.items w.push_stops.new.entries.items w.monitors.ensures.value
+          (w.in_ok-push_stops.ensures.entries objects) first)
       | else-last w ↦ rw w.entries-is first
     ]
 
-pub returns-in_default-clause-ends : goal.returns-in_default-clause-ends
-returns-in_default-clause-ends c = rw c.new-entries.ensures.items none_stops
-
-pub returns-clause-named : goal.returns-clause-named
-returns-clause-named c =
-    let first : c.push.new.self.items ≡ n.Published c.in-Ok.kept ∷ [] = c.in_ok-push.ensures.items ∙ ap (λ (l : List Noted). l ++ n.Published c.in-Ok.kept ∷ []) c.new-entries.ensures.items in
-    elim c.if-last.branch [
-      | then-last+in_ok-push_stops w ↦ rw w.entries-is (published_last w.push_stops.new.entries.items c.push.new.self.items c.in-Ok.kept w.monitors.result first w.in_ok-push_stops.ensures.value (omega (arith, w.monitors.ensures.value, w.monitors.ensures.limits.some_monitor))).0
-      | else-last w ↦ rw w.entries-is (published_alone c.push.new.self.items c.in-Ok.kept first).0
-    ]
+pub returns-then-not-last-clause-ends : goal.returns-then-not-last-clause-ends
+returns-then-not-last-clause-ends c = rw c.new-entries.ensures.items none_stops
 
 pub returns-clause-ends : goal.returns-clause-ends
 returns-clause-ends c =
     let first : c.push.new.self.items ≡ n.Published c.in-Ok.kept ∷ [] = c.in_ok-push.ensures.items ∙ ap (λ (l : List Noted). l ++ n.Published c.in-Ok.kept ∷ []) c.new-entries.ensures.items in
     elim c.if-last.branch [
-      | then-last+in_ok-push_stops w ↦ rw w.entries-is ((published_last w.push_stops.new.entries.items c.push.new.self.items c.in-Ok.kept w.monitors.result first w.in_ok-push_stops.ensures.value (omega (arith, w.monitors.ensures.value, w.monitors.ensures.limits.some_monitor))).1 ∙ sym w.if-last.true)
+      | then-last+in_ok-push_stops w ↦ rw w.entries-is
+          ((published_last w.push_stops.new.entries.items c.push.new.self.items c.in-Ok.kept w.monitors.result first w.in_ok-push_stops.ensures.value
+          (omega (arith, w.monitors.ensures.value, w.monitors.ensures.limits.some_monitor))).1 ∙ sym w.if-last.true)
       | else-last w ↦ rw w.entries-is ((published_alone c.push.new.self.items c.in-Ok.kept first).1 ∙ sym w.if-last.false)
     ]

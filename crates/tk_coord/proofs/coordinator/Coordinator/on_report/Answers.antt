@@ -1,18 +1,102 @@
-use Rattle.std.proofs.Common.{◌≡◌, ℕ, ap, subst, ◌∙◌}
-use Rattle.std.specs.List.{All}
-use Rattle.tk_journal.specs.Entries.{IsEntryOf}
+use Rattle.std.proofs.Common.{FitsSigned, ◌≡◌, ℕ, ℤ, List, None, false, true, refl, sym, ap, ◌∙◌, subst, arith}
+use Rattle.std.specs.Int.{w128}
+use Rattle.std.specs.Prelude.{nat_lt}
+use Rattle.std.proofs.lemmas.Int.{ints, to_z-of_z}
+use Rattle.std.proofs.lemmas.Bool.{ltb-true}
+use Rattle.tk_base.specs.Settings.{Setup}
+use Rattle.tk_base.specs.declared.ids.Mon.{Mon}
+use Rattle.tk_frames.specs.declared.frame.Frame.{Frame}
+use Rattle.tk_frames.specs.declared.frame.Frame.TheVariants as f
+use Rattle.tk_alloc.specs.declared.reported.Reported.{Reported}
+use Rattle.tk_journal.specs.Readings.{assigns_sent, is_open}
+use Rattle.tk_journal.specs.Refusal.{refusal_of}
+use Rattle.tk_journal.specs.declared.noted.Noted.{Noted}
 use Rattle.tk_coord.specs.Coordinator.{Seen}
-use Rattle.tk_coord.proofs.BatchLemmas.{collects_step}
+use Rattle.tk_coord.specs.Steps.{Follows, IsStep, Tells, report_frame}
+use Rattle.tk_coord.specs.declared.step.Step.{Step}
+use Rattle.tk_coord.specs.declared.step.Told.{Told}
+use Rattle.tk_coord.specs.declared.step.Told.TheVariants as told
+use Rattle.tk_coord.proofs.GrowLemmas.{orderly_at}
+use Rattle.tk_journal.proofs.Turning.{fresh_seq}
+use Rattle.std.proofs.lemmas.Bool.{eqb-true}
+use Rattle.tk_coord.proofs.SettledTurns.{noted_report_follows, stale_report_follows}
+use Rattle.tk_coord.proofs.TellLemmas.{report_stale, report_tells}
 use Rattle.tk_coord.proofs.coordinator.Coordinator.on_report.Goals as goal
 
-pub returns-clause-step : goal.returns-clause-step
-returns-clause-step c =
-    let objects = c.args.self.now.settings.objects in
-    let monitors : c.monitors-monitors.result ≡ c.args.self.now.settings.monitors = c.monitors-monitors.ensures.value ∙ ap (λ (s : Seen). s.settings.monitors) c.self.view_is in
-    let step = collects_step c.in_ok-entries.entries.items _ _ _ c.args.self.now.members c.in_ok-entries.ensures.value in
+-- a step, by what its frame tells
+step_of : (s : Setup) (j : List Noted) (mon : Mon) (frame : Frame) (t : Told) (step : Step) → step.told ≡ t → Tells s j mon frame t → Follows s j mon frame step.outcome → IsStep s j mon frame step
+step_of s j mon frame t step is tells follows = record { told = subst (λ (x : Told). Tells s j mon frame x) (sym is) tells; outcome = follows }
+
+-- a Report that is not stale is fresh
+fresh_of : (s : Setup) (j : List Noted) (mon : Mon) (seq : ℕ) (border : ℤ) (failed : List ℕ) (values : List (ℕ × ℤ)) → refusal_of s j mon.0 (f.Report seq border failed values) ≡ None
+    → nat_lt seq (assigns_sent mon.0 j) ≡ false → seq ≡ assigns_sent mon.0 j
+fresh_of s j mon seq border failed values none late = eqb-true seq (assigns_sent mon.0 j) (fresh_seq s j mon seq border failed values none late)
+
+pub returns-then-is_stale : goal.returns-then-is_stale
+returns-then-is_stale c =
+    let s = c.args.self.now.settings in
+    let j = c.args.self.now.journal in
+    let mon = c.args.mon in
+    let r = c.in-Report in
+    let frame = f.Report r.seq r.border r.failed r.values in
+    let none : refusal_of s j mon.0 frame ≡ None = subst (λ (x : Frame). refusal_of s j mon.0 x ≡ None) r.is c.requires.taken in
+    let late : nat_lt r.seq (assigns_sent mon.0 j) ≡ true = sym c.is_stale.ensures.value ∙ c.if-is_stale.true in
+    subst (λ (x : Frame). IsStep s j mon x c.quiet.result) (sym r.is)
+    (step_of s j mon frame told.Nothing c.quiet.result c.quiet.ensures.told (report_stale s j mon r.seq r.border r.failed r.values (ltb-true r.seq (assigns_sent mon.0 j) late))
+    (stale_report_follows s j mon r.seq r.border r.failed r.values c.quiet.result.outcome c.is_stale.ensures.journal none late c.quiet.ensures.entries c.quiet.ensures.reply c.quiet.ensures.standing))
+
+pub returns-then-self : goal.returns-then-self
+returns-then-self c =
+    let s = c.args.self.now.settings in
+    let j = c.args.self.now.journal in
+    let mon = c.args.mon in
+    let r = c.in-Report in
+    let q = c.quiet-then-self in
+    let frame = f.Report r.seq r.border r.failed r.values in
+    let none : refusal_of s j mon.0 frame ≡ None = subst (λ (x : Frame). refusal_of s j mon.0 x ≡ None) r.is c.requires.taken in
+    let late : nat_lt r.seq (assigns_sent mon.0 j) ≡ false = sym c.is_stale.ensures.value ∙ c.if-is_stale.false in
+    let opened : is_open s j ≡ true = sym (ap (λ (v : Seen). is_open v.settings v.journal) c.self.view_is) ∙ sym c.self.invariant.1.round.waiting ∙ c.if-self.true in
+    subst (λ (x : Frame). IsStep s j mon x q.result) (sym r.is)
+    (step_of s j mon frame told.Report q.result q.ensures.told
+    (report_tells s j mon r.seq r.border r.failed r.values (orderly_at s j c.is_stale.ensures.journal) none (fresh_of s j mon r.seq r.border r.failed r.values none late))
+    (noted_report_follows s j mon r.seq r.border r.failed r.values q.result.outcome none late opened q.ensures.entries q.ensures.reply q.ensures.standing))
+
+-- the frame, by what it reports
+frame_is : (j : List Noted) (seq : ℕ) (report : Reported) (border : ℤ) (failed : List ℕ) (values : List (ℕ × ℤ)) → seq ≡ assigns_sent report.mon.0 j → report.border ≡ border
+    → report.values ≡ values → report_frame j report failed ≡ f.Report seq border failed values
+frame_is j seq report border failed values fresh edge all =
+    ap (λ (k : ℕ). f.Report k report.border failed report.values) (sym fresh) ∙ ap (λ (z : ℤ). f.Report seq z failed report.values) edge ∙ ap (λ (ps : List (ℕ × ℤ)). f.Report seq border failed ps) all
+
+pub answered-requires-clause-taken : goal.answered-requires-clause-taken
+answered-requires-clause-taken c =
+    let s = c.args.self.now.settings in
+    let j = c.args.self.now.journal in
+    let mon = c.args.mon in
+    let r = c.in-Report in
+    let fits : FitsSigned w128 r.border = omega (arith, ints) in
+    let none : refusal_of s j mon.0 (f.Report r.seq r.border r.failed r.values) ≡ None = subst (λ (x : Frame). refusal_of s j mon.0 x ≡ None) r.is c.requires.taken in
+    let late : nat_lt r.seq (assigns_sent mon.0 j) ≡ false = sym c.is_stale.ensures.value ∙ c.if-is_stale.false in
     record {
-      entries = subst (λ (k : ℕ). All (IsEntryOf k objects) c.in_ok-entries.entries.items) monitors (c.in_ok-entries.ensures.entries objects);
-      change = tt;
-      members = step.0;
-      ends = step.1;
+      failed = r.failed;
+      taken = subst (λ (x : Frame). refusal_of s j mon.0 x ≡ None)
+          (sym (frame_is j r.seq _ r.border r.failed r.values (fresh_of s j mon r.seq r.border r.failed r.values none late) (to_z-of_z w128 r.border fits) c.in_ok-try_clone.ensures)) none;
     }
+
+pub returns : goal.returns
+returns c =
+    let s = c.args.self.now.settings in
+    let j = c.args.self.now.journal in
+    let mon = c.args.mon in
+    let r = c.in-Report in
+    let fits : FitsSigned w128 r.border = omega (arith, ints) in
+    let frame = f.Report r.seq r.border r.failed r.values in
+    let none : refusal_of s j mon.0 frame ≡ None = subst (λ (x : Frame). refusal_of s j mon.0 x ≡ None) r.is c.requires.taken in
+    let late : nat_lt r.seq (assigns_sent mon.0 j) ≡ false = sym c.is_stale.ensures.value ∙ c.if-is_stale.false in
+    let fresh = fresh_of s j mon r.seq r.border r.failed r.values none late in
+    let is = frame_is j r.seq _ r.border r.failed r.values fresh (to_z-of_z w128 r.border fits) c.in_ok-try_clone.ensures in
+    let step : Step = record { told = told.Report; outcome = c.in_ok-outcome.outcome } in
+    subst (λ (x : Frame). IsStep s j mon x step) (sym r.is)
+    (step_of s j mon frame told.Report step refl
+    (report_tells s j mon r.seq r.border r.failed r.values (orderly_at s j c.is_stale.ensures.journal) none fresh)
+    (subst (λ (x : Frame). Follows s j mon x c.in_ok-outcome.outcome) is
+    (rw c.in_ok-outcome.was at (c.answered.ensures r.failed (subst (λ (x : Frame). refusal_of s j mon.0 x ≡ None) (sym is) none)))))

@@ -1,21 +1,62 @@
-use Rattle.std.proofs.Common.{ℕ, List, sym, ap, subst}
-use Rattle.std.specs.Prelude.{unwrap_or}
-use Rattle.std.specs.List.{All}
-use Rattle.tk_journal.specs.Walks.{last_of}
-use Rattle.tk_journal.specs.Entries.{IsEntryOf}
-use Rattle.tk_coord.specs.Checks.{AreWithin}
+use Rattle.std.proofs.Common.{◌≡◌, ◌≤◌, ◌+◌, ◌∙◌, ℕ, refl, sym, subst, ap, inl, inr}
+use Rattle.tk_journal.specs.Readings.{is_open, members_at}
 use Rattle.tk_coord.specs.Coordinator.{Seen}
+use Rattle.tk_coord.specs.State.{Stands}
+use Rattle.tk_coord.proofs.SettledSteps.{calm_step, settled_taken, some_monitor, stale_step, stirred_step}
+use Rattle.tk_coord.proofs.coordinator.Coordinator.on_settled.Goals.{then-self-via-then-self, then-self-via-else-self+then-not-others_settled}
 use Rattle.tk_coord.proofs.coordinator.Coordinator.on_settled.Goals as goal
 
-pub returns-clause-step : goal.returns-clause-step
-returns-clause-step c =
-    let objects = c.args.self.now.settings.objects in
-    let monitors = ap (λ (s : Seen). s.settings.monitors) c.self.view_is in
-    let within : AreWithin objects c.args.self.now.members = subst (λ (s : Seen). AreWithin s.settings.objects s.members) c.self.view_is c.self.invariant.0.within in
-    let members = ap (λ (s : Seen). s.members) c.self.view_is in
-    record {
-      entries = subst (λ (k : ℕ). All (IsEntryOf k objects) c.in_ok-entries.entries.items) monitors (c.in_ok-entries.ensures.entries objects (subst (λ (l : List ℕ). AreWithin objects l) (sym members) within));
-      change = tt;
-      members = ap (λ (l : List (List ℕ)). unwrap_or (last_of l) c.args.self.now.members) c.in_ok-entries.ensures.named;
-      ends = c.in_ok-entries.ensures.ends;
-    }
+pub returns-then-is_stale : goal.returns-then-is_stale
+returns-then-is_stale c =
+    let now = c.args.self.now in
+    let f = c.self.inside in
+    let s = c.in-Settled in
+    let links = c.as_slice-links.result.now in
+    let e = c.quiet.ensures in
+    stale_step now.settings now.journal links c.args.mon c.args.frame.now s.seq s.last s.places c.quiet.result
+    (settled_taken (record { settings = f.settings; members = f.state.members; table = f.state.table; journal = f.journal.items }) now links f.state.links.items
+    c.args.mon c.args.frame.now s.seq s.last s.places c.self.view_is c.self.invariant.0 c.as_slice-links.ensures.value c.self.invariant.1.links
+    c.requires.some_monitor c.requires.monitor s.is c.requires.taken)
+    (sym c.if-is_stale.ensures.value) e.told e.entries e.reply e.standing
+
+pub returns-then-self : goal.returns-then-self
+returns-then-self c =
+    let now = c.args.self.now in
+    let f = c.self.inside in
+    let s = c.in-Settled in
+    let links = c.as_slice-links.result.now in
+    let e = c.quiet-then-self.ensures in
+    let waits = subst (λ (v : Seen). f.state.round.waiting ≡ is_open v.settings v.journal) c.self.view_is c.self.invariant.1.round.waiting in
+    stirred_step now.settings now.journal links c.args.mon c.args.frame.now s.seq s.last s.places c.in_ok-progress.progress c.quiet-then-self.result
+    (settled_taken (record { settings = f.settings; members = f.state.members; table = f.state.table; journal = f.journal.items }) now links f.state.links.items
+    c.args.mon c.args.frame.now s.seq s.last s.places c.self.view_is c.self.invariant.0 c.as_slice-links.ensures.value c.self.invariant.1.links
+    c.requires.some_monitor c.requires.monitor s.is c.requires.taken)
+    (sym c.if-is_stale.ensures.value) c.in_ok-progress.ensures
+    (elim c.then-self.branch [
+      | then-self-via-then-self w ↦ inl (sym waits ∙ w.if-self.true)
+      | then-self-via-else-self+then-not-others_settled w ↦ inr w.if-not-others_settled.ensures.one
+    ]) e.told e.entries e.reply e.standing
+
+pub publishing-requires : goal.publishing-requires
+publishing-requires c =
+    let f = c.self.inside in
+    let high = subst (λ (v : Seen). c.args.mon.0 ≤ v.settings.monitors) (sym c.self.view_is) c.requires.monitor in
+    record { some = some_monitor f.settings f.journal.items f.standing c.args.mon.0 c.self.invariant.2 (record { from_one = c.requires.some_monitor; within = high }) }
+
+pub returns : goal.returns
+returns c =
+    let now = c.args.self.now in
+    let f = c.self.inside in
+    let s = c.in-Settled in
+    let links = c.as_slice-links.result.now in
+    let e = c.in_ok-entries.ensures in
+    let waits = subst (λ (v : Seen). f.state.round.waiting ≡ is_open v.settings v.journal) c.self.view_is c.self.invariant.1.round.waiting in
+    calm_step now.settings now.journal links c.args.mon c.args.frame.now s.seq s.last s.places c.in_ok-progress.progress
+    f.standing f.state.members c.has_news.result (c.published.result + 1) c.in_ok-entries.stopped _
+    (settled_taken (record { settings = f.settings; members = f.state.members; table = f.state.table; journal = f.journal.items }) now links f.state.links.items
+    c.args.mon c.args.frame.now s.seq s.last s.places c.self.view_is c.self.invariant.0 c.as_slice-links.ensures.value c.self.invariant.1.links
+    c.requires.some_monitor c.requires.monitor s.is c.requires.taken)
+    (sym c.if-is_stale.ensures.value) c.in_ok-progress.ensures (sym waits ∙ c.if-self.false) c.if-not-others_settled.ensures.all
+    (subst (λ (v : Seen). Stands v.settings v.journal f.standing) c.self.view_is c.self.invariant.2)
+    (subst (λ (v : Seen). f.state.members ≡ members_at v.journal) c.self.view_is c.self.invariant.1.members)
+    c.has_news.ensures (ap (λ (k : ℕ). k + 1) c.published.ensures) refl e.value e.ends refl c.calm.ensures e.entries

@@ -22,7 +22,8 @@ is_published (n.Published q) p is = ap n.Published (same_some is)
     same_some e = cc
 
 -- the entry at the place that the index gives
-read_at : (journal : List Noted) (places : List ℕ) (i place : ℕ) → IsIndex published_in journal places → i < length (publications journal) → place ≡ get_or places i place → (e : Noted) × (p : Publication) × (slice_get journal place ≡ Some e) × (e ≡ n.Published p) × (slice_get (publications journal) i ≡ Some p)
+read_at : (journal : List Noted) (places : List ℕ) (i place : ℕ) → IsIndex published_in journal places → i < length (publications journal) → place ≡ get_or places i place
+    → (e : Noted) × (p : Publication) × (slice_get journal place ≡ Some e) × (e ≡ n.Published p) × (slice_get (publications journal) i ≡ Some p)
 read_at journal places i place at within here =
     let (e, p, there, reads, found) = index_reads published_in journal places i at within in
     let same : place ≡ slice_index places i = here ∙ get_or_default places i place 0 (omega (arith, at.count)) in
@@ -32,21 +33,21 @@ pub index-requires-2 : goal.index-requires-2
 index-requires-2 c =
     let f = c.self.inside in
     let inside : c.args.i < length (publications f.journal.items) = subst (λ (s : Seen). c.args.i < length (publications s.journal)) (sym c.self.view_is) c.requires in
-    let (e, p, there, is, found) = read_at f.journal.items f.index.published.items c.args.i c.index.result.now c.self.invariant.2.sets inside c.index.ensures in
+    let (e, p, there, is, found) = read_at f.journal.items f.index.published.items c.args.i c.index.result.now c.self.invariant.3.sets inside c.index.ensures in
     omega (arith, slice_get_within f.journal.items c.index.result.now e there)
 
 pub unreachable-requires : goal.unreachable-requires
 unreachable-requires c =
     let f = c.self.inside in
     let inside : c.args.i < length (publications f.journal.items) = subst (λ (s : Seen). c.args.i < length (publications s.journal)) (sym c.self.view_is) c.requires in
-    let (e, p, there, is, found) = read_at f.journal.items f.index.published.items c.args.i c.index.result.now c.self.invariant.2.sets inside c.index.ensures in
+    let (e, p, there, is, found) = read_at f.journal.items f.index.published.items c.args.i c.index.result.now c.self.invariant.3.sets inside c.index.ensures in
     c.in_default.not-Published p (c.index-2.ensures ∙ get_or_from_slice_get f.journal.items c.index.result.now e c.index-2.result.now there ∙ is)
 
 pub returns : goal.returns
 returns c =
     let f = c.self.inside in
     let inside : c.args.i < length (publications f.journal.items) = subst (λ (s : Seen). c.args.i < length (publications s.journal)) (sym c.self.view_is) c.requires in
-    let (e, p, there, is, found) = read_at f.journal.items f.index.published.items c.args.i c.index.result.now c.self.invariant.2.sets inside c.index.ensures in
+    let (e, p, there, is, found) = read_at f.journal.items f.index.published.items c.args.i c.index.result.now c.self.invariant.3.sets inside c.index.ensures in
     let same : n.Published c.in-Published.publication ≡ n.Published p =
     sym c.in-Published.is ∙ c.index-2.ensures ∙ get_or_from_slice_get f.journal.items c.index.result.now e c.index-2.result.now there ∙ is in
     let publication : c.in-Published.publication ≡ p = cc in

@@ -25,7 +25,9 @@ is_sent j (n.Published q) g is = cc
 is_sent j (n.Tuned k epsilon) g is = cc
 
 -- the entry at the place that the index gives
-read_at : (journal : List Noted) (sent : List (Vec ℕ)) (mon i place : ℕ) (v : Vec ℕ) → 0 < mon → mon ≤ length sent → AreIndexed journal sent → i < length (frames_to mon journal) → v ≡ get_or sent (mon - 1) v → place ≡ get_or v.items i place → (e : Noted) × (g : Frame) × (m : Mon) × (slice_get journal place ≡ Some e) × (e ≡ n.Sent m g) × (slice_get (frames_to mon journal) i ≡ Some g)
+read_at : (journal : List Noted) (sent : List (Vec ℕ)) (mon i place : ℕ) (v : Vec ℕ) → 0 < mon → mon ≤ length sent → AreIndexed journal sent → i < length (frames_to mon journal)
+    → v ≡ get_or sent (mon - 1) v → place ≡ get_or v.items i place
+    → (e : Noted) × (g : Frame) × (m : Mon) × (slice_get journal place ≡ Some e) × (e ≡ n.Sent m g) × (slice_get (frames_to mon journal) i ≡ Some g)
 read_at journal sent mon i place v some high at within list here =
     let number : suc (mon - 1) ≡ mon = omega arith in
     let index : IsIndex (sent_to mon) journal v.items =
@@ -38,25 +40,31 @@ read_at journal sent mon i place v some high at within list here =
 pub index-requires-3 : goal.index-requires-3
 index-requires-3 c =
     let f = c.self.inside in
-    let high : c.args.mon.0 ≤ length f.index.sent.items = omega (arith, c.self.invariant.2.list_count, ap (λ (s : Seen). s.settings.monitors) c.self.view_is) in
+    let high : c.args.mon.0 ≤ length f.index.sent.items = omega (arith, c.self.invariant.3.list_count, ap (λ (s : Seen). s.settings.monitors) c.self.view_is) in
     let inside : c.args.i < length (frames_to c.args.mon.0 f.journal.items) = subst (λ (s : Seen). c.args.i < length (frames_to c.args.mon.0 s.journal)) (sym c.self.view_is) c.requires.within in
-    let (e, g, m, there, is, found) = read_at f.journal.items f.index.sent.items c.args.mon.0 c.args.i c.index-2.result.now c.index.result.now c.requires.some_monitor high c.self.invariant.2.frames inside c.index.ensures c.index-2.ensures in
+    let (e, g, m, there, is, found) =
+    read_at f.journal.items f.index.sent.items c.args.mon.0 c.args.i c.index-2.result.now c.index.result.now
+    c.requires.some_monitor high c.self.invariant.3.frames inside c.index.ensures c.index-2.ensures in
     omega (arith, slice_get_within f.journal.items c.index-2.result.now e there)
 
 pub unreachable-requires : goal.unreachable-requires
 unreachable-requires c =
     let f = c.self.inside in
-    let high : c.args.mon.0 ≤ length f.index.sent.items = omega (arith, c.self.invariant.2.list_count, ap (λ (s : Seen). s.settings.monitors) c.self.view_is) in
+    let high : c.args.mon.0 ≤ length f.index.sent.items = omega (arith, c.self.invariant.3.list_count, ap (λ (s : Seen). s.settings.monitors) c.self.view_is) in
     let inside : c.args.i < length (frames_to c.args.mon.0 f.journal.items) = subst (λ (s : Seen). c.args.i < length (frames_to c.args.mon.0 s.journal)) (sym c.self.view_is) c.requires.within in
-    let (e, g, m, there, is, found) = read_at f.journal.items f.index.sent.items c.args.mon.0 c.args.i c.index-2.result.now c.index.result.now c.requires.some_monitor high c.self.invariant.2.frames inside c.index.ensures c.index-2.ensures in
+    let (e, g, m, there, is, found) =
+    read_at f.journal.items f.index.sent.items c.args.mon.0 c.args.i c.index-2.result.now c.index.result.now
+    c.requires.some_monitor high c.self.invariant.3.frames inside c.index.ensures c.index-2.ensures in
     c.in_default.not-Sent m g (c.index-3.ensures ∙ get_or_from_slice_get f.journal.items c.index-2.result.now e c.index-3.result.now there ∙ is)
 
 pub returns : goal.returns
 returns c =
     let f = c.self.inside in
-    let high : c.args.mon.0 ≤ length f.index.sent.items = omega (arith, c.self.invariant.2.list_count, ap (λ (s : Seen). s.settings.monitors) c.self.view_is) in
+    let high : c.args.mon.0 ≤ length f.index.sent.items = omega (arith, c.self.invariant.3.list_count, ap (λ (s : Seen). s.settings.monitors) c.self.view_is) in
     let inside : c.args.i < length (frames_to c.args.mon.0 f.journal.items) = subst (λ (s : Seen). c.args.i < length (frames_to c.args.mon.0 s.journal)) (sym c.self.view_is) c.requires.within in
-    let (e, g, m, there, is, found) = read_at f.journal.items f.index.sent.items c.args.mon.0 c.args.i c.index-2.result.now c.index.result.now c.requires.some_monitor high c.self.invariant.2.frames inside c.index.ensures c.index-2.ensures in
+    let (e, g, m, there, is, found) =
+    read_at f.journal.items f.index.sent.items c.args.mon.0 c.args.i c.index-2.result.now c.index.result.now
+    c.requires.some_monitor high c.self.invariant.3.frames inside c.index.ensures c.index-2.ensures in
     let same : n.Sent c.in-Sent.field-0 c.in-Sent.frame ≡ n.Sent m g =
     sym c.in-Sent.is ∙ c.index-3.ensures ∙ get_or_from_slice_get f.journal.items c.index-2.result.now e c.index-3.result.now there ∙ is in
     let frame : c.in-Sent.frame ≡ g = cc in

@@ -1,0 +1,155 @@
+-- What is kept of the monitors, as readings of the journal.
+use Rattle.std.proofs.Common.{◌≡◌, ◌≢◌, ℕ, suc, Bool, true, false, ◌-◌, ◌==◌, List, [], ◌∷◌, ◌++◌, Option, Some, None, refl, sym, ap, ◌∙◌, arith, inl, inr}
+use Rattle.std.specs.Prelude.{ℤ, is_some, slice_get, get_or, if◌then◌else◌}
+use Rattle.std.specs.Option.{option_map}
+use Rattle.std.proofs.lemmas.Bool.{ne_eqb, cases_eq}
+use Rattle.std.proofs.lemmas.Option.{slice_get_within, slice_get-get_or}
+use Rattle.tk_base.specs.Settings.{Setup}
+use Rattle.tk_base.specs.declared.ids.Mon.{Mon}
+use Rattle.tk_frames.specs.Assigns.{assign_in}
+use Rattle.tk_frames.specs.declared.frame.Frame.{Frame}
+use Rattle.tk_frames.specs.declared.frame.Frame.TheVariants as f
+use Rattle.tk_alloc.specs.declared.reported.Reported.{Reported}
+use Rattle.tk_journal.specs.Walks.{walk}
+use Rattle.tk_journal.specs.Readings.{Progress, answer_of, answered, progress_of, told, settled_in, settled_of, assigns_on, last_round, asked_of, waits_for, is_open}
+use Rattle.tk_journal.specs.Links.{Passed, link_of}
+use Rattle.tk_journal.specs.Links.Passed.{Up, Down}
+use Rattle.tk_journal.specs.Laws.{IsMonitor}
+use Rattle.tk_journal.specs.Refusal.{refusal_of, is_report, waits_at}
+use Rattle.tk_journal.specs.declared.noted.Noted.{Noted}
+use Rattle.tk_journal.proofs.Turning.{any_range}
+use Rattle.tk_coord.specs.declared.link.Link.{Link}
+use Rattle.tk_coord.specs.declared.round.Round.{Round}
+use Rattle.tk_coord.specs.State.{kind_in, link_at, AreLinks, IsRound}
+use Rattle.tk_coord.specs.Closing.{settled_as, settled_by}
+use Rattle.tk_coord.specs.Refusals.{is_report_in}
+use Rattle.tk_coord.specs.Steps.{with_got}
+use Rattle.tk_coord.proofs.RangeLemmas.{none_of_range}
+use Rattle.tk_coord.proofs.TellLemmas.{values_done, values_other, waits_kept}
+
+-- ---- who is still waited for after the Values of a monitor
+
+-- the link of a monitor stands at its place
+pub link_place : (s : Setup) (j : List Noted) (links : List Link) (q : ℕ) → AreLinks s j links → IsMonitor s q → slice_get links (q - 1) ≡ Some (link_at j q)
+link_place s j links q kept m =
+    let low = m.from_one in
+    let high = m.within in
+    let count = kept.count in
+    let there = slice_get-get_or links (q - 1) (link_at j q) (omega (arith, low, high, count)) in
+    let place : suc (q - 1) ≡ q = omega (arith, low) in
+    there ∙ ap Some (kept.each (q - 1) (get_or links (q - 1) (link_at j q)) there ∙ ap (link_at j) place)
+
+-- the Values of a monitor leave nobody else waited for less
+waits_other : (q : ℕ) (j : List Noted) (mon : Mon) (frame : Frame) → q ≢ mon.0 → waits_for (last_round (with_got j mon frame)) q (with_got j mon frame) ≡ waits_for (last_round j) q j
+waits_other q j mon frame other =
+    waits_kept q j mon frame (values_other (last_round j) q j mon frame (ne_eqb mon.0 q (λ e. other (sym e))))
+
+-- the last Values that a round waits for end it
+pub none_waits : (s : Setup) (j : List Noted) (links : List Link) (mon : Mon) (round seq : ℕ) (border : ℤ) (values : List (ℕ × ℤ)) → AreLinks s j links → IsMonitor s mon.0
+    → refusal_of s j mon.0 (f.Values round seq border values) ≡ None → ((i : ℕ) (l : Link) → i ≢ mon.0 - 1 → slice_get links i ≡ Some l → l.waits ≡ false)
+    → is_open s (with_got j mon (f.Values round seq border values)) ≡ false
+unfolding is_open
+none_waits s j links mon round seq border values kept m none others =
+    let frame = f.Values round seq border values in
+    let now = with_got j mon frame in
+    none_of_range (λ q. waits_for (last_round now) q now) 1 s.monitors (λ q low high. elim (cases_eq q mon.0) [
+      | inl same ↦ ap (λ p. waits_for (last_round now) p now) same ∙ values_done s j mon round seq border values none
+      | inr other ↦
+          let from = m.from_one in
+          let place : q - 1 ≢ mon.0 - 1 = λ e. other (omega (arith, e, low, from)) in
+          waits_other q j mon frame other
+          ∙ others (q - 1) (link_at j q) place (link_place s j links q kept (record { from_one = low; within = omega (arith, high) }))
+    ])
+
+-- while another is waited for the round stays open
+pub one_waits : (s : Setup) (j : List Noted) (links : List Link) (mon : Mon) (round seq : ℕ) (border : ℤ) (values : List (ℕ × ℤ)) (i : ℕ) (l : Link) → AreLinks s j links → IsMonitor s mon.0
+    → i ≢ mon.0 - 1 → slice_get links i ≡ Some l → l.waits ≡ true → is_open s (with_got j mon (f.Values round seq border values)) ≡ true
+unfolding is_open
+one_waits s j links mon round seq border values i l kept m other there waits =
+    let frame = f.Values round seq border values in
+    let now = with_got j mon frame in
+    let place = slice_get_within links i l there in
+    let count = kept.count in
+    let from = m.from_one in
+    let apart : suc i ≢ mon.0 = λ e. other (omega (arith, e, from)) in
+    any_range (λ q. waits_for (last_round now) q now) 1 s.monitors (suc i) (omega arith) (omega (arith, place, count))
+    (waits_other (suc i) j mon frame apart ∙ sym (ap (λ (x : Link). x.waits) (kept.each i l there)) ∙ waits)
+
+-- ---- the kind of an answer
+
+-- by the kinds of frames
+report_by_kind : (answer : Option Frame) → is_report answer ≡ is_report_in (kind_in answer)
+report_by_kind None = refl
+report_by_kind (Some (f.Hello run version m)) = refl
+report_by_kind (Some (f.Report seq border failed values)) = refl
+report_by_kind (Some (f.Collect round asked)) = refl
+report_by_kind (Some (f.Values round seq border values)) = refl
+report_by_kind (Some (f.Assign seq members changes)) = refl
+report_by_kind (Some (f.Settled seq last places)) = refl
+report_by_kind (Some f.Stop) = refl
+
+-- whether the answer is a Report shows in its kind
+pub is_report_of : (mon : ℕ) (j : List Noted) → is_report (answer_of mon j) ≡ is_report_in (kind_in (answer_of mon j))
+is_report_of mon j = report_by_kind (answer_of mon j)
+
+-- the objects that a round asks for, with its number
+abbrev of_round : ℕ → List ℕ → ℕ × List ℕ
+of_round number asked = (number, asked)
+
+-- by whether the round waits
+awaited_by : (waits : Bool) (number number' : ℕ) (asked : Option (List ℕ)) (all : List ℕ) → number ≡ number' → (waits ≡ true → asked ≡ Some all)
+    → (if waits then option_map (of_round number) asked else None) ≡ (if waits then Some (of_round number' all) else None)
+awaited_by true number number' asked all same is = ap (option_map (of_round number)) (is refl) ∙ ap (λ k. Some (of_round k all)) same
+awaited_by false number number' asked all same is = refl
+
+-- the round that waits for a monitor, by the round that is kept
+pub waits_of : (s : Setup) (j : List Noted) (round : Round) (gathered : List Reported) (mon : ℕ) → IsRound s j round gathered → IsMonitor s mon
+    → waits_at mon j ≡ (if waits_for (last_round j) mon j then Some (round.number, round.asked) else None)
+waits_of s j round gathered mon kept m =
+    awaited_by (waits_for (last_round j) mon j) (last_round j) round.number (asked_of (last_round j) mon j) round.asked (sym kept.number) (λ waits. kept.asked mon m waits)
+
+-- ---- what the current answer says, by the last progress
+
+-- an answer that is a Settled says the last progress
+abbrev IsSaid : Option Frame → Option Progress → Type 0
+IsSaid answer progress = settled_in answer ≡ settled_as (kind_in answer) progress
+
+-- a Report takes its place, or is stale
+said_report : (fresh : Bool) (seq : ℕ) (border : ℤ) (failed : List ℕ) (values : List (ℕ × ℤ)) (answer : Option Frame) (progress : Option Progress) → IsSaid answer progress
+    → IsSaid (if fresh then Some (f.Report seq border failed values) else answer) progress
+said_report true seq border failed values answer progress said = refl
+said_report false seq border failed values answer progress said = said
+
+-- a Settled takes its place and is the last progress, or is stale
+said_settled : (fresh : Bool) (seq : ℕ) (last : Bool) (places : List ℕ) (answer : Option Frame) (progress : Option Progress) → IsSaid answer progress
+    → IsSaid (if fresh then Some (f.Settled seq last places) else answer) (if fresh then Some (record { places = places; last = last }) else progress)
+said_settled true seq last places answer progress said = refl
+said_settled false seq last places answer progress said = said
+
+-- an Assign clears the answer and leaves the progress
+said_down : (clears : Bool) (answer : Option Frame) (progress : Option Progress) → IsSaid answer progress → IsSaid (if clears then None else answer) progress
+said_down true answer progress said = refl
+said_down false answer progress said = said
+
+-- each frame that passes keeps it
+said_step : (before : List Passed) (answer : Option Frame) (progress : Option Progress) (passed : Passed) → IsSaid answer progress
+    → IsSaid (answered before answer passed) (told before progress passed)
+said_step before answer progress (Up (f.Hello run version m)) said = said
+said_step before answer progress (Up (f.Report seq border failed values)) said = said_report (seq == assigns_on before) seq border failed values answer progress said
+said_step before answer progress (Up (f.Collect round asked)) said = said
+said_step before answer progress (Up (f.Values round seq border values)) said = said
+said_step before answer progress (Up (f.Assign seq members changes)) said = said
+said_step before answer progress (Up (f.Settled seq last places)) said = said_settled (seq == assigns_on before) seq last places answer progress said
+said_step before answer progress (Up f.Stop) said = said
+said_step before answer progress (Down frame) said = said_down (is_some (assign_in frame)) answer progress said
+
+-- and so do all of a link
+said_from : (before link : List Passed) (answer : Option Frame) (progress : Option Progress) → IsSaid answer progress → IsSaid (walk answered before answer link) (walk told before progress link)
+said_from before [] answer progress said = said
+said_from before (passed ∷ link) answer progress said =
+    said_from (before ++ passed ∷ []) link (answered before answer passed) (told before progress passed) (said_step before answer progress passed said)
+
+-- what the current answer of a monitor says is what its link says
+pub says_as : (j : List Noted) (mon : ℕ) → settled_of mon j ≡ settled_by (Some (link_at j mon))
+unfolding answer_of progress_of
+says_as j mon = said_from [] (link_of mon j) None None refl

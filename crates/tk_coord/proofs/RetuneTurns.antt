@@ -1,0 +1,289 @@
+-- The turn of a retune: which refusal it meets, and what is kept of the journal that it brings about.
+use Rattle.std.proofs.Common.{◌≡◌, ℕ, suc, Bool, true, false, not, ◌+◌, ◌^◌, ◌<◌, ◌||◌, ℤ, pos, List, [], ◌∷◌, ◌++◌, length, Option, Some, None, Ok, Err, refl, sym, ap, ◌∙◌, subst, arith}
+use Rattle.std.specs.Prelude.{nat_le, is_some, if◌then◌else◌}
+use Rattle.std.specs.List.{range_with_len}
+use Rattle.std.proofs.lemmas.List.{append_assoc}
+use Rattle.tk_base.specs.Objects.{objects}
+use Rattle.tk_base.specs.Settings.{Setup, is_k}
+use Rattle.tk_frames.specs.declared.frame.Frame.TheVariants as f
+use Rattle.tk_journal.specs.Deciding.{report_of, answered_report}
+use Rattle.tk_journal.specs.Legal.{turn_of}
+use Rattle.tk_journal.specs.Readings.{Tuning, monitors, assigns_sent, answer_of, progress_of, members_at, last_round, asked_of, values_of, waits_for, is_open, is_calm, is_stopped, tunings, tuned_to}
+use Rattle.tk_journal.specs.Refusal.{retune_refusal_of}
+use Rattle.tk_journal.specs.Turns.{collects, failures_after, rounds, streak, wide_collects}
+use Rattle.tk_journal.specs.Walks.{walk, last_of}
+use Rattle.tk_journal.specs.declared.noted.Noted.{Noted}
+use Rattle.tk_journal.specs.declared.noted.Noted.TheVariants as n
+use Rattle.tk_journal.specs.declared.refusal.RetuneRefusal.{RetuneRefusal}
+use Rattle.tk_journal.specs.declared.refusal.RetuneRefusal.TheVariants as retune
+use Rattle.tk_journal.proofs.Appends.{last_of-append, walk-append, members_at-append, asked_of-append, values_of-append, answer_of-append, progress_of-append, is_stopped-append}
+use Rattle.tk_journal.proofs.Batches.{collects_round}
+use Rattle.tk_journal.proofs.Counting.{collects_count}
+use Rattle.tk_journal.proofs.LegalLemmas.{orderly_tuned, tuned_assigns, tuned_round, tuned_waits}
+use Rattle.tk_journal.proofs.Orderly.{IsOrderly}
+use Rattle.tk_journal.proofs.Published.{collects_are_wanted, no_stop}
+use Rattle.tk_journal.proofs.Same.{table_by, waits_by}
+use Rattle.tk_journal.proofs.Tuning.{force_closed, force_tuned, tuned_list, wide_by}
+use Rattle.tk_coord.specs.Coordinator.{IsJournal}
+use Rattle.tk_coord.specs.Dealing.{OpensWide}
+use Rattle.tk_coord.specs.State.{Holds, Stands, kind_in, link_at, up_to_eight}
+use Rattle.tk_coord.specs.Steps.{IsAsked, IsReply, retuned_to}
+use Rattle.tk_coord.specs.declared.round.Round.{Round}
+use Rattle.tk_coord.specs.declared.standing.Standing.{Standing}
+use Rattle.tk_coord.specs.declared.state.State.{State}
+use Rattle.tk_coord.specs.declared.step.Outcome.{Outcome}
+use Rattle.tk_coord.specs.declared.step.Reply.{Reply}
+use Rattle.tk_coord.specs.declared.step.Reply.TheVariants as reply
+use Rattle.tk_coord.proofs.AskedLemmas.{wide_is_asked}
+use Rattle.tk_coord.proofs.ClosingLemmas.{uncalm_open, wide_opens}
+use Rattle.tk_coord.proofs.FollowLemmas.{wide_over}
+use Rattle.tk_coord.proofs.GroundLemmas.{force_large}
+use Rattle.tk_coord.proofs.GrowLemmas.{firm_at, limits_at, orderly_at}
+use Rattle.tk_coord.proofs.LinkLemmas.{same_link}
+use Rattle.tk_coord.proofs.StandRounds.{first_monitor}
+
+-- ---- the refusals
+
+-- by k and epsilon alone
+abbrev by_limits : ℕ → ℕ → ℕ → Option RetuneRefusal
+by_limits objects k e = if not (is_k k objects) then Some retune.BadK else (if not (nat_le e (2 ^ 100)) then Some retune.BadEpsilon else None)
+
+-- the settings of a retune, or what is past its limit, as its refusal
+refused_by : {X : Type 0} (a b : Bool) (next : X) (r : RetuneRefusal) → (if not a then Err retune.BadK else (if not b then Err retune.BadEpsilon else Ok next)) ≡ Err r
+    → (if not a then Some retune.BadK else (if not b then Some retune.BadEpsilon else None)) ≡ Some r
+refused_by false b next r is = let same : retune.BadK ≡ r = cc in ap Some same
+refused_by true false next r is = let same : retune.BadEpsilon ≡ r = cc in ap Some same
+refused_by true true next r is = cc
+
+-- where there are such settings, nothing is past its limit
+accepted_by : {X : Type 0} (a b : Bool) (to next : X) → (if not a then Err retune.BadK else (if not b then Err retune.BadEpsilon else Ok to)) ≡ Ok next
+    → ((if not a then Some retune.BadK else (if not b then Some retune.BadEpsilon else None)) ≡ None) × (next ≡ to)
+accepted_by false b to next is = cc
+accepted_by true false to next is = cc
+accepted_by true true to next is = let same : next ≡ to = cc in (refl, same)
+
+-- after Stop
+pub stopped_refuses : (s : Setup) (j : List Noted) (k e : ℕ) → is_stopped j ≡ true → retune_refusal_of s j k e ≡ Some retune.AfterStop
+unfolding retune_refusal_of
+stopped_refuses s j k e stopped = ap (λ b. if b then Some retune.AfterStop else (if is_open s j then Some retune.RoundOpen else by_limits s.objects k e)) stopped
+
+-- before it, by the rest
+going_refuses : (s : Setup) (j : List Noted) (k e : ℕ) → is_stopped j ≡ false → retune_refusal_of s j k e ≡ (if is_open s j then Some retune.RoundOpen else by_limits s.objects k e)
+unfolding retune_refusal_of
+going_refuses s j k e going = ap (λ b. if b then Some retune.AfterStop else (if is_open s j then Some retune.RoundOpen else by_limits s.objects k e)) going
+
+-- while a round is open
+pub open_refuses : (s : Setup) (j : List Noted) (k e : ℕ) → is_stopped j ≡ false → is_open s j ≡ true → retune_refusal_of s j k e ≡ Some retune.RoundOpen
+open_refuses s j k e going opened = going_refuses s j k e going ∙ ap (λ b. if b then Some retune.RoundOpen else by_limits s.objects k e) opened
+
+-- while none is open
+closed_refuses : (s : Setup) (j : List Noted) (k e : ℕ) → is_stopped j ≡ false → is_open s j ≡ false → retune_refusal_of s j k e ≡ by_limits s.objects k e
+closed_refuses s j k e going closed = going_refuses s j k e going ∙ ap (λ b. if b then Some retune.RoundOpen else by_limits s.objects k e) closed
+
+-- what is past its limit
+pub past_refuses : (s : Setup) (j : List Noted) (k e : ℕ) (r : RetuneRefusal) → is_stopped j ≡ false → is_open s j ≡ false → retuned_to s k e ≡ Err r
+    → retune_refusal_of s j k e ≡ Some r
+past_refuses s j k e r going closed is =
+    closed_refuses s j k e going closed ∙ refused_by (is_k k s.objects) (nat_le e (2 ^ 100)) (record s { k = k; epsilon = pos e }) r is
+
+-- a retune that is not refused, with the settings that it brings: no Stop was sent, and no round is open
+pub record IsRetuned (s : Setup) (j : List Noted) (k e : ℕ) (next : Setup) : Type 0 where
+  pub going : is_stopped j ≡ false
+  pub closed : is_open s j ≡ false
+  pub accepted : retune_refusal_of s j k e ≡ None
+  pub brings : next ≡ record s { k = k; epsilon = pos e }
+
+-- where the settings are within the limits, nothing refuses
+pub none_refuses : (s : Setup) (j : List Noted) (k e : ℕ) (next : Setup) → is_stopped j ≡ false → is_open s j ≡ false → retuned_to s k e ≡ Ok next → IsRetuned s j k e next
+none_refuses s j k e next going closed is =
+    let both = accepted_by (is_k k s.objects) (nat_le e (2 ^ 100)) (record s { k = k; epsilon = pos e }) next is in
+    record {
+      going = going;
+      closed = closed;
+      accepted = closed_refuses s j k e going closed ∙ both.0;
+      brings = both.1;
+    }
+
+-- ---- the turn
+
+-- the journal with a retune
+abbrev pub with_tuned : List Noted → ℕ → ℕ → List Noted
+with_tuned j k e = j ++ n.Tuned k (pos e) ∷ []
+
+-- its turn is the retune with the Collects of a wide round
+pub tuned_turn : (s : Setup) (j : List Noted) (k e : ℕ) → j ++ turn_of s j (n.Tuned k (pos e)) ≡ j ++ n.Tuned k (pos e) ∷ wide_collects s (rounds s j + 1)
+unfolding turn_of
+tuned_turn s j k e = refl
+
+-- the same, as Collects over the journal with the retune
+turn_whole : (s : Setup) (j : List Noted) (k e : ℕ) → j ++ turn_of s j (n.Tuned k (pos e)) ≡ with_tuned j k e ++ wide_collects s (rounds s j + 1)
+turn_whole s j k e = tuned_turn s j k e ∙ sym (append_assoc j (n.Tuned k (pos e) ∷ []) (wide_collects s (rounds s j + 1)))
+
+-- ---- the readings that a retune leaves as they are
+
+-- the members
+tuned_members : (j : List Noted) (k e : ℕ) → members_at (with_tuned j k e) ≡ members_at j
+tuned_members j k e = members_at-append j (n.Tuned k (pos e) ∷ [])
+
+-- the current answers
+tuned_answer : (mon : ℕ) (j : List Noted) (k e : ℕ) → answer_of mon (with_tuned j k e) ≡ answer_of mon j
+tuned_answer mon j k e = answer_of-append mon j (n.Tuned k (pos e) ∷ [])
+
+-- how far the monitors are
+tuned_progress : (mon : ℕ) (j : List Noted) (k e : ℕ) → progress_of mon (with_tuned j k e) ≡ progress_of mon j
+tuned_progress mon j k e = progress_of-append mon j (n.Tuned k (pos e) ∷ [])
+
+-- what is asked
+tuned_asked : (r mon : ℕ) (j : List Noted) (k e : ℕ) → asked_of r mon (with_tuned j k e) ≡ asked_of r mon j
+unfolding asked_of
+tuned_asked r mon j k e = asked_of-append r mon j (n.Tuned k (pos e) ∷ [])
+
+-- the Values to a round
+tuned_values : (r mon : ℕ) (j : List Noted) (k e : ℕ) → values_of r mon (with_tuned j k e) ≡ values_of r mon j
+unfolding values_of
+tuned_values r mon j k e = values_of-append r mon j (n.Tuned k (pos e) ∷ [])
+
+-- how many Assigns were sent
+tuned_sent : (mon : ℕ) (j : List Noted) (k e : ℕ) → assigns_sent mon (with_tuned j k e) ≡ assigns_sent mon j
+unfolding assigns_sent
+tuned_sent mon j k e = ap length (tuned_assigns mon j k (pos e))
+
+-- whom the last round waits for
+tuned_waiting : (mon : ℕ) (j : List Noted) (k e : ℕ) → waits_for (last_round (with_tuned j k e)) mon (with_tuned j k e) ≡ waits_for (last_round j) mon j
+tuned_waiting mon j k e =
+    ap (λ r. waits_for r mon (with_tuned j k e)) (tuned_round j k (pos e))
+    ∙ waits_by j (with_tuned j k e) (λ r q. tuned_asked r q j k e) (λ r q. tuned_values r q j k e) (last_round j) mon
+
+-- what is told to it
+tuned_report : (mon : ℕ) (j : List Noted) (k e : ℕ) → report_of mon (with_tuned j k e) ≡ report_of mon j
+unfolding report_of
+tuned_report mon j k e =
+    let b = with_tuned j k e in
+    ap (λ r. if is_some (asked_of r mon b) then values_of r mon b else answered_report mon (answer_of mon b)) (tuned_round j k (pos e))
+    ∙ ap (λ x. if is_some x then values_of (last_round j) mon b else answered_report mon (answer_of mon b)) (tuned_asked (last_round j) mon j k e)
+    ∙ ap (λ y. if is_some (asked_of (last_round j) mon j) then y else answered_report mon (answer_of mon b)) (tuned_values (last_round j) mon j k e)
+    ∙ ap (λ z. if is_some (asked_of (last_round j) mon j) then values_of (last_round j) mon j else answered_report mon z) (tuned_answer mon j k e)
+
+-- what it says of one monitor
+tuned_link : (mon : ℕ) (j : List Noted) (k e : ℕ) → link_at (with_tuned j k e) mon ≡ link_at j mon
+tuned_link mon j k e =
+    same_link (link_at (with_tuned j k e) mon) (link_at j mon) (tuned_sent mon j k e)
+    (ap kind_in (tuned_answer mon j k e)) (tuned_progress mon j k e) (tuned_waiting mon j k e)
+
+-- ---- what is kept of the frames
+
+-- a retune alone changes nothing of what is kept
+holds_tuned : (s : Setup) (j : List Noted) (k e : ℕ) (state : State) → Holds s j state → Holds s (with_tuned j k e) state
+holds_tuned s j k e state h =
+    let same = tuned_waits j k (pos e) s in
+    record {
+      members = h.members ∙ sym (tuned_members j k e);
+      table = h.table ∙ sym (table_by s j (with_tuned j k e) (λ mon. tuned_assigns mon j k (pos e)));
+      links = record { count = h.links.count; each = λ i l is. h.links.each i l is ∙ sym (tuned_link (suc i) j k e) };
+      round = record {
+        number = h.round.number ∙ sym (tuned_round j k (pos e));
+        waiting = h.round.waiting ∙ sym same;
+        wide = λ is. h.round.wide (sym same ∙ is) ∙ sym (wide_by s j (with_tuned j k e) (tuned_round j k (pos e)) (λ r mon. tuned_asked r mon j k e));
+        asked = λ mon m w.
+            ap (λ r. asked_of r mon (with_tuned j k e)) (tuned_round j k (pos e))
+            ∙ tuned_asked (last_round j) mon j k e ∙ h.round.asked mon m (sym (tuned_waiting mon j k e) ∙ w);
+        count = h.round.count;
+        told = λ is i r at w. tuned_report (suc i) j k e ∙ h.round.told (sym same ∙ is) i r at (sym (tuned_waiting (suc i) j k e) ∙ w);
+      };
+    }
+
+-- the number of its round is past all before it
+new_round : (s : Setup) (j : List Noted) (k e : ℕ) → IsOrderly s j → last_round (with_tuned j k e) < rounds s j + 1
+new_round s j k e o = let l = o.counted.last in let t = tuned_round j k (pos e) in omega (arith, l, t)
+
+-- the Collects of its round
+pub tuned_is_asked : (s : Setup) (j : List Noted) (k e : ℕ) (standing : Standing) (next : Setup) (outcome : Outcome) → IsJournal s j
+    → Stands s j standing → IsRetuned s j k e next → OpensWide standing outcome
+    → (outcome.entries.items ≡ wide_collects s (rounds s j + 1)) × IsReply s (with_tuned j k e) outcome.entries.items outcome.reply
+tuned_is_asked s j k e standing next outcome h st r o =
+    let number = standing.rounds + 1 in
+    let mid = with_tuned j k e in
+    let large = force_large s j standing.settings st.settings in
+    let order = orderly_at s j h in
+    let over = orderly_tuned s j k (pos e) order in
+    let new : last_round mid < number = (let a = new_round s j k e order in let b = st.rounds in omega (arith, a, b)) in
+    let round : Round = record { number = number; waiting = true; wide = true; asked = objects s.objects } in
+    let asked : IsAsked s mid (wide_collects s number) round None =
+    wide_is_asked s mid number (limits_at s j h).some_monitor (tuned_waits j k (pos e) s ∙ r.closed) over.counted new in
+    let sends : outcome.entries.items ≡ wide_collects s number = o.sends ∙ wide_over standing.settings s number large in (
+      sends ∙ ap (λ q. wide_collects s (q + 1)) st.rounds,
+      subst (λ (x : Reply). IsReply s mid outcome.entries.items x)
+          (sym (o.reply ∙ ap (λ (q : ℕ). reply.Ask (record { number = number; waiting = true; wide = true; asked = objects q }) None) large.objects))
+          (subst (λ xs. IsAsked s mid xs round None) (sym sends) asked),
+    )
+
+-- what is kept of the frames after the turn
+pub retuned_holds : (s : Setup) (j entries : List Noted) (k e : ℕ) (old new : State) (r : Reply) → entries ≡ wide_collects s (rounds s j + 1)
+    → IsReply s (with_tuned j k e) entries r → Holds s j old
+    → ((q : Setup) (b sent : List Noted) → IsReply q b sent r → Holds q b old → Holds q (b ++ sent) new) → Holds s (j ++ turn_of s j (n.Tuned k (pos e))) new
+retuned_holds s j entries k e old new r is sent h replies =
+    subst (λ b. Holds s b new) (ap (λ xs. with_tuned j k e ++ xs) is ∙ sym (turn_whole s j k e)) (replies s (with_tuned j k e) entries sent (holds_tuned s j k e old h))
+
+-- ---- what holds until the next turn
+
+-- Collects count no failure
+no_failure : (s : Setup) (front : List Noted) (count round : ℕ) (asked mons : List ℕ) → walk (failures_after s) front count (collects round asked mons) ≡ count
+no_failure s front count round asked [] = refl
+no_failure s front count round asked (m ∷ mons) = no_failure s (front ++ n.Sent (record { 0 = m }) (f.Collect round asked) ∷ []) count round asked mons
+
+-- the streak stays, for the round that opens leaves it not calm
+tuned_streak : (s : Setup) (j : List Noted) (k e round : ℕ) → is_calm s (with_tuned j k e ++ wide_collects s round) ≡ false
+    → streak s (with_tuned j k e ++ wide_collects s round) ≡ streak s j
+unfolding streak
+tuned_streak s j k e round stirred =
+    let mid = with_tuned j k e in
+    let after = mid ++ wide_collects s round in
+    ap (λ b. if b then 0 else walk (failures_after s) [] 0 after) stirred
+    ∙ walk-append (failures_after s) [] 0 mid (wide_collects s round)
+    ∙ no_failure s mid (walk (failures_after s) [] 0 mid) round (objects s.objects) (monitors s)
+    ∙ walk-append (failures_after s) [] 0 j (n.Tuned k (pos e) ∷ [])
+
+-- no Stop is sent
+tuned_stop : (s : Setup) (j : List Noted) (k e round : ℕ) → is_stopped j ≡ false → is_stopped (with_tuned j k e ++ wide_collects s round) ≡ false
+unfolding is_stopped
+tuned_stop s j k e round going =
+    is_stopped-append (with_tuned j k e) (wide_collects s round)
+    ∙ ap (λ b. b || is_stopped (wide_collects s round)) (is_stopped-append j (n.Tuned k (pos e) ∷ []) ∙ ap (λ b. b || false) going)
+    ∙ no_stop (wide_collects s round) (collects_are_wanted round (objects s.objects) (monitors s))
+
+-- what stands after the turn: k and epsilon are in force from the end of its round
+pub retuned_stands : (s : Setup) (j : List Noted) (k e : ℕ) (standing : Standing) (next : Setup) → IsJournal s j → Stands s j standing → IsRetuned s j k e next
+    → Stands s (j ++ turn_of s j (n.Tuned k (pos e))) (record standing { next = next; rounds = standing.rounds + 1 })
+retuned_stands s j k e standing next h st r =
+    let round = rounds s j + 1 in
+    let mid = with_tuned j k e in
+    let all = objects s.objects in
+    let after = mid ++ wide_collects s round in
+    let limits = limits_at s j h in
+    let tuned = (firm_at s j h).tuned in
+    let first = first_monitor s limits in
+    let rest = range_with_len (1 + 1) first.0 in
+    let order = orderly_at s j h in
+    let over = orderly_tuned s j k (pos e) order in
+    let new : last_round j < round = (let l = order.counted.last in omega (arith, l)) in
+    let list = ap (λ xs. tunings (mid ++ collects round all xs)) first.2 ∙ tuned_list s j k (pos e) round all 1 rest tuned in
+    let last : last_round after ≡ round = ap (λ xs. last_round (mid ++ collects round all xs)) first.2 ∙ collects_round mid round all 1 rest in
+    let opened' : is_open s after ≡ true = wide_opens s mid round limits.some_monitor over.counted (new_round s j k e order) in
+    let count : rounds s after ≡ round = ap (λ xs. rounds s (mid ++ collects round all xs)) first.2 ∙ collects_count s mid round all 1 rest in
+    subst (λ b. Stands s b (record standing { next = next; rounds = standing.rounds + 1 })) (sym (turn_whole s j k e)) (record {
+      settings = st.settings ∙ force_closed s j r.closed tuned ∙ sym (force_tuned s j after k (pos e) round list last new opened' tuned);
+      next = r.brings
+          ∙ sym (ap (λ (ts : List Tuning). tuned_to s (last_of ts)) list
+          ∙ ap (tuned_to s) (last_of-append (tunings j) (record { k = k; epsilon = pos e; round = Some round } ∷ [])));
+      rounds = ap (λ q. q + 1) st.rounds ∙ sym count;
+      streak = st.streak ∙ ap up_to_eight (sym (tuned_streak s j k e round (uncalm_open s after opened')));
+      stopped = st.stopped ∙ r.going ∙ sym (tuned_stop s j k e round r.going);
+    })
+
+-- ---- what was noted
+
+-- the entry that was noted is the retune
+pub tuned_entry : (s : Setup) (j : List Noted) (k e number : ℕ) (kept : ℤ) (next : Setup) → IsRetuned s j k e next → number ≡ next.k
+    → kept ≡ next.epsilon → n.Tuned number kept ≡ n.Tuned k (pos e)
+tuned_entry s j k e number kept next r of_k of_epsilon =
+    ap (λ (q : ℕ). n.Tuned q kept) (of_k ∙ ap (λ (x : Setup). x.k) r.brings) ∙ ap (n.Tuned k) (of_epsilon ∙ ap (λ (x : Setup). x.epsilon) r.brings)

@@ -1,0 +1,123 @@
+use Rattle.std.proofs.Common.{◌≡◌, ℕ, List, Bool, false, true, not, length, nat_lt, refl, sym, ap, ◌∙◌, subst}
+use Rattle.std.specs.List.{All}
+use Rattle.tk_base.specs.Settings.{Setup}
+use Rattle.tk_rows.specs.Factors.{Grid}
+use Rattle.tk_journal.specs.Deciding.{short_decides}
+use Rattle.tk_journal.specs.Entries.{IsEntryOf}
+use Rattle.tk_journal.specs.declared.noted.Noted.{Noted}
+use Rattle.tk_coord.specs.Dealing.{CanOpenFull, Ends, OpensOrEnds, OpensWide}
+use Rattle.tk_coord.specs.Steps.{Follows, report_frame}
+use Rattle.tk_coord.specs.declared.link.Link.{Link}
+use Rattle.tk_coord.specs.declared.standing.Standing.{Standing}
+use Rattle.tk_coord.specs.declared.step.Outcome.{Outcome}
+use Rattle.tk_coord.proofs.AnswerLemmas.{both_ok, deals, takes_part}
+use Rattle.tk_coord.proofs.GroundLemmas.{IsGrounded, entries_of, force_large}
+use Rattle.tk_coord.proofs.OutcomesLemmas.{alone_can_end}
+use Rattle.tk_coord.proofs.ReportTurns.{IsAnswered, failed_once, open_follows, same_test, short_follows, tired_follows}
+use Rattle.tk_coord.proofs.coordinator.Coordinator.answered.Goals as goal
+
+-- as many links as monitors of the settings in force
+links_all : (s : Setup) (j : List Noted) (members : List ℕ) (table : Grid) (links : List Link) (standing : Standing) → IsGrounded s j members table links standing
+    → length links ≡ standing.settings.monitors
+links_all s j members table links standing g = g.linked.count ∙ sym (force_large s j standing.settings g.stands.settings).monitors
+
+-- not tired means that fewer than eight have failed
+not_false : (b t : Bool) → t ≡ not b → t ≡ false → b ≡ true
+not_false true t is fell = refl
+not_false false t is fell = cc
+
+not_true : (b t : Bool) → t ≡ not b → t ≡ true → b ≡ false
+not_true true t is held = cc
+not_true false t is held = refl
+
+pub end_short-requires-clause-can : goal.end_short-requires-clause-can
+end_short-requires-clause-can c =
+    let s = c.args.self.now.settings in
+    let j = c.args.self.now.journal in
+    let report = c.args.report in
+    let r = c.grounds-grounds.result in
+    let g = c.grounds-grounds.ensures in
+    let grounded : IsGrounded s j r.members.now r.table.now r.links.now r.standing = record { journal = g.journal; named = g.members; dealt = g.table; linked = g.links; stands = g.standing } in
+    let known : IsAnswered s j report c.requires.taken.failed =
+    record { range = record { from_one = c.requires.some_monitor; within = c.requires.monitor }; taken = c.requires.taken.taken; closed = c.requires.closed } in
+    record {
+      ready = (deals s j r.members.now r.table.now r.links.now r.standing report c.requires.taken.failed grounded known).ready;
+      takes = takes_part s j r.members.now r.table.now r.links.now r.standing report c.requires.taken.failed grounded known;
+      test = same_test s j r.members.now r.table.now r.standing.settings report g.standing.settings g.table g.members ∙ sym c.passes.ensures ∙ c.if-passes.true;
+      count = links_all s j r.members.now r.table.now r.links.now r.standing grounded;
+    }
+
+pub returns-then-passes : goal.returns-then-passes
+returns-then-passes c = λ failed taken.
+    let s = c.args.self.now.settings in
+    let j = c.args.self.now.journal in
+    let report = c.args.report in
+    let r = c.grounds-grounds.result in
+    let g = c.grounds-grounds.ensures in
+    let grounded : IsGrounded s j r.members.now r.table.now r.links.now r.standing = record { journal = g.journal; named = g.members; dealt = g.table; linked = g.links; stands = g.standing } in
+    let frame = report_frame j report failed in
+    both_ok (Ends r.table.now r.links.now r.standing (short_decides r.standing.settings r.table.now r.members.now report))
+    (λ (o : Outcome). All (IsEntryOf r.standing.settings.monitors s.objects) o.entries.items) (Follows s j report.mon frame)
+    c.end_short.result
+    (λ o ends all. short_follows s j r.members.now r.table.now r.links.now r.standing report failed o grounded
+    (record { range = record { from_one = c.requires.some_monitor; within = c.requires.monitor }; taken = taken; closed = c.requires.closed })
+    (same_test s j r.members.now r.table.now r.standing.settings report g.standing.settings g.table g.members ∙ sym c.passes.ensures ∙ c.if-passes.true) ends
+    (entries_of s j r.standing o.entries.items grounded.stands all))
+    c.end_short.ensures.ends (c.end_short.ensures.entries s.objects)
+
+pub returns-then-is_tired : goal.returns-then-is_tired
+returns-then-is_tired c = λ failed taken.
+    let s = c.args.self.now.settings in
+    let j = c.args.self.now.journal in
+    let report = c.args.report in
+    let r = c.grounds-grounds.result in
+    let g = c.grounds-grounds.ensures in
+    let grounded : IsGrounded s j r.members.now r.table.now r.links.now r.standing = record { journal = g.journal; named = g.members; dealt = g.table; linked = g.links; stands = g.standing } in
+    let frame = report_frame j report failed in
+    let fell = c.failed-standing.result in
+    let is : fell ≡ failed_once r.standing = c.failed-standing.ensures in
+    both_ok (OpensWide fell) (λ (o : Outcome). All (IsEntryOf fell.settings.monitors s.objects) o.entries.items) (Follows s j report.mon frame) c.open_wide.result
+    (λ o opens all. tired_follows s j r.members.now r.table.now r.links.now r.standing report failed o grounded
+    (record { range = record { from_one = c.requires.some_monitor; within = c.requires.monitor }; taken = taken; closed = c.requires.closed })
+    (same_test s j r.members.now r.table.now r.standing.settings report g.standing.settings g.table g.members ∙ sym c.passes.ensures ∙ c.if-passes.false)
+    (not_true (nat_lt r.standing.streak 8) c.is_tired.result c.is_tired.ensures c.if-is_tired.true) (subst (λ (t : Standing). OpensWide t o) is opens)
+    (entries_of s j r.standing o.entries.items grounded.stands (subst (λ (t : Standing). All (IsEntryOf t.settings.monitors s.objects) o.entries.items) is all)))
+    c.open_wide.ensures.opens (c.open_wide.ensures.entries s.objects)
+
+pub open_full-requires-clause-can : goal.open_full-requires-clause-can
+open_full-requires-clause-can c =
+    let s = c.args.self.now.settings in
+    let j = c.args.self.now.journal in
+    let report = c.args.report in
+    let r = c.grounds-grounds.result in
+    let g = c.grounds-grounds.ensures in
+    let grounded : IsGrounded s j r.members.now r.table.now r.links.now r.standing = record { journal = g.journal; named = g.members; dealt = g.table; linked = g.links; stands = g.standing } in
+    let known : IsAnswered s j report c.requires.taken.failed =
+    record { range = record { from_one = c.requires.some_monitor; within = c.requires.monitor }; taken = c.requires.taken.taken; closed = c.requires.closed } in
+    let is : c.failed-standing.result ≡ failed_once r.standing = c.failed-standing.ensures in
+    let dealt = deals s j r.members.now r.table.now r.links.now r.standing report c.requires.taken.failed grounded known in
+    let same : r.standing.settings ≡ c.failed-standing.result.settings = ap (λ (t : Standing). t.settings) (sym is) in
+    subst (λ (q : Setup). CanOpenFull q r.table.now r.members.now r.links.now report) same
+    (alone_can_end r.standing.settings r.table.now r.members.now r.links.now report dealt.ready
+    (takes_part s j r.members.now r.table.now r.links.now r.standing report c.requires.taken.failed grounded known)
+    (links_all s j r.members.now r.table.now r.links.now r.standing grounded))
+
+pub returns : goal.returns
+returns c = λ failed taken.
+    let s = c.args.self.now.settings in
+    let j = c.args.self.now.journal in
+    let report = c.args.report in
+    let r = c.grounds-grounds.result in
+    let g = c.grounds-grounds.ensures in
+    let grounded : IsGrounded s j r.members.now r.table.now r.links.now r.standing = record { journal = g.journal; named = g.members; dealt = g.table; linked = g.links; stands = g.standing } in
+    let frame = report_frame j report failed in
+    let fell = c.failed-standing.result in
+    let is : fell ≡ failed_once r.standing = c.failed-standing.ensures in
+    both_ok (OpensOrEnds r.table.now r.links.now fell r.members.now report) (λ (o : Outcome). All (IsEntryOf fell.settings.monitors s.objects) o.entries.items)
+    (Follows s j report.mon frame) c.open_full.result
+    (λ o opens all. open_follows s j r.members.now r.table.now r.links.now r.standing report failed o grounded
+    (record { range = record { from_one = c.requires.some_monitor; within = c.requires.monitor }; taken = taken; closed = c.requires.closed })
+    (same_test s j r.members.now r.table.now r.standing.settings report g.standing.settings g.table g.members ∙ sym c.passes.ensures ∙ c.if-passes.false)
+    (not_false (nat_lt r.standing.streak 8) c.is_tired.result c.is_tired.ensures c.if-is_tired.false) (subst (λ (t : Standing). OpensOrEnds r.table.now r.links.now t r.members.now report o) is opens)
+    (entries_of s j r.standing o.entries.items grounded.stands (subst (λ (t : Standing). All (IsEntryOf t.settings.monitors s.objects) o.entries.items) is all)))
+    c.open_full.ensures.opens (c.open_full.ensures.entries s.objects)

@@ -1,0 +1,22 @@
+use Rattle.std.proofs.Common.{◌≡◌, ◌≤◌, ◌-◌, suc, length, refl, ap, sym, ◌∙◌, subst, arith}
+use Rattle.std.proofs.lemmas.Option.{slice_get_read}
+use Rattle.tk_journal.specs.Refusal.{shown_by}
+use Rattle.tk_coord.specs.Coordinator.{Seen}
+use Rattle.tk_coord.specs.State.{link_at}
+use Rattle.tk_coord.proofs.ShownLemmas.{shown_is}
+use Rattle.tk_coord.proofs.coordinator.Coordinator.shown.Goals as goal
+
+pub returns : goal.returns
+returns c =
+    let f = c.self.inside in
+    let mon = c.args.mon.0 in
+    let high = subst (λ (v : Seen). mon ≤ v.settings.monitors) (sym c.self.view_is) c.requires.monitor in
+    let links = c.self.invariant.1.links in
+    let number : suc (mon - 1) ≡ mon = omega (arith, c.requires.some_monitor) in
+    let there = slice_get_read f.state.links.items (length f.state.links.items) (mon - 1) c.index-link.result.now refl
+    (omega (arith, high, links.count, c.requires.some_monitor)) c.index-link.ensures in
+    let link = links.each (mon - 1) c.index-link.result.now there ∙ ap (λ q. link_at f.journal.items q) number in
+    c.shown_of.ensures
+    ∙ shown_is f.settings f.journal.items mon c.index-link.result.now f.state.round f.state.gathered.items f.standing.stopped
+    (record { from_one = c.requires.some_monitor; within = high }) link c.self.invariant.1.round c.self.invariant.2.stopped
+    ∙ ap (λ (v : Seen). shown_by mon v.journal) c.self.view_is

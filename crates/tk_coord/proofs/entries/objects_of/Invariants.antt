@@ -1,0 +1,7 @@
+use Rattle.std.proofs.Common.{◌≡◌, take}
+use Rattle.tk_base.specs.Ascending.{numbers_of}
+use Rattle.tk_base.specs.Pairs.{objects_of}
+use Rattle.tk_coord.proofs.entries.objects_of.Given as goal
+
+abbrev pub invariant-loop-i : goal.invariant-loop-i
+invariant-loop-i l = numbers_of l.list.items ≡ take l.i (objects_of l.values)

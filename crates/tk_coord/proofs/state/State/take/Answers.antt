@@ -1,0 +1,49 @@
+use Rattle.std.proofs.Common.{◌-◌, ◌<◌, Bool, length, Some, None, refl, sym, ap, ◌∙◌, arith}
+use Rattle.std.specs.Vec.{with_item}
+use Rattle.std.proofs.lemmas.Option.{slice_get_read}
+use Rattle.tk_coord.specs.declared.round.Round.{Round}
+use Rattle.tk_coord.specs.declared.state.State.{State}
+use Rattle.tk_coord.proofs.TakeLemmas.{holds_got}
+use Rattle.tk_coord.proofs.state.State.take.Goals as goal
+
+pub returns-in-Some-clause-holds : goal.returns-in-Some-clause-holds
+returns-in-Some-clause-holds c = λ s j frame tells m h.
+    let old : State = c.args.self.now in
+    let place = c.args.mon.0 - 1 in
+    let within : place < length old.links.items = omega (arith, c.requires.some, c.requires.link) in
+    let round : Round = record old.round { waiting = c.still_waits-self.result } in
+    let new : State = record old { links = with_item old.links place c.tell.new.link; round = round; gathered = with_item old.gathered place c.in-Some.report } in
+    holds_got s j c.args.mon frame c.args.told old new tells c.requires.some c.requires.report (record {
+      members = refl;
+      table = refl;
+      link = c.index_mut.result.now;
+      was = slice_get_read old.links.items (length old.links.items) place c.index_mut.result.now refl within c.index_mut.ensures.value;
+      now = c.tell.new.link;
+      tells = c.tell.ensures.link;
+      links = refl;
+      round = ap (λ (b : Bool). record old.round { waiting = b }) c.still_waits-self.ensures;
+      values = Some c.in-Some.report;
+      are = sym c.tell.ensures.values ∙ c.in-Some.is;
+      gathered = refl;
+    }) h
+
+pub returns-in_default-clause-holds : goal.returns-in_default-clause-holds
+returns-in_default-clause-holds c = λ s j frame tells m h.
+    let old : State = c.args.self.now in
+    let place = c.args.mon.0 - 1 in
+    let within : place < length old.links.items = omega (arith, c.requires.some, c.requires.link) in
+    let round : Round = record old.round { waiting = c.still_waits-self.result } in
+    let new : State = record old { links = with_item old.links place c.tell.new.link; round = round } in
+    holds_got s j c.args.mon frame c.args.told old new tells c.requires.some c.requires.report (record {
+      members = refl;
+      table = refl;
+      link = c.index_mut.result.now;
+      was = slice_get_read old.links.items (length old.links.items) place c.index_mut.result.now refl within c.index_mut.ensures.value;
+      now = c.tell.new.link;
+      tells = c.tell.ensures.link;
+      links = refl;
+      round = ap (λ (b : Bool). record old.round { waiting = b }) c.still_waits-self.ensures;
+      values = None;
+      are = sym c.tell.ensures.values ∙ c.in_default.is;
+      gathered = refl;
+    }) h

@@ -1,0 +1,40 @@
+-- How the links change at what is sent, and what that needs. No public clause cites this.
+use Rattle.std.specs.Prelude.{ℕ, ◌+◌, ◌-◌, ◌^◌, ◌<◌, ◌≤◌, ◌≡◌, min, Bool, false, ◌==◌, if◌then◌else◌, List, length, fold, Option, Some, None, slice_get}
+use Rattle.tk_rows.specs.declared.mon_change.MonChange.{MonChange}
+use Rattle.tk_rows.specs.Replacing.{IsReplacement}
+use Rattle.tk_coord.specs.Checks.{AreNamed}
+use Rattle.tk_coord.specs.Ranking.{CanRank}
+use Rattle.tk_coord.specs.declared.link.Link.{Link}
+use Rattle.tk_coord.specs.declared.state.State.{State}
+use Rattle.tk_coord.specs.declared.step.Reply.{Reply}
+use Rattle.tk_coord.specs.declared.step.Reply.TheVariants as reply
+
+-- whether a place is the one that is left out
+abbrev pub is_but : Option ℕ → ℕ → Bool
+is_but None place = false
+is_but (Some but) place = but == place
+
+-- the link of a monitor that was sent one more Assign; its count stops at its limit
+abbrev pub one_more : Link → Link
+one_more link = record link { assigns = min (link.assigns + 1) (2 ^ 64 - 1); answer = None }
+
+-- the link of a monitor after the Assigns to those with changes
+abbrev pub assigned_at : ℕ → List MonChange → Link → Link
+assigned_at mon changes link = fold (λ l c. if c.mon.0 == mon then one_more l else l) link changes
+
+-- each link has changed, by its place
+abbrev pub AreChanged : (ℕ → Link → Link) → List Link → List Link → Type 0
+AreChanged change old new = (i : ℕ) (l : Link) → slice_get new i ≡ Some l → (m : Link) × (slice_get old i ≡ Some m) × (l ≡ change i m)
+
+-- a monitor has its places among the links and among the reports
+pub record HasPlace (state : State) (mon : ℕ) : Type 0 where
+  pub some : 0 < mon
+  pub link : mon ≤ length state.links.items
+  pub report : mon ≤ length state.gathered.items
+
+-- what a state needs so that what is sent can be noted in it
+abbrev pub CanReply : State → Reply → Type 0
+CanReply state reply.Nothing = Unit {0}
+CanReply state (reply.Ask round None) = Unit {0}
+CanReply state (reply.Ask round (Some report)) = HasPlace state report.mon.0
+CanReply state (reply.Assign r) = IsReplacement state.table r × AreNamed (length state.links.items) r.at.items × CanRank state.ranks state.table r

@@ -1,0 +1,160 @@
+-- What a taken frame tells, and what follows it, as readings of the journal. No public clause cites this.
+use Rattle.std.specs.Prelude.{ℕ, pos, nat_le, Result, Ok, Err, ◌+◌, ◌-◌, ◌^◌, length, map, ◌<◌, ◌≤◌, ◌≡◌, ◌≢◌, ◌⊎◌, Bool, true, false, not, ◌==◌, if◌then◌else◌, List, [], ◌∷◌, ◌++◌, filter, Option, Some, None}
+use Rattle.std.specs.List.{All}
+use Rattle.tk_base.specs.Settings.{Setup, is_k}
+use Rattle.tk_base.specs.declared.ids.Mon.{Mon}
+use Rattle.tk_frames.specs.declared.frame.Frame.{Frame}
+use Rattle.tk_border.specs.Levels.{AreMembers}
+use Rattle.tk_rows.specs.Factors.{Grid, AreBalanced, factor_at}
+use Rattle.tk_rows.specs.Replacing.{IsReplacement, changes_at, factor_in}
+use Rattle.tk_rows.specs.declared.reallocation.Reallocation.{Reallocation}
+use Rattle.tk_alloc.specs.Parts.{by_monitor}
+use Rattle.tk_alloc.specs.declared.reported.Reported.{Reported}
+use Rattle.tk_journal.specs.Entries.{IsEntryOf}
+use Rattle.tk_journal.specs.Readings.{monitors, assigns_sent, members_at, table_at, answer_of, last_round, waits_for, is_open}
+use Rattle.tk_journal.specs.Deciding.{report_of, answered_report}
+use Rattle.tk_journal.specs.Laws.{AreRoundsCounted, IsMonitor}
+use Rattle.tk_journal.specs.Legal.{turn_of}
+use Rattle.tk_journal.specs.Publishing.{closing}
+use Rattle.tk_journal.specs.Refusal.{refusal_of}
+use Rattle.tk_journal.specs.declared.refusal.RetuneRefusal.{RetuneRefusal}
+use Rattle.tk_journal.specs.declared.refusal.RetuneRefusal.TheVariants as retune
+use Rattle.tk_journal.specs.Turns.{collects, demanded, is_wide}
+use Rattle.tk_journal.specs.declared.noted.Noted.{Noted}
+use Rattle.tk_journal.specs.declared.noted.Noted.TheVariants as n
+use Rattle.tk_frames.specs.declared.frame.Frame.TheVariants as f
+use Rattle.tk_coord.specs.declared.answer.Answer.TheVariants as a
+use Rattle.tk_coord.specs.declared.link.Link.{Link}
+use Rattle.tk_coord.specs.declared.round.Round.{Round}
+use Rattle.tk_coord.specs.declared.step.Told.{Told}
+use Rattle.tk_coord.specs.declared.step.Told.TheVariants as told
+use Rattle.tk_coord.specs.declared.step.Reply.{Reply}
+use Rattle.tk_coord.specs.declared.step.Reply.TheVariants as reply
+use Rattle.tk_coord.specs.declared.step.Outcome.{Outcome}
+use Rattle.tk_coord.specs.declared.step.Step.{Step}
+use Rattle.tk_coord.specs.State.{Stands, link_at}
+
+-- the journal with a frame that was taken
+abbrev pub with_got : List Noted → Mon → Frame → List Noted
+with_got j mon frame = j ++ n.Got mon frame ∷ []
+
+-- ---- frames by their kind
+
+abbrev pub IsReport : Frame → Type 0
+IsReport (f.Report seq border failed values) = Unit {0}
+IsReport frame = ⊥
+
+abbrev pub IsSettled : Frame → Type 0
+IsSettled (f.Settled seq last places) = Unit {0}
+IsSettled frame = ⊥
+
+abbrev pub AreValues : Frame → Type 0
+AreValues (f.Values round seq border values) = Unit {0}
+AreValues frame = ⊥
+
+-- a fresh Report with some failed objects, of what it reports
+abbrev pub report_frame : List Noted → Reported → List ℕ → Frame
+report_frame j report failed = f.Report (assigns_sent report.mon.0 j) report.border failed report.values
+
+-- it is one that is not refused
+pub record IsReported (s : Setup) (j : List Noted) (report : Reported) : Type 0 where
+  pub failed : List ℕ
+  pub taken : refusal_of s j report.mon.0 (report_frame j report failed) ≡ None
+
+-- the settings with another k and epsilon, or which of them is past its limit
+abbrev pub retuned_to : Setup → ℕ → ℕ → Result Setup RetuneRefusal
+retuned_to s k epsilon =
+    if not (is_k k s.objects) then Err retune.BadK
+    else (if not (nat_le epsilon (2 ^ 100)) then Err retune.BadEpsilon else Ok (record s { k = k; epsilon = pos epsilon }))
+
+-- ---- what a frame tells
+
+-- the link of a monitor after what a frame of it tells
+abbrev pub told_at : Told → Link → Link
+told_at told.Nothing link = link
+told_at told.Report link = record link { answer = Some a.Report }
+told_at (told.Settled progress) link = record link { answer = Some a.Settled; progress = Some progress }
+told_at (told.Values report more) link = record link { waits = false }
+
+-- the values that it tells
+abbrev pub values_in : Told → Option Reported
+values_in (told.Values report more) = Some report
+values_in told = None
+
+-- whether a round is open after it
+abbrev pub open_after : Told → Bool → Bool
+open_after (told.Values report more) was = more
+open_after told was = was
+
+-- what a frame of a monitor tells
+pub record Tells (s : Setup) (j : List Noted) (mon : Mon) (frame : Frame) (told : Told) : Type 0 where
+  pub link : link_at (with_got j mon frame) mon.0 ≡ told_at told (link_at j mon.0)
+  pub others : (q : ℕ) → q ≢ mon.0 → link_at (with_got j mon frame) q ≡ link_at j q
+  pub waiting : is_open s (with_got j mon frame) ≡ open_after told (is_open s j)
+  pub report : (r : Reported) → values_in told ≡ Some r → report_of mon.0 (with_got j mon frame) ≡ Some r
+  pub kept : is_open s j ≡ true → (q : ℕ) → IsMonitor s q → (values_in told ≡ None) ⊎ (q ≢ mon.0) → waits_for (last_round j) q j ≡ false → report_of q (with_got j mon frame) ≡ report_of q j
+
+-- ---- what is sent
+
+-- whether a round does not ask a monitor, with whose Report it begins
+abbrev pub is_opener : Option Reported → ℕ → Bool
+is_opener None mon = false
+is_opener (Some report) mon = mon == report.mon.0
+
+-- the monitors that a round asks
+abbrev pub asked_mons : Setup → Option Reported → List ℕ
+asked_mons s opener = filter (λ mon. not (is_opener opener mon)) (monitors s)
+
+-- Collects open a round over a journal in which none is open
+pub record IsAsked (s : Setup) (j entries : List Noted) (round : Round) (opener : Option Reported) : Type 0 where
+  pub sends : entries ≡ collects round.number round.asked (asked_mons s opener)
+  pub some : (q : ℕ) × (mons : List ℕ) × (asked_mons s opener ≡ q ∷ mons)
+  pub closed : is_open s j ≡ false
+  pub counted : AreRoundsCounted s j
+  pub new : last_round j < round.number
+  pub waiting : round.waiting ≡ true
+  pub wide : round.wide ≡ is_wide s (j ++ entries)
+  pub report : (r : Reported) → opener ≡ Some r → IsMonitor s r.mon.0 × (answered_report r.mon.0 (answer_of r.mon.0 j) ≡ Some r)
+
+-- a table is another with a reallocation
+pub record IsReplaced (grid : Grid) (r : Reallocation) (after : Grid) : Type 0 where
+  pub monitors : after.monitors ≡ grid.monitors
+  pub objects : length after.rows ≡ length grid.rows
+  pub factors : (node o : ℕ) → 0 < o → factor_at after node o ≡ factor_in (changes_at r node) o (factor_at grid node o)
+  pub balanced : AreBalanced after
+
+-- the next Assign to each monitor with changes
+abbrev pub next_assigns : List Noted → Reallocation → List Noted
+next_assigns j r =
+    map (λ d. n.Sent (record { 0 = d.0 }) (f.Assign (assigns_sent d.0 j + 1) r.members d.1)) (by_monitor r.at.items)
+
+-- Assigns send a reallocation over a journal in which no round is open
+pub record AreAssigned (s : Setup) (j entries : List Noted) (r : Reallocation) : Type 0 where
+  pub sends : entries ≡ next_assigns j r
+  pub closed : is_open s j ≡ false
+  pub fits : IsReplacement (table_at s j) r
+  pub named : All (λ c. (0 < c.mon.0) × (c.mon.0 ≤ s.monitors)) r.at.items
+  pub room : All (λ c. assigns_sent c.mon.0 j < 2 ^ 64 - 1) r.at.items
+  pub members : members_at (j ++ entries) ≡ r.members
+  pub chosen : AreMembers s.objects r.members
+  pub table : (after : Grid) → IsReplaced (table_at s j) r after → after ≡ table_at s (j ++ entries)
+
+-- what is sent over a journal
+abbrev pub IsReply : Setup → List Noted → List Noted → Reply → Type 0
+IsReply s j entries reply.Nothing = entries ≡ []
+IsReply s j entries (reply.Ask round opener) = IsAsked s j entries round opener
+IsReply s j entries (reply.Assign r) = AreAssigned s j entries r
+
+-- ---- the turn
+
+-- what follows a frame: what it demands, and what ends its turn
+pub record Follows (s : Setup) (j : List Noted) (mon : Mon) (frame : Frame) (outcome : Outcome) : Type 0 where
+  pub reply : IsReply s (with_got j mon frame) (demanded s j mon.0 frame) outcome.reply
+  pub entries : outcome.entries.items ≡ demanded s j mon.0 frame ++ closing s (with_got j mon frame ++ demanded s j mon.0 frame)
+  pub range : All (IsEntryOf s.monitors s.objects) outcome.entries.items
+  pub standing : Stands s (j ++ turn_of s j (n.Got mon frame)) outcome.standing
+
+-- what a frame brings about
+pub record IsStep (s : Setup) (j : List Noted) (mon : Mon) (frame : Frame) (step : Step) : Type 0 where
+  pub told : Tells s j mon frame step.told
+  pub outcome : Follows s j mon frame step.outcome
