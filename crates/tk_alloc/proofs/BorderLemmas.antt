@@ -62,7 +62,7 @@ least_folded x [] = refl
 least_folded x (y ∷ xs) = least_folded (int_min x y) xs
 
 -- none is above the greatest
-greatest_covers : (xs : List ℤ) (g z : ℤ) → greatest_of xs ≡ Some g → Contains xs z → z ≤ℤ g
+pub greatest_covers : (xs : List ℤ) (g z : ℤ) → greatest_of xs ≡ Some g → Contains xs z → z ≤ℤ g
 unfolding greatest_of
 greatest_covers [] g z e (k, within, is) = absurd (omega arith)
 greatest_covers (x ∷ xs) g z e (k, within, is) =
@@ -71,7 +71,7 @@ greatest_covers (x ∷ xs) g z e (k, within, is) =
     All-contains (λ (y : ℤ). y ≤ℤ g) (x ∷ xs) z (All-cons (λ (y : ℤ). y ≤ℤ g) x xs bounds.0 bounds.1) (k, within, is)
 
 -- it is one of them
-greatest_reached : (xs : List ℤ) (g : ℤ) → greatest_of xs ≡ Some g → Contains xs g
+pub greatest_reached : (xs : List ℤ) (g : ℤ) → greatest_of xs ≡ Some g → Contains xs g
 unfolding greatest_of
 greatest_reached [] g e = absurd (cc)
 greatest_reached (x ∷ xs) g e =
@@ -82,7 +82,7 @@ greatest_reached (x ∷ xs) g e =
     ]
 
 -- and there is one, where there are any
-greatest_there : (xs : List ℤ) (z : ℤ) → greatest_of xs ≡ None → Contains xs z → ⊥
+pub greatest_there : (xs : List ℤ) (z : ℤ) → greatest_of xs ≡ None → Contains xs z → ⊥
 unfolding greatest_of
 greatest_there [] z e (k, within, is) = absurd (omega arith)
 greatest_there (x ∷ xs) z e found = let both = sym e ∙ greatest_folded x xs in absurd (cc)
@@ -101,22 +101,22 @@ least_covers (x ∷ xs) z (k, within, is) =
 pub mapped_in : (f : ℕ → ℤ) (xs : List ℕ) (o : ℕ) → Contains xs o → Contains (map f xs) (f o)
 mapped_in f xs o (k, within, is) = (k, omega (arith, length-map xs f), get_or-map f xs k o (f o) within ∙ ap f is)
 
-mapped_of : (f : ℕ → ℤ) (xs : List ℕ) (z : ℤ) → Contains (map f xs) z → (o : ℕ) × Contains xs o × (f o ≡ z)
+pub mapped_of : (f : ℕ → ℤ) (xs : List ℕ) (z : ℤ) → Contains (map f xs) z → (o : ℕ) × Contains xs o × (f o ≡ z)
 mapped_of f xs z (k, within, is) =
     let inside : k < length xs = omega (arith, length-map xs f) in
     (get_or xs k 0, (k, inside, get_or_default xs k (get_or xs k 0) 0 inside), sym (get_or-map f xs k 0 z inside) ∙ is)
 
 -- an object of the catalogue that is not in a set is outside it
-in_outside : (n : ℕ) (set : List ℕ) (s : ℕ) → 0 < s → s ≤ n → (Contains set s → ⊥) → Contains (outside n set) s
+pub in_outside : (n : ℕ) (set : List ℕ) (s : ℕ) → 0 < s → s ≤ n → (Contains set s → ⊥) → Contains (outside n set) s
 in_outside n set s some within out =
     is_in_contained (outside n set) s
     (is_in-filter (λ o. not (is_in set o)) (objects n) s ∙ ap₂ ◌&&◌ (contained_is_in (objects n) s (in_catalogue n s some within)) (ap not (outside_is_not_in set s out)))
 
-not_true : (b : Bool) → not b ≡ true → b ≡ false
+pub not_true : (b : Bool) → not b ≡ true → b ≡ false
 not_true true e = sym e
 not_true false e = refl
 
-of_outside : (n : ℕ) (set : List ℕ) (s : ℕ) → Contains (outside n set) s → Contains (objects n) s × (Contains set s → ⊥)
+pub of_outside : (n : ℕ) (set : List ℕ) (s : ℕ) → Contains (outside n set) s → Contains (objects n) s × (Contains set s → ⊥)
 of_outside n set s found =
     let both = and_parts (is_in (objects n) s) (not (is_in set s)) (sym (is_in-filter (λ o. not (is_in set o)) (objects n) s) ∙ contained_is_in (outside n set) s found) in
     (is_in_contained (objects n) s both.0, λ in'. true≢false (sym (contained_is_in set s in') ∙ not_true (is_in set s) both.1))

@@ -18,3 +18,5 @@ pub mod GatheredLemmas
 pub mod SizeLemmas
 pub mod WideLemmas
 pub mod TestLemmas
+pub mod CalmLemmas
+pub mod MendLemmas

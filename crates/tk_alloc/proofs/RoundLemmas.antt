@@ -191,7 +191,7 @@ ended_keeps_own setup grid present members all reports change e t s in' out some
     ]
 
 -- the factor of a monitor afterwards
-ended_after : (setup : Setup) (grid : Grid) (present members all : List ℕ) (reports : List Reported) (change : Reallocation) (k o : ℕ) (d : Reported) → IsEnded setup grid present members all reports change → k < length reports → Contains all o
+pub ended_after : (setup : Setup) (grid : Grid) (present members all : List ℕ) (reports : List Reported) (change : Reallocation) (k o : ℕ) (d : Reported) → IsEnded setup grid present members all reports change → k < length reports → Contains all o
     → factor_after grid change (get_or reports k d).mon.0 o ≡ new_factor grid (round_parts setup grid present members all reports) (1 + k) (monitor (get_or reports k d).border (get_or reports k d)) o
 ended_after setup grid present members all reports change k o d e within in' =
     let own = own_part setup grid present members all in

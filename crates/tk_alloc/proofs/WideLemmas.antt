@@ -117,10 +117,10 @@ ones_sum (r ∷ reports) = omega (arith, ones_sum reports, sum_by-cons (λ x. x)
 abbrev pub wide_own : Setup → List ℕ → List Reported → Part
 wide_own setup present reports = coordinator setup.own_weight setup.epsilon (pos 0) (chosen setup present reports (objects setup.objects)) (objects setup.objects)
 
-wide_count : (setup : Setup) (grid : Grid) (present : List ℕ) (reports : List Reported) → IsWideCalled setup grid reports → length reports ≡ setup.monitors
+pub wide_count : (setup : Setup) (grid : Grid) (present : List ℕ) (reports : List Reported) → IsWideCalled setup grid reports → length reports ≡ setup.monitors
 wide_count setup grid present reports w = sym (length-map reports (λ (r : Reported). r.mon.0)) ∙ ap length w.reported.order ∙ length-range_with_len 1 setup.monitors
 
-wide_order : (setup : Setup) (grid : Grid) (present : List ℕ) (reports : List Reported) → IsWideCalled setup grid reports → map (λ (r : Reported). r.mon.0) reports ≡ range_with_len 1 grid.monitors
+pub wide_order : (setup : Setup) (grid : Grid) (present : List ℕ) (reports : List Reported) → IsWideCalled setup grid reports → map (λ (r : Reported). r.mon.0) reports ≡ range_with_len 1 grid.monitors
 wide_order setup grid present reports w = w.reported.order ∙ ap (range_with_len 1) (sym w.size.monitors)
 
 pub wide_value : (setup : Setup) (present : List ℕ) (reports : List Reported) (o : ℕ) → Contains (objects setup.objects) o
@@ -231,7 +231,7 @@ wide_keeps_own setup grid present reports change w t s in' out some within =
     omega (arith, ints, more, after_t, after_s, extra_t, extra_s, wide_value setup present reports t t_of, wide_value setup present reports s of)
 
 -- the factor of a monitor afterwards
-wide_after : (setup : Setup) (grid : Grid) (present : List ℕ) (reports : List Reported) (change : Reallocation) (k o : ℕ) (d : Reported) → IsWide setup grid present reports change → k < length reports → Contains (objects setup.objects) o
+pub wide_after : (setup : Setup) (grid : Grid) (present : List ℕ) (reports : List Reported) (change : Reallocation) (k o : ℕ) (d : Reported) → IsWide setup grid present reports change → k < length reports → Contains (objects setup.objects) o
     → factor_after grid change (get_or reports k d).mon.0 o ≡ new_factor grid (wide_own setup present reports ∷ map (monitor (pos 0)) reports) (1 + k) (monitor (pos 0) (get_or reports k d)) o
 wide_after setup grid present reports change k o d w within in' =
     let own = wide_own setup present reports in

@@ -6,6 +6,7 @@ pub mod Resolving
 pub mod Rounds
 pub mod Search
 pub mod Terms
+pub mod Strain
 pub use Rattle.tk_base.specs.Ascending
 pub use Rattle.tk_base.specs.Objects
 pub use Rattle.tk_base.specs.Pairs

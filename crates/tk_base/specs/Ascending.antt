@@ -1,5 +1,6 @@
 -- Lists of objects in order.
-use Rattle.std.specs.Prelude.{ℕ, ◌<◌, ◌≤◌, List, ◌∷◌, length, map, take, slice_index, EachIndex}
+use Rattle.std.specs.Prelude.{ℕ, ◌<◌, ◌≤◌, Bool, nat_lt, List, ◌∷◌, length, map, take, slice_index, EachIndex}
+use Rattle.std.specs.List.{list_all, zip}
 use Rattle.tk_base.specs.declared.ids.Obj.{Obj}
 
 -- the numbers of some objects
@@ -15,3 +16,7 @@ pub record FirstDisorder (xs : List ℕ) (place : ℕ) : Type 0 where
   pub within : place < length xs
   pub front : IsAscending (take place xs)
   pub falls : slice_index xs place ≤ slice_index (0 ∷ xs) place
+
+-- the same as a test
+abbrev pub ascends : List ℕ → Bool
+ascends xs = list_all (λ p. nat_lt p.0 p.1) (zip (0 ∷ xs) xs)

@@ -1,5 +1,5 @@
 -- How a coordinator begins: the first Assigns, and the table that they give.
-use Rattle.std.proofs.Common.{◌≡◌, ℕ, suc, zero, ◌+◌, ◌-◌, ◌<◌, ◌==◌, ℤ, pos, List, [], ◌∷◌, ◌++◌, length, map, get_or, Option, refl, sym, ap, ap₂, ◌∙◌, subst, arith}
+use Rattle.std.proofs.Common.{◌≡◌, ℕ, suc, zero, ◌+◌, ◌-◌, ◌<◌, ◌≤◌, ◌==◌, ℤ, pos, List, [], ◌∷◌, ◌++◌, length, map, get_or, Contains, Option, refl, sym, ap, ap₂, ◌∙◌, subst, arith}
 use Rattle.std.specs.Prelude.{filter, unwrap_or}
 use Rattle.std.specs.List.{range_with_len, enumerate_from}
 use Rattle.std.proofs.lemmas.Int.{ints}
@@ -13,14 +13,14 @@ use Rattle.tk_base.specs.Sum.{int_sum}
 use Rattle.tk_base.specs.declared.ids.Obj.{Obj}
 use Rattle.tk_frames.specs.Assigns.{Assign, row}
 use Rattle.tk_frames.specs.declared.frame.Frame.TheVariants as f
-use Rattle.tk_rows.specs.Factors.{Grid, AreBalanced, IsBalanced, factor_at}
+use Rattle.tk_rows.specs.Factors.{Grid, AreBalanced, IsBalanced, IsFactor, factor_at}
 use Rattle.tk_rows.proofs.SumLemmas.{int_sum-cons}
 use Rattle.tk_alloc.specs.Resolving.{MeetsOwn}
 use Rattle.tk_alloc.specs.Rounds.{IsOfSize}
 use Rattle.tk_alloc.proofs.LeewayLemmas.{value_put}
 use Rattle.tk_alloc.proofs.PartLemmas.{objects_put}
-use Rattle.tk_alloc.proofs.WideLemmas.{catalogue_length, in_catalogue}
-use Rattle.tk_journal.specs.Laws.{AreSentShort, IsMonitor, IsSetUp}
+use Rattle.tk_alloc.proofs.WideLemmas.{catalogue_length, in_catalogue, of_catalogue}
+use Rattle.tk_journal.specs.Laws.{AreChanges, AreSentShort, IsMonitor, IsSetUp}
 use Rattle.tk_journal.specs.Legal.{Opening, opened, start}
 use Rattle.tk_journal.specs.Readings.{factor, monitors, own, table_at}
 use Rattle.tk_journal.specs.declared.noted.Noted.{Noted}
@@ -216,6 +216,28 @@ dealt_short s members table limits count =
       (let size = length-map {B = ℕ × ℤ} (objects s.objects) (λ o. (o, factor_at table mon o)) in let all = catalogue_length s.objects in let few = limits.objects in omega (arith, size, all, few)),
     )))
 
+-- what monitors are given over a range is what one of them is given
+given_one : (G : ℕ → List (ℕ × ℤ)) (first k : ℕ) (p : Given) → Contains (enumerate_from first (map G (range_with_len first k))) p → (mon : ℕ) × (G mon ≡ p.1)
+given_one G first zero p (i, below, is) = absurd (omega (arith, below))
+given_one G first (suc k) p (zero, below, is) = (first, ap (λ (q : Given). q.1) is)
+given_one G first (suc k) p (suc i, below, is) = given_one G (first + 1) k p (i, omega (arith, below), is)
+
+-- the factors of objects by a function are of those objects
+changed_by : (F : ℕ → ℤ) (xs : List ℕ) (c : ℕ × ℤ) → Contains (map (λ o. (o, F o)) xs) c → (o : ℕ) × Contains xs o × ((o, F o) ≡ c)
+changed_by F [] c (i, below, is) = absurd (omega (arith, below))
+changed_by F (o ∷ xs) c (zero, below, is) = (o, (0, omega arith, refl), is)
+changed_by F (o ∷ xs) c (suc i, below, is) =
+    let rest = changed_by F xs c (i, omega (arith, below), is) in
+    (rest.0, (suc rest.1.0, omega (arith, rest.1.1), rest.1.2), rest.2)
+
+-- a monitor is given factors of a table, of objects of the catalogue
+dealt_changes : (s : Setup) (table : Grid) (mon : ℕ) → IsOfSize s table → AreBalanced table → AreChanges s.objects (factors_by (factor_at table mon) s.objects)
+dealt_changes s table mon size balanced c in' =
+    let one = changed_by (factor_at table mon) (objects s.objects) c in' in
+    let range = of_catalogue s.objects one.0 one.1 in
+    let small : IsFactor (factor_at table mon one.0) = (balanced (one.0 - 1) (let l = size.objects in omega (arith, l, range.0, range.1))).small mon in
+    subst (λ (d : ℕ × ℤ). (d.0 ≤ s.objects) × IsFactor d.1) one.2 (range.1, small)
+
 -- from such an opening a journal may start
 pub with_factors_set_up : (s : Setup) (members : List ℕ) (table : Grid) → CanBegin s members table → IsAscending members → AreBalanced table → IsWithinLimits s
     → IsSetUp (with_factors s members table)
@@ -228,6 +250,9 @@ with_factors_set_up s members table c up balanced limits =
       ascends = up;
       within = c.within;
       changes = dealt_short s members table limits c.count;
+      given = λ p in'.
+          let one = given_one (λ mon. factors_by (factor_at table mon) s.objects) 1 s.monitors p in' in
+          subst (AreChanges s.objects) one.1 (dealt_changes s table one.0 c.size balanced);
       table = subst AreBalanced is balanced;
       own = subst (λ (grid : Grid). MeetsOwn grid s.epsilon members) is c.own;
     }

@@ -18,7 +18,8 @@ use Rattle.tk_journal.specs.Laws.{IsMonitor, IsSetUp}
 use Rattle.tk_journal.specs.Legal.{IsLegal, Opening, opened}
 use Rattle.tk_journal.specs.Readings.{Progress, assigns_sent, tuned_to, in_force, last_round, members_at, progress_of, answer_of, table_at, waits_for, is_calm}
 use Rattle.tk_journal.specs.Turns.{failures_after, rounds, streak, unless_calm}
-use Rattle.tk_journal.specs.Walks.{last_of, walk}
+use Rattle.tk_base.specs.History.{last_of}
+use Rattle.tk_journal.specs.Walks.{walk}
 use Rattle.tk_journal.specs.declared.noted.Noted.{Noted}
 use Rattle.tk_journal.specs.declared.noted.Noted.TheVariants as n
 use Rattle.tk_journal.proofs.Batches.{named, named_answer, named_assigns, named_members}
@@ -29,7 +30,7 @@ use Rattle.tk_journal.proofs.Naming.{IsRow, one_row}
 use Rattle.tk_journal.proofs.Pieces.{batch, batch_progress}
 use Rattle.tk_journal.proofs.Reports.{closed_waits}
 use Rattle.tk_journal.proofs.Tables.{rows_count}
-use Rattle.tk_coord.specs.Coordinator.{Begins, IsJournal, Seen}
+use Rattle.tk_coord.specs.Coordinator.{Begins, IsJournal, CoordinatorView}
 use Rattle.tk_coord.specs.State.{Holds, Stands, kind_in, link_at, next_settings, up_to_eight}
 use Rattle.tk_coord.specs.declared.link.Link.{Link}
 use Rattle.tk_coord.specs.declared.round.Round.{Round}
@@ -222,7 +223,7 @@ begun_journal s members table j b = record {
 }
 
 -- what holds of a coordinator with these holds of the one that begins with them
-pub begun_so : {E : Type 0} (r : Result Seen E) (seen : Seen) (Q : Seen → Type 0) → IfOk r (λ x. x ≡ seen) → Q seen → IfOk r Q
+pub begun_so : {E : Type 0} (r : Result CoordinatorView E) (seen : CoordinatorView) (Q : CoordinatorView → Type 0) → IfOk r (λ x. x ≡ seen) → Q seen → IfOk r Q
 begun_so r seen Q is q = IfOk-weaker r (λ x. x ≡ seen) Q (λ x e. subst Q (sym e) q) is
 
 -- ---- the rank

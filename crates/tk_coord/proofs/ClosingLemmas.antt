@@ -15,7 +15,8 @@ use Rattle.tk_base.proofs.EqualLemmas.{numbers_tell}
 use Rattle.tk_frames.specs.Assigns.{assign_in}
 use Rattle.tk_frames.specs.declared.frame.Frame.{Frame}
 use Rattle.tk_frames.specs.declared.frame.Frame.TheVariants as f
-use Rattle.tk_journal.specs.Walks.{walk, last_of}
+use Rattle.tk_base.specs.History.{last_of}
+use Rattle.tk_journal.specs.Walks.{walk}
 use Rattle.tk_journal.specs.Links.{Passed}
 use Rattle.tk_journal.specs.Links.Passed.{Down}
 use Rattle.tk_journal.specs.Laws.{IsMonitor, IsSetUp}

@@ -13,7 +13,7 @@ use Rattle.tk_journal.specs.Laws.{IsMonitor}
 use Rattle.tk_journal.specs.Readings.{monitors, assigns_sent, in_force, is_open, members_at, table_at}
 use Rattle.tk_journal.specs.Refusal.{refusal_of}
 use Rattle.tk_journal.specs.Turns.{assigns, collects, demanded, full_at, full_end, passes_at, rounds, short_at, streak, wide_collects}
-use Rattle.tk_journal.specs.Turns.Kind.{Short, Wide, Full}
+use Rattle.tk_journal.specs.declared.turn.TurnKind.TheVariants.{Short, Wide, Full}
 use Rattle.tk_journal.specs.declared.noted.Noted.{Noted}
 use Rattle.tk_coord.specs.Dealing.{Ends, OpensOrEnds, OpensWide}
 use Rattle.tk_coord.specs.Steps.{Follows, report_frame, with_got}
@@ -34,7 +34,7 @@ pub record IsAnswered (s : Setup) (j : List Noted) (report : Reported) (failed :
   pub closed : is_open s j ≡ false
 
 -- no number is behind itself
-late_never : (n : ℕ) → nat_lt n n ≡ false
+pub late_never : (n : ℕ) → nat_lt n n ≡ false
 late_never n = le-ltb n n (omega arith)
 
 -- a Report that is answered is fresh
@@ -64,7 +64,7 @@ same_test s j members table setup report force dealt named =
     ∙ ap (λ (ms : List ℕ). passes_short_test (in_force s j) (table_at s j) ms report) named
 
 -- the short round decides the same over the fields as over the journal
-same_short : (s : Setup) (j : List Noted) (members : List ℕ) (table : Grid) (setup : Setup) (report : Reported) → setup ≡ in_force s j → table ≡ table_at s j → members ≡ members_at j
+pub same_short : (s : Setup) (j : List Noted) (members : List ℕ) (table : Grid) (setup : Setup) (report : Reported) → setup ≡ in_force s j → table ≡ table_at s j → members ≡ members_at j
     → short_decides setup table members report ≡ short_at s j report
 same_short s j members table setup report force dealt named =
     ap (λ (q : Setup). short_decides q table members report) force
@@ -72,7 +72,7 @@ same_short s j members table setup report force dealt named =
     ∙ ap (λ (ms : List ℕ). short_decides (in_force s j) (table_at s j) ms report) named
 
 -- so does a full round
-same_full : (s : Setup) (j : List Noted) (members : List ℕ) (table : Grid) (setup : Setup) (reports : List Reported) → setup ≡ in_force s j → table ≡ table_at s j → members ≡ members_at j
+pub same_full : (s : Setup) (j : List Noted) (members : List ℕ) (table : Grid) (setup : Setup) (reports : List Reported) → setup ≡ in_force s j → table ≡ table_at s j → members ≡ members_at j
     → full_decides setup table members reports ≡ full_at s j reports
 same_full s j members table setup reports force dealt named =
     ap (λ (q : Setup). full_decides q table members reports) force
@@ -80,7 +80,7 @@ same_full s j members table setup reports force dealt named =
     ∙ ap (λ (ms : List ℕ). full_decides (in_force s j) (table_at s j) ms reports) named
 
 -- what ends by the fields ends by the journal
-ends_by : (grid table : Grid) (links : List Link) (standing : Standing) (decided d : Decided) (outcome : Outcome) → table ≡ grid → decided ≡ d → Ends table links standing decided outcome
+pub ends_by : (grid table : Grid) (links : List Link) (standing : Standing) (decided d : Decided) (outcome : Outcome) → table ≡ grid → decided ≡ d → Ends table links standing decided outcome
     → Ends grid links standing d outcome
 ends_by grid table links standing decided d outcome dealt is ends =
     subst (λ (q : Decided). Ends grid links standing q outcome) is (subst (λ (g : Grid). Ends g links standing decided outcome) dealt ends)

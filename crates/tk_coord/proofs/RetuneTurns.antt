@@ -11,7 +11,8 @@ use Rattle.tk_journal.specs.Legal.{turn_of}
 use Rattle.tk_journal.specs.Readings.{Tuning, monitors, assigns_sent, answer_of, progress_of, members_at, last_round, asked_of, values_of, waits_for, is_open, is_calm, is_stopped, tunings, tuned_to}
 use Rattle.tk_journal.specs.Refusal.{retune_refusal_of}
 use Rattle.tk_journal.specs.Turns.{collects, failures_after, rounds, streak, wide_collects}
-use Rattle.tk_journal.specs.Walks.{walk, last_of}
+use Rattle.tk_base.specs.History.{last_of}
+use Rattle.tk_journal.specs.Walks.{walk}
 use Rattle.tk_journal.specs.declared.noted.Noted.{Noted}
 use Rattle.tk_journal.specs.declared.noted.Noted.TheVariants as n
 use Rattle.tk_journal.specs.declared.refusal.RetuneRefusal.{RetuneRefusal}
@@ -27,7 +28,7 @@ use Rattle.tk_journal.proofs.Tuning.{force_closed, force_tuned, tuned_list, wide
 use Rattle.tk_coord.specs.Coordinator.{IsJournal}
 use Rattle.tk_coord.specs.Dealing.{OpensWide}
 use Rattle.tk_coord.specs.State.{Holds, Stands, kind_in, link_at, up_to_eight}
-use Rattle.tk_coord.specs.Steps.{IsAsked, IsReply, retuned_to}
+use Rattle.tk_coord.specs.Steps.{IsAsked, IsReply, IsRetuned, retuned_to}
 use Rattle.tk_coord.specs.declared.round.Round.{Round}
 use Rattle.tk_coord.specs.declared.standing.Standing.{Standing}
 use Rattle.tk_coord.specs.declared.state.State.{State}
@@ -85,13 +86,6 @@ pub past_refuses : (s : Setup) (j : List Noted) (k e : ℕ) (r : RetuneRefusal) 
     → retune_refusal_of s j k e ≡ Some r
 past_refuses s j k e r going closed is =
     closed_refuses s j k e going closed ∙ refused_by (is_k k s.objects) (nat_le e (2 ^ 100)) (record s { k = k; epsilon = pos e }) r is
-
--- a retune that is not refused, with the settings that it brings: no Stop was sent, and no round is open
-pub record IsRetuned (s : Setup) (j : List Noted) (k e : ℕ) (next : Setup) : Type 0 where
-  pub going : is_stopped j ≡ false
-  pub closed : is_open s j ≡ false
-  pub accepted : retune_refusal_of s j k e ≡ None
-  pub brings : next ≡ record s { k = k; epsilon = pos e }
 
 -- where the settings are within the limits, nothing refuses
 pub none_refuses : (s : Setup) (j : List Noted) (k e : ℕ) (next : Setup) → is_stopped j ≡ false → is_open s j ≡ false → retuned_to s k e ≡ Ok next → IsRetuned s j k e next

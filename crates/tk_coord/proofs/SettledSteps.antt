@@ -12,19 +12,21 @@ use Rattle.tk_journal.specs.Laws.{IsMonitor}
 use Rattle.tk_journal.specs.Publishing.{differs, publications}
 use Rattle.tk_journal.specs.Readings.{Progress, assigns_sent, in_force, is_open, is_stopped, members_at}
 use Rattle.tk_journal.specs.Refusal.{refusal_of}
-use Rattle.tk_journal.specs.Walks.{last_of}
+use Rattle.tk_base.specs.History.{last_of}
 use Rattle.tk_journal.specs.declared.noted.Noted.{Noted}
+use Rattle.tk_journal.specs.declared.turn.TurnKind.TheVariants.{Note, Stale}
 use Rattle.tk_journal.proofs.Tuning.{force_monitors}
 use Rattle.tk_coord.specs.Checks.{AreWithin}
 use Rattle.tk_coord.specs.Closing.{closing_by, said_by, settled_by}
-use Rattle.tk_coord.specs.Coordinator.{IsJournal, Seen}
+use Rattle.tk_coord.specs.Coordinator.{IsJournal, CoordinatorView}
 use Rattle.tk_coord.specs.State.{AreLinks, Stands}
-use Rattle.tk_coord.specs.Steps.{Follows, IsStep, Tells}
+use Rattle.tk_coord.specs.Steps.{Follows, IsCounted, IsStep, Tells, quiet_turn}
 use Rattle.tk_coord.specs.declared.link.Link.{Link}
 use Rattle.tk_coord.specs.declared.standing.Standing.{Standing}
 use Rattle.tk_coord.specs.declared.step.Reply.TheVariants as reply
 use Rattle.tk_coord.specs.declared.step.Step.{Step}
 use Rattle.tk_coord.specs.declared.step.Told.TheVariants as told
+use Rattle.tk_coord.proofs.CountedTurns.{counts_quiet, settled_counts, stale_settled_counts}
 use Rattle.tk_coord.proofs.GroundLemmas.{entries_of}
 use Rattle.tk_coord.proofs.GrowLemmas.{firm_at, orderly_at}
 use Rattle.tk_coord.proofs.SettledTurns.{HaveOthersSettled, calm_follows_settled, settled_seq, stale_settled_follows, stirred_follows}
@@ -39,12 +41,12 @@ pub record IsSettledTaken (s : Setup) (j : List Noted) (links : List Link) (mon 
   pub accepted : refusal_of s j mon.0 frame ≡ None
 
 -- what the fields know of it is so of the journal that is seen
-pub settled_taken : (seen now : Seen) (links kept : List Link) (mon : Mon) (frame : Frame) (seq : ℕ) (last : Bool) (places : List ℕ) → seen ≡ now → IsJournal seen.settings seen.journal
+pub settled_taken : (seen now : CoordinatorView) (links kept : List Link) (mon : Mon) (frame : Frame) (seq : ℕ) (last : Bool) (places : List ℕ) → seen ≡ now → IsJournal seen.settings seen.journal
     → links ≡ kept → AreLinks seen.settings seen.journal kept → 0 < mon.0 → mon.0 ≤ now.settings.monitors → frame ≡ f.Settled seq last places
     → refusal_of now.settings now.journal mon.0 frame ≡ None → IsSettledTaken now.settings now.journal links mon frame seq last places
 settled_taken seen now links kept mon frame seq last places same journal is_kept linked some within is accepted = record {
-  journal = subst (λ (v : Seen). IsJournal v.settings v.journal) same journal;
-  linked = subst (λ (v : Seen). AreLinks v.settings v.journal links) same (subst (AreLinks seen.settings seen.journal) (sym is_kept) linked);
+  journal = subst (λ (v : CoordinatorView). IsJournal v.settings v.journal) same journal;
+  linked = subst (λ (v : CoordinatorView). AreLinks v.settings v.journal links) same (subst (AreLinks seen.settings seen.journal) (sym is_kept) linked);
   range = record { from_one = some; within = within };
   is = is;
   accepted = accepted;
@@ -57,17 +59,18 @@ settled_accepted s j links mon frame seq last places t = ap (refusal_of s j mon.
 
 -- what a frame tells and what follows it is its step
 step_of : (s : Setup) (j : List Noted) (mon : Mon) (frame settled : Frame) (step : Step) → frame ≡ settled
-    → Tells s j mon settled step.told → Follows s j mon settled step.outcome → IsStep s j mon frame step
-step_of s j mon frame settled step is tells follows = subst (λ (x : Frame). IsStep s j mon x step) (sym is) (record { told = tells; outcome = follows })
+    → Tells s j mon settled step.told → Follows s j mon settled step.outcome → IsCounted s j mon.0 settled step.turn.kind step.turn.fails step.turn.widens → IsStep s j mon frame step
+step_of s j mon frame settled step is tells follows counts = subst (λ (x : Frame). IsStep s j mon x step) (sym is) (record { told = tells; outcome = follows; counted = counts })
 
 -- nothing comes of a stale Settled
 pub stale_step : (s : Setup) (j : List Noted) (links : List Link) (mon : Mon) (frame : Frame) (seq : ℕ) (last : Bool) (places : List ℕ) (step : Step)
     → IsSettledTaken s j links mon frame seq last places → nat_lt seq (assigns_sent mon.0 j) ≡ true
-    → step.told ≡ told.Nothing → step.outcome.entries.items ≡ [] → step.outcome.reply ≡ reply.Nothing → Stands s j step.outcome.standing → IsStep s j mon frame step
-stale_step s j links mon frame seq last places step t late tells sends replies stands =
+    → step.told ≡ told.Nothing → step.outcome.entries.items ≡ [] → step.outcome.reply ≡ reply.Nothing → Stands s j step.outcome.standing → step.turn ≡ quiet_turn Stale → IsStep s j mon frame step
+stale_step s j links mon frame seq last places step t late tells sends replies stands turn =
     step_of s j mon frame (f.Settled seq last places) step t.is
     (subst (Tells s j mon (f.Settled seq last places)) (sym tells) (settled_stale s j mon seq last places (ltb-true seq (assigns_sent mon.0 j) late)))
     (stale_settled_follows s j mon seq last places step.outcome t.journal (settled_accepted s j links mon frame seq last places t) late sends replies stands)
+    (counts_quiet s j mon.0 (f.Settled seq last places) step.turn Stale turn (stale_settled_counts s j mon.0 seq last places late))
 
 -- what a fresh Settled tells
 fresh_told : (s : Setup) (j : List Noted) (links : List Link) (mon : Mon) (frame : Frame) (seq : ℕ) (last : Bool) (places : List ℕ) (progress : Progress) (step : Step)
@@ -82,10 +85,12 @@ fresh_told s j links mon frame seq last places progress step t late is tells =
 pub stirred_step : (s : Setup) (j : List Noted) (links : List Link) (mon : Mon) (frame : Frame) (seq : ℕ) (last : Bool) (places : List ℕ) (progress : Progress) (step : Step)
     → IsSettledTaken s j links mon frame seq last places → nat_lt seq (assigns_sent mon.0 j) ≡ false → progress ≡ record { places = places; last = last }
     → (is_open s j ≡ true) ⊎ ((i : ℕ) × (l : Link) × (i ≢ mon.0 - 1) × (slice_get links i ≡ Some l) × (settled_by (Some l) ≡ None))
-    → step.told ≡ told.Settled progress → step.outcome.entries.items ≡ [] → step.outcome.reply ≡ reply.Nothing → Stands s j step.outcome.standing → IsStep s j mon frame step
-stirred_step s j links mon frame seq last places progress step t late is which tells sends replies stands =
+    → step.told ≡ told.Settled progress → step.outcome.entries.items ≡ [] → step.outcome.reply ≡ reply.Nothing → Stands s j step.outcome.standing → step.turn ≡ quiet_turn Note
+    → IsStep s j mon frame step
+stirred_step s j links mon frame seq last places progress step t late is which tells sends replies stands turn =
     step_of s j mon frame (f.Settled seq last places) step t.is (fresh_told s j links mon frame seq last places progress step t late is tells)
     (stirred_follows s j links mon seq last places step.outcome t.linked t.range (settled_accepted s j links mon frame seq last places t) which sends replies stands)
+    (counts_quiet s j mon.0 (f.Settled seq last places) step.turn Note turn (settled_counts s j mon.0 seq last places late))
 
 -- ---- where all have settled
 
@@ -111,10 +116,11 @@ pub calm_step : (s : Setup) (j : List Noted) (links : List Link) (mon : Mon) (fr
     → news ≡ differs (in_force s j) (members_at j) (last_of (publications j)) → number ≡ length (publications j) + 1
     → step.told ≡ told.Settled progress → step.outcome.entries.items ≡ closing_by standing.settings members (said_by links (mon.0 - 1) progress) news number
     → is_stopped step.outcome.entries.items ≡ ends → step.outcome.reply ≡ reply.Nothing → step.outcome.standing ≡ record standing { streak = 0; stopped = ends }
-    → ((n : ℕ) → AreWithin n members → All (IsEntryOf standing.settings.monitors n) step.outcome.entries.items) → IsStep s j mon frame step
+    → ((n : ℕ) → AreWithin n members → All (IsEntryOf standing.settings.monitors n) step.outcome.entries.items) → step.turn ≡ quiet_turn Note → IsStep s j mon frame step
 calm_step s j links mon frame seq last places progress standing members news number ends step
-    t late is closed others stands named newer count tells sends stopped replies holds range =
+    t late is closed others stands named newer count tells sends stopped replies holds range turn =
     step_of s j mon frame (f.Settled seq last places) step t.is (fresh_told s j links mon frame seq last places progress step t late is tells)
     (calm_follows_settled s j links mon seq last places progress standing.settings members news number ends standing step.outcome
     t.linked t.range (settled_accepted s j links mon frame seq last places t) late closed others is stands.settings named newer count stands sends stopped replies holds
     (range_of s j standing members step.outcome.entries.items t.journal stands named range))
+    (counts_quiet s j mon.0 (f.Settled seq last places) step.turn Note turn (settled_counts s j mon.0 seq last places late))

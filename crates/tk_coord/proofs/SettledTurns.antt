@@ -8,13 +8,14 @@ use Rattle.tk_base.specs.Settings.{Setup}
 use Rattle.tk_base.specs.declared.ids.Mon.{Mon}
 use Rattle.tk_frames.specs.declared.frame.Frame.{Frame}
 use Rattle.tk_frames.specs.declared.frame.Frame.TheVariants as f
-use Rattle.tk_journal.specs.Walks.{last_of}
+use Rattle.tk_base.specs.History.{last_of}
 use Rattle.tk_journal.specs.Entries.{IsEntryOf}
 use Rattle.tk_journal.specs.Laws.{IsMonitor}
 use Rattle.tk_journal.specs.Legal.{turn_of}
 use Rattle.tk_journal.specs.Readings.{Progress, assigns_sent, settled_in, settled_of, is_open, is_calm, in_force, members_at, is_stopped}
 use Rattle.tk_journal.specs.Deciding.{is_within_limit}
-use Rattle.tk_journal.specs.Turns.{Stale, Note, reported, passes_at, short_at, streak, kind_of, demanded}
+use Rattle.tk_journal.specs.Turns.{reported, passes_at, short_at, streak, kind_of, demanded}
+use Rattle.tk_journal.specs.declared.turn.TurnKind.TheVariants.{Stale, Note}
 use Rattle.tk_journal.specs.Refusal.{refusal_of, refusal_of_cut, shown_by}
 use Rattle.tk_journal.specs.Publishing.{publications, settled_at, differs, is_due, closing, stops}
 use Rattle.tk_journal.specs.declared.noted.Noted.{Noted}

@@ -7,7 +7,7 @@ use Rattle.tk_base.specs.Settings.{Setup}
 use Rattle.tk_base.specs.declared.ids.Mon.{Mon}
 use Rattle.tk_frames.specs.declared.frame.Frame.{Frame}
 use Rattle.tk_journal.specs.Laws.{IsMonitor}
-use Rattle.tk_journal.specs.Walks.{last_of}
+use Rattle.tk_base.specs.History.{last_of}
 use Rattle.tk_journal.specs.Readings.{assigns_sent, answer_of, settled_in, last_round, is_open, is_calm, tunings, tuned_to, in_force, is_stopped}
 use Rattle.tk_journal.specs.Deciding.{Decided}
 use Rattle.tk_journal.specs.Turns.{rounds, collects, assigns, demanded, is_wide}

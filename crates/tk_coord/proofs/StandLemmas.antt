@@ -7,7 +7,8 @@ use Rattle.tk_base.specs.declared.ids.Mon.{Mon}
 use Rattle.tk_frames.specs.declared.frame.Frame.{Frame}
 use Rattle.tk_frames.specs.declared.frame.Frame.TheVariants as f
 use Rattle.tk_journal.specs.Laws.{IsMonitor}
-use Rattle.tk_journal.specs.Walks.{walk, last_of}
+use Rattle.tk_base.specs.History.{last_of}
+use Rattle.tk_journal.specs.Walks.{walk}
 use Rattle.tk_journal.specs.Readings.{monitors, is_calm, tunings, tuned_to, in_force, is_stopped}
 use Rattle.tk_journal.specs.Turns.{fails_at, failures_after, unless_calm, streak, rounds, demanded}
 use Rattle.tk_journal.specs.Refusal.{refusal_of}

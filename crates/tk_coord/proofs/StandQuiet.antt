@@ -9,7 +9,8 @@ use Rattle.tk_base.specs.declared.ids.Mon.{Mon}
 use Rattle.tk_frames.specs.declared.frame.Frame.TheVariants as f
 use Rattle.tk_journal.specs.Readings.{monitors, assigns_sent, answer_of, settled_in, is_open, is_calm, is_stopped}
 use Rattle.tk_journal.specs.Deciding.{is_within_limit}
-use Rattle.tk_journal.specs.Turns.{Stale, Note, reported, passes_at, short_at, streak, kind_of}
+use Rattle.tk_journal.specs.Turns.{reported, passes_at, short_at, streak, kind_of}
+use Rattle.tk_journal.specs.declared.turn.TurnKind.TheVariants.{Stale, Note}
 use Rattle.tk_journal.specs.Refusal.{refusal_of}
 use Rattle.tk_journal.specs.Publishing.{closing}
 use Rattle.tk_journal.specs.Legal.{turn_of}

@@ -15,7 +15,9 @@ use Rattle.tk_alloc.specs.declared.reported.Reported.{Reported}
 use Rattle.tk_journal.specs.Laws.{IsMonitor}
 use Rattle.tk_journal.specs.Readings.{monitors, assigns_sent, last_round, is_open}
 use Rattle.tk_journal.specs.Deciding.{is_within_limit, short_decides}
-use Rattle.tk_journal.specs.Turns.{Kind, Short, Wide, Full, reported, passes_at, short_at, full_at, streak, is_lone_full, kind_of, rounds, collects, wide_collects, assigns, full_end, report_demands, demanded}
+use Rattle.tk_journal.specs.declared.turn.TurnKind.{TurnKind}
+use Rattle.tk_journal.specs.declared.turn.TurnKind.TheVariants.{Short, Wide, Full}
+use Rattle.tk_journal.specs.Turns.{reported, passes_at, short_at, full_at, streak, is_lone_full, kind_of, rounds, collects, wide_collects, assigns, full_end, report_demands, demanded}
 use Rattle.tk_journal.specs.Legal.{turn_of}
 use Rattle.tk_journal.specs.declared.noted.Noted.{Noted}
 use Rattle.tk_journal.specs.declared.noted.Noted.TheVariants as n
@@ -46,7 +48,7 @@ report_kind s j mon seq border failed values passes within few late closed passe
     ∙ ap (λ b. kind_by false false passes within b) left
 
 -- what the turn of a Report demands, by its kind
-pub report_demanded : (s : Setup) (j : List Noted) (mon seq : ℕ) (border : ℤ) (failed : List ℕ) (values : List (ℕ × ℤ)) (kind : Kind) → kind_of s j mon (f.Report seq border failed values) ≡ kind
+pub report_demanded : (s : Setup) (j : List Noted) (mon seq : ℕ) (border : ℤ) (failed : List ℕ) (values : List (ℕ × ℤ)) (kind : TurnKind) → kind_of s j mon (f.Report seq border failed values) ≡ kind
     → demanded s j mon (f.Report seq border failed values) ≡ report_demands s j (reported mon border values) kind
 unfolding demanded
 report_demanded s j mon seq border failed values kind is = ap (report_demands s j (reported mon border values)) is

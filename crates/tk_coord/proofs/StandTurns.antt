@@ -7,10 +7,12 @@ use Rattle.tk_base.specs.Settings.{Setup}
 use Rattle.tk_base.specs.declared.ids.Mon.{Mon}
 use Rattle.tk_frames.specs.declared.frame.Frame.{Frame}
 use Rattle.tk_frames.specs.declared.frame.Frame.TheVariants as f
-use Rattle.tk_journal.specs.Walks.{walk, last_of}
+use Rattle.tk_base.specs.History.{last_of}
+use Rattle.tk_journal.specs.Walks.{walk}
 use Rattle.tk_journal.specs.Readings.{assigns_sent, is_open, is_calm, tuned_to, in_force, is_stopped}
 use Rattle.tk_journal.specs.Deciding.{is_within_limit}
-use Rattle.tk_journal.specs.Turns.{Stale, Note, End, reported, passes_at, short_at, fails_at, failures_after, streak, is_lone_full, kind_of, rounds, demanded}
+use Rattle.tk_journal.specs.Turns.{reported, passes_at, short_at, fails_at, failures_after, streak, is_lone_full, kind_of, rounds, demanded}
+use Rattle.tk_journal.specs.declared.turn.TurnKind.TheVariants.{Stale, Note, End}
 use Rattle.tk_journal.specs.Refusal.{refusal_of}
 use Rattle.tk_journal.specs.Publishing.{closing}
 use Rattle.tk_journal.specs.Legal.{turn_of}

@@ -8,7 +8,8 @@ use Rattle.tk_frames.specs.declared.frame.Frame.TheVariants as f
 use Rattle.tk_alloc.specs.declared.reported.Reported.{Reported}
 use Rattle.tk_journal.specs.Readings.{is_open}
 use Rattle.tk_journal.specs.Deciding.{is_within_limit, reports_at}
-use Rattle.tk_journal.specs.Turns.{Note, End, full_at, wide_at, kind_of, rounds, wide_collects, assigns, full_end, wide_end, values_demand, is_wide, demanded}
+use Rattle.tk_journal.specs.Turns.{full_at, wide_at, kind_of, rounds, wide_collects, assigns, full_end, wide_end, values_demand, is_wide, demanded}
+use Rattle.tk_journal.specs.declared.turn.TurnKind.TheVariants.{Note, End}
 use Rattle.tk_journal.specs.Legal.{turn_of}
 use Rattle.tk_journal.specs.declared.noted.Noted.{Noted}
 use Rattle.tk_journal.specs.declared.noted.Noted.TheVariants as n

@@ -14,7 +14,9 @@ use Rattle.tk_journal.specs.Links.{link_of}
 use Rattle.tk_journal.specs.Links.Passed.{Up}
 use Rattle.tk_journal.specs.Laws.{IsMonitor}
 use Rattle.tk_journal.specs.Deciding.{report_of, answered_report}
-use Rattle.tk_journal.specs.Turns.{kind_of, kind_of_report, is_lone_full, Stale, Note, Kind, rounds, reported}
+use Rattle.tk_journal.specs.declared.turn.TurnKind.{TurnKind}
+use Rattle.tk_journal.specs.declared.turn.TurnKind.TheVariants.{Stale, Note}
+use Rattle.tk_journal.specs.Turns.{kind_of, kind_of_report, is_lone_full, rounds, reported}
 use Rattle.tk_journal.specs.Refusal.{refusal_of, shown_by, known_by}
 use Rattle.tk_journal.specs.declared.noted.Noted.{Noted}
 use Rattle.tk_journal.specs.declared.noted.Noted.TheVariants as n
@@ -147,7 +149,7 @@ answer_stale q j mon frame stale =
     (λ own. ap (λ b. if b then Some frame else answer_of q j) (ap (λ p. is_answer (assigns_sent p j) frame) (sym (eqb-true mon.0 q own)) ∙ stale))
 
 -- the turn of a stale frame opens no round
-stale_kind : (s : Setup) (b : Bool) (kind : Kind) → b ≡ true → is_lone_full s (if b then Stale else kind) ≡ false
+stale_kind : (s : Setup) (b : Bool) (kind : TurnKind) → b ≡ true → is_lone_full s (if b then Stale else kind) ≡ false
 stale_kind s true kind is = refl
 stale_kind s false kind is = cc
 

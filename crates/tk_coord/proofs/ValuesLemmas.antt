@@ -5,7 +5,6 @@ use Rattle.std.proofs.lemmas.List.{length-map, get_or-map}
 use Rattle.std.proofs.lemmas.Option.{slice_get_within, get_or_from_slice_get}
 use Rattle.tk_base.specs.Pairs.{objects_of}
 use Rattle.tk_base.specs.Ascending.{IsAscending}
-use Rattle.tk_base.specs.Objects.{objects}
 use Rattle.tk_base.proofs.AscendingLemmas.{ascending_positive}
 use Rattle.tk_coord.specs.Checks.{AreWithin}
 

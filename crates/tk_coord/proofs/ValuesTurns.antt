@@ -18,7 +18,7 @@ use Rattle.tk_journal.specs.Laws.{IsMonitor}
 use Rattle.tk_journal.specs.Readings.{in_force, is_open, last_round, members_at, table_at, tuned_to, waits_for}
 use Rattle.tk_journal.specs.Refusal.{refusal_of}
 use Rattle.tk_journal.specs.Turns.{assigns, full_at, full_end, is_wide, rounds, wide_at, wide_collects, wide_end}
-use Rattle.tk_journal.specs.Walks.{last_of}
+use Rattle.tk_base.specs.History.{last_of}
 use Rattle.tk_journal.specs.declared.noted.Noted.{Noted}
 use Rattle.tk_journal.proofs.Counting.{got_count}
 use Rattle.tk_journal.proofs.Firm.{got_tuned, got_tunings}
@@ -156,13 +156,13 @@ kept_wide s j round gathered mon number seq border values kept range none =
 -- ---- the fields after them
 
 -- settings, table and members are those over a journal
-record AreOf (s : Setup) (now : List Noted) (setup : Setup) (table : Grid) (members : List ℕ) : Type 0 where
+pub record AreOf (s : Setup) (now : List Noted) (setup : Setup) (table : Grid) (members : List ℕ) : Type 0 where
   force : setup ≡ in_force s now
   dealt : table ≡ table_at s now
   named : members ≡ members_at now
 
 -- with the next settings they are those over the journal with the Values
-fields_after : (s : Setup) (j : List Noted) (members : List ℕ) (table : Grid) (links : List Link) (standing : Standing) (mon : Mon) (number seq : ℕ) (border : ℤ) (values : List (ℕ × ℤ))
+pub fields_after : (s : Setup) (j : List Noted) (members : List ℕ) (table : Grid) (links : List Link) (standing : Standing) (mon : Mon) (number seq : ℕ) (border : ℤ) (values : List (ℕ × ℤ))
     (reports : List Reported)
     → AreLast s j members table links standing mon number seq border values reports → AreOf s (with_values j mon number seq border values) standing.next table members
 fields_after s j members table links standing mon number seq border values reports l =
@@ -176,7 +176,7 @@ fields_after s j members table links standing mon number seq border values repor
     }
 
 -- what is decided over them is decided over the journal
-decided_over : (F : Setup → Grid → List ℕ → Decided) (s : Setup) (now : List Noted) (setup : Setup) (table : Grid) (members : List ℕ) → AreOf s now setup table members
+pub decided_over : (F : Setup → Grid → List ℕ → Decided) (s : Setup) (now : List Noted) (setup : Setup) (table : Grid) (members : List ℕ) → AreOf s now setup table members
     → F setup table members ≡ F (in_force s now) (table_at s now) (members_at now)
 decided_over F s now setup table members are =
     ap (λ x. F x table members) are.force ∙ ap (λ g. F (in_force s now) g members) are.dealt ∙ ap (λ ms. F (in_force s now) (table_at s now) ms) are.named

@@ -1,5 +1,5 @@
 -- What contracts see of a coordinator, and what its fields keep.
-use Rattle.std.specs.Prelude.{ℕ, ◌≤◌, ◌≡◌, List, length, map}
+use Rattle.std.specs.Prelude.{ℕ, ◌≤◌, ◌≡◌, ◌⊎◌, List, length, map, Option, Some, None}
 use Rattle.std.specs.Global.{Vec}
 use Rattle.std.specs.List.{All}
 use Rattle.tk_base.specs.Settings.{Setup}
@@ -15,12 +15,14 @@ use Rattle.tk_journal.specs.Readings.{monitors, table_at}
 use Rattle.tk_journal.specs.Publishing.{published_in}
 use Rattle.tk_coord.specs.Index.{AreIndexed, IsIndex}
 
--- a coordinator: what it was made with, its members, its table and its journal
-pub record Seen : Type 0 where
+-- a coordinator: what it was made with, and its journal
+pub record CoordinatorView : Type 0 where
   pub settings : Setup
-  pub members : List ℕ
-  pub table : Grid
   pub journal : List Noted
+
+-- why something is not taken: the first test that it does not pass or, where it passes all, want of memory
+abbrev pub IsRefusal : {R : Type 0} → R → Option R → R → Type 0
+IsRefusal want first why = ((why ≡ want) × (first ≡ None)) ⊎ (first ≡ Some why)
 
 -- the journal of a coordinator with these settings: a legal one, from an opening from which a journal may start
 pub record IsJournal (s : Setup) (j : List Noted) : Type 0 where

@@ -1,9 +1,11 @@
 -- How the links change at what is sent, and what that needs. No public clause cites this.
-use Rattle.std.specs.Prelude.{ℕ, ◌+◌, ◌-◌, ◌^◌, ◌<◌, ◌≤◌, ◌≡◌, min, Bool, false, ◌==◌, if◌then◌else◌, List, length, fold, Option, Some, None, slice_get}
+use Rattle.std.specs.Prelude.{ℕ, ◌+◌, ◌-◌, ◌^◌, ◌<◌, ◌≤◌, ◌≡◌, min, Bool, true, false, ◌==◌, if◌then◌else◌, List, length, fold, Option, Some, None, slice_get}
 use Rattle.tk_rows.specs.declared.mon_change.MonChange.{MonChange}
 use Rattle.tk_rows.specs.Replacing.{IsReplacement}
 use Rattle.tk_coord.specs.Checks.{AreNamed}
 use Rattle.tk_coord.specs.Ranking.{CanRank}
+use Rattle.tk_coord.specs.declared.answer.Answer.{Answer}
+use Rattle.tk_coord.specs.declared.answer.Answer.TheVariants as a
 use Rattle.tk_coord.specs.declared.link.Link.{Link}
 use Rattle.tk_coord.specs.declared.state.State.{State}
 use Rattle.tk_coord.specs.declared.step.Reply.{Reply}
@@ -25,6 +27,16 @@ assigned_at mon changes link = fold (λ l c. if c.mon.0 == mon then one_more l e
 -- each link has changed, by its place
 abbrev pub AreChanged : (ℕ → Link → Link) → List Link → List Link → Type 0
 AreChanged change old new = (i : ℕ) (l : Link) → slice_get new i ≡ Some l → (m : Link) × (slice_get old i ≡ Some m) × (l ≡ change i m)
+
+-- whether an answer is a Settled
+abbrev pub is_settled_in : Option Answer → Bool
+is_settled_in None = false
+is_settled_in (Some a.Report) = false
+is_settled_in (Some a.Settled) = true
+
+-- whether the monitor of a link has settled
+abbrev pub has_settled : Link → Bool
+has_settled link = is_settled_in link.answer
 
 -- a monitor has its places among the links and among the reports
 pub record HasPlace (state : State) (mon : ℕ) : Type 0 where

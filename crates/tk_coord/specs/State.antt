@@ -8,7 +8,7 @@ use Rattle.tk_journal.specs.Readings.{assigns_sent, members_at, table_at, answer
 use Rattle.tk_journal.specs.Deciding.{report_of}
 use Rattle.tk_journal.specs.Laws.{IsMonitor}
 use Rattle.tk_journal.specs.Turns.{is_wide, rounds, streak}
-use Rattle.tk_journal.specs.Walks.{last_of}
+use Rattle.tk_base.specs.History.{last_of}
 use Rattle.tk_journal.specs.declared.noted.Noted.{Noted}
 use Rattle.tk_coord.specs.declared.answer.Answer.{Answer}
 use Rattle.tk_coord.specs.declared.answer.Answer.TheVariants as a

@@ -11,17 +11,20 @@ use Rattle.tk_rows.specs.declared.reallocation.Reallocation.{Reallocation}
 use Rattle.tk_alloc.specs.Parts.{by_monitor}
 use Rattle.tk_alloc.specs.declared.reported.Reported.{Reported}
 use Rattle.tk_journal.specs.Entries.{IsEntryOf}
-use Rattle.tk_journal.specs.Readings.{monitors, assigns_sent, members_at, table_at, answer_of, last_round, waits_for, is_open}
+use Rattle.tk_journal.specs.Readings.{monitors, assigns_sent, members_at, table_at, answer_of, last_round, waits_for, is_open, is_stopped}
 use Rattle.tk_journal.specs.Deciding.{report_of, answered_report}
 use Rattle.tk_journal.specs.Laws.{AreRoundsCounted, IsMonitor}
 use Rattle.tk_journal.specs.Legal.{turn_of}
 use Rattle.tk_journal.specs.Publishing.{closing}
-use Rattle.tk_journal.specs.Refusal.{refusal_of}
+use Rattle.tk_journal.specs.Refusal.{refusal_of, retune_refusal_of}
 use Rattle.tk_journal.specs.declared.refusal.RetuneRefusal.{RetuneRefusal}
 use Rattle.tk_journal.specs.declared.refusal.RetuneRefusal.TheVariants as retune
-use Rattle.tk_journal.specs.Turns.{collects, demanded, is_wide}
+use Rattle.tk_journal.specs.Kinds.{opens_wide}
+use Rattle.tk_journal.specs.Turns.{collects, demanded, fails_at, is_wide, kind_of}
 use Rattle.tk_journal.specs.declared.noted.Noted.{Noted}
 use Rattle.tk_journal.specs.declared.noted.Noted.TheVariants as n
+use Rattle.tk_journal.specs.declared.turn.Turn.{Turn}
+use Rattle.tk_journal.specs.declared.turn.TurnKind.{TurnKind}
 use Rattle.tk_frames.specs.declared.frame.Frame.TheVariants as f
 use Rattle.tk_coord.specs.declared.answer.Answer.TheVariants as a
 use Rattle.tk_coord.specs.declared.link.Link.{Link}
@@ -66,6 +69,13 @@ abbrev pub retuned_to : Setup → ℕ → ℕ → Result Setup RetuneRefusal
 retuned_to s k epsilon =
     if not (is_k k s.objects) then Err retune.BadK
     else (if not (nat_le epsilon (2 ^ 100)) then Err retune.BadEpsilon else Ok (record s { k = k; epsilon = pos epsilon }))
+
+-- a retune that is not refused, with the settings that it brings: no Stop was sent, and no round is open
+pub record IsRetuned (s : Setup) (j : List Noted) (k e : ℕ) (next : Setup) : Type 0 where
+  pub going : is_stopped j ≡ false
+  pub closed : is_open s j ≡ false
+  pub accepted : retune_refusal_of s j k e ≡ None
+  pub brings : next ≡ record s { k = k; epsilon = pos e }
 
 -- ---- what a frame tells
 
@@ -154,7 +164,24 @@ pub record Follows (s : Setup) (j : List Noted) (mon : Mon) (frame : Frame) (out
   pub range : All (IsEntryOf s.monitors s.objects) outcome.entries.items
   pub standing : Stands s (j ++ turn_of s j (n.Got mon frame)) outcome.standing
 
+-- whether what is sent opens a wide round
+abbrev pub asks_wide : Reply → Bool
+asks_wide reply.Nothing = false
+asks_wide (reply.Ask round opener) = round.wide
+asks_wide (reply.Assign r) = false
+
+-- the turn of a frame that nothing follows, before its end
+abbrev pub quiet_turn : TurnKind → Turn
+quiet_turn kind = record { kind = kind; fails = false; widens = false; calm = false }
+
+-- how the turn of a frame counts: its kind, whether its Report fails the short test, and whether it opens a wide round
+pub record IsCounted (s : Setup) (j : List Noted) (mon : ℕ) (frame : Frame) (kind : TurnKind) (fails wide : Bool) : Type 0 where
+  pub kind_is : kind ≡ kind_of s j mon frame
+  pub fails_is : fails ≡ fails_at s j mon frame
+  pub wide_is : wide ≡ opens_wide s j mon frame
+
 -- what a frame brings about
 pub record IsStep (s : Setup) (j : List Noted) (mon : Mon) (frame : Frame) (step : Step) : Type 0 where
   pub told : Tells s j mon frame step.told
   pub outcome : Follows s j mon frame step.outcome
+  pub counted : IsCounted s j mon.0 frame step.turn.kind step.turn.fails step.turn.widens

@@ -1,25 +1,25 @@
-ghost use Rattle.std.specs.Prelude.{◌≡◌, ◌⊎◌, not, false, nat_lt, ℕ, List, [], ◌<◌, ◌≤◌, ◌++◌, length, pos, IfOk, IfErr, OnOk, Some, None, slice_get};
+ghost use Rattle.std.specs.Prelude.{◌≡◌, not, false, nat_lt, ℕ, List, [], ◌<◌, ◌≤◌, ◌++◌, length, pos, IfOk, IfErr, OnOk, Some, None, slice_get};
 ghost use Rattle.std.specs.List.{All};
-ghost use Rattle.tk_base.specs.Objects.{objects};
 ghost use Rattle.tk_frames.specs.declared.frame.Frame.{Frame};
 ghost use Rattle.tk_journal.specs.Entries.{IsEntryOf};
 ghost use Rattle.tk_journal.specs.Legal.{Opening, IsLegal, opened, start, turn_of};
 ghost use Rattle.tk_journal.specs.Links.{frames_to};
 ghost use Rattle.tk_journal.specs.Publishing.{differs, publications};
-ghost use Rattle.tk_journal.specs.Walks.{last_of};
+ghost use Rattle.tk_base.specs.History.{last_of};
 ghost use Rattle.tk_journal.specs.Readings.{assigns_sent, factor, in_force, is_open, is_stopped, members_at, own, table_at};
 ghost use Rattle.tk_journal.specs.Refusal.{known_by, refusal_of, retune_refusal_of, shown_by};
+ghost use Rattle.tk_journal.specs.Kinds.{turns_of};
 ghost use Rattle.tk_journal.specs.Turns.{passes_at};
 ghost use Rattle.tk_journal.specs.declared.noted.Noted.{Noted};
 ghost use Rattle.tk_journal.specs.declared.noted.Noted.TheVariants.{Got, Tuned};
 ghost use Rattle.tk_journal.specs.declared.refusal.CoordRefusal.TheVariants.{NoMemory as NoRoom};
 ghost use Rattle.tk_journal.specs.declared.refusal.RetuneRefusal.TheVariants.{NoMemory as NoRoomToTune};
 ghost use Rattle.tk_coord.specs.Checks.{IsKnown, known_in};
-ghost use Rattle.tk_coord.specs.Coordinator.{Begins, CanBegin, IsJournal, with_factors};
+ghost use Rattle.tk_coord.specs.Coordinator.{Begins, CanBegin, IsJournal, IsRefusal, with_factors};
 ghost use Rattle.tk_coord.specs.Ranking.{ranks_of};
 ghost use Rattle.tk_coord.specs.Refusals.{shown_in};
 ghost use Rattle.tk_coord.specs.State.{AreLinks, Stands};
-ghost use Rattle.tk_coord.specs.Steps.{AreValues, Follows, IsReport, IsReported, IsSettled, IsStep, report_frame, retuned_to};
+ghost use Rattle.tk_coord.specs.Steps.{AreValues, IsReport, IsReported, IsRetuned, IsSettled, IsStep, quiet_turn, report_frame, retuned_to};
 ghost use Rattle.tk_coord.specs.declared.step.Reply.TheVariants.{Nothing};
 
 use crate::answer::Progress;
@@ -37,14 +37,14 @@ use crate::reports::no_reports;
 use crate::round::Round;
 use crate::standing::Standing;
 use crate::state::State;
-use crate::step::{Outcome, Reply, Step, Told};
+use crate::step::{Outcome, Reply, Step, Told, retune_turn, short_kind};
 use std::alloc::Global;
 use std::marker::Model;
 use std::mem;
 use tk_alloc::Reported;
 use tk_base::{Mon, NoMemory, Obj, ObjSet, Pairs, Places, SettingFault, Settings};
 use tk_frames::{Frame, KeptFrame};
-use tk_journal::{CoordRefusal, KeptEpsilon, Noted, Publication, RetuneRefusal};
+use tk_journal::{CoordRefusal, KeptEpsilon, Noted, Publication, RetuneRefusal, Turn, TurnKind};
 use tk_rows::Table;
 
 /// The settings with another k and epsilon, unless one of them is past its limit.
@@ -68,21 +68,21 @@ pub struct Coordinator {
     state: State,
     standing: Standing,
     journal: Vec<Noted>,
+    turns: Vec<Turn>,
     index: Index,
 }
 
 impl Model for Coordinator {
-    ghost use Rattle.tk_coord.specs.Coordinator.{Seen, IsJournal, IsNoted};
+    ghost use Rattle.tk_coord.specs.Coordinator.{CoordinatorView, IsJournal, IsNoted};
     ghost use Rattle.std.specs.Prelude.{◌≡◌};
     ghost use Rattle.tk_coord.specs.Ranking.{ranks_of};
     ghost use Rattle.tk_coord.specs.State.{Holds, Stands};
+    ghost use Rattle.tk_journal.specs.Kinds.{turns_of};
 
-    ghost Value = { Seen };
+    ghost Value = { CoordinatorView };
 
     ghost view = { λ c. record {
       settings = c.settings;
-      members = c.state.members;
-      table = c.state.table;
       journal = c.journal.items;
     } };
 
@@ -90,14 +90,14 @@ impl Model for Coordinator {
         × Holds c.settings c.journal.items c.state
         × Stands c.settings c.journal.items c.standing
         × IsNoted c.settings c.journal.items c.index.sent.items c.index.published.items
-        × (c.state.ranks ≡ ranks_of c.state.table c.state.members) };
+        × (c.state.ranks ≡ ranks_of c.state.table c.state.members)
+        × (c.turns.items ≡ turns_of c.settings c.journal.items) };
 }
 
 impl Coordinator {
     /// The members are objects 1 to k, all factors are 0, and each monitor is sent its first Assign.
     pub fn new(alloc: Global, settings: Settings) -> Result<Coordinator, NoMemory>
         ensures settings { IfOk result (λ c. c.settings ≡ settings) }
-        ensures members { IfOk result (λ c. c.members ≡ objects settings.k) }
         ensures journal { IfOk result (λ c. c.journal ≡ opened (start settings)) }
         ensures legal { IfOk result (λ c. IsLegal (start settings) c.journal) }
     {
@@ -118,7 +118,6 @@ impl Coordinator {
     ) -> Result<Coordinator, NoMemory>
         requires { CanBegin settings members table }
         ensures settings { IfOk result (λ c. c.settings ≡ settings) }
-        ensures members { IfOk result (λ c. c.members ≡ members) }
         ensures journal { IfOk result (λ c. c.journal ≡ opened (with_factors settings members table)) }
         ensures legal { IfOk result (λ c. IsLegal (with_factors settings members table) c.journal) }
     {
@@ -136,7 +135,7 @@ impl Coordinator {
         journal: Vec<Noted>,
     ) -> Result<Coordinator, NoMemory>
         requires { Begins settings members table journal.items }
-        ensures { IfOk result (λ c. c ≡ record { settings = settings; members = members; table = table; journal = journal.items }) }
+        ensures { IfOk result (λ c. c ≡ record { settings = settings; journal = journal.items }) }
     {
         let mut journal = journal;
         let monitors = settings.monitors();
@@ -146,6 +145,7 @@ impl Coordinator {
         let sent = index.sent.as_mut_slice();
         note_from(sent, &mut index.published, journal.as_slice(), 0);
         let ranks = new_ranks(alloc, &table, settings.objects(), &members)?;
+        let turns = Vec::new(alloc);
         let state = State {
             members,
             table,
@@ -159,19 +159,21 @@ impl Coordinator {
             state,
             standing: Standing::new(settings),
             journal,
+            turns,
             index,
         })
     }
 
     /// Takes a frame of a monitor and notes it, with what it brings about.
+    /// Costs what the frame names times a logarithm, and where a round ends its objects times the square of the monitors.
     pub fn take(&mut self, mon: Mon, frame: Frame) -> Result<(), (CoordRefusal, Frame)>
         requires some_monitor { 0 < mon.0 }
         requires monitor { mon.0 ≤ self.old.settings.monitors }
         // a frame that is refused by no test is noted with all that it brings about
         ensures ok { OnOk result (refusal_of self.old.settings self.old.journal mon.0 frame ≡ None) }
         ensures turn { OnOk result (self.new.journal ≡ self.old.journal ++ turn_of self.old.settings self.old.journal (Got mon frame)) }
-        // the first test that it does not pass refuses it
-        ensures refused { IfErr result (λ e. (e.0 ≡ NoRoom) ⊎ (refusal_of self.old.settings self.old.journal mon.0 frame ≡ Some e.0)) }
+        // the first test that it does not pass refuses it; want of memory, only what passes all
+        ensures refused { IfErr result (λ e. IsRefusal NoRoom (refusal_of self.old.settings self.old.journal mon.0 frame) e.0) }
         ensures err { IfErr result (λ e. (e.1 ≡ frame) × (self.new ≡ self.old)) }
         ensures settings { self.new.settings ≡ self.old.settings }
         ensures legal { (o : Opening) → o.settings ≡ self.old.settings → IsLegal o self.old.journal → IsLegal o self.new.journal }
@@ -190,7 +192,7 @@ impl Coordinator {
         ensures same { self.new ≡ self.old }
         ensures taken { IfOk result (λ _. refusal_of self.old.settings self.old.journal mon.0 frame.now ≡ None) }
         ensures step { IfOk result (IsStep self.old.settings self.old.journal mon frame.now) }
-        ensures refused { IfErr result (λ e. (e ≡ NoRoom) ⊎ (refusal_of self.old.settings self.old.journal mon.0 frame.now ≡ Some e)) }
+        ensures refused { IfErr result (IsRefusal NoRoom (refusal_of self.old.settings self.old.journal mon.0 frame.now)) }
     {
         if let Some(refusal) = refusal_of(self.shown(mon), self.known(mon), frame) {
             return Err(refusal);
@@ -220,19 +222,17 @@ impl Coordinator {
             unreachable!()
         };
         if self.is_stale(mon, *seq) {
-            return Ok(self.quiet(Told::Nothing));
+            return Ok(self.quiet(Told::Nothing, TurnKind::Stale));
         }
         if self.state.round.waiting {
-            return Ok(self.quiet(Told::Report));
+            return Ok(self.quiet(Told::Report, TurnKind::Note));
         }
         let report = Reported {
             mon,
             values: values.try_clone()?,
             border: *border,
         };
-        let outcome = self.answered(report)?;
-        let told = Told::Report;
-        Ok(Step { told, outcome })
+        self.answered(report)
     }
 
     /// Whether a fresh Report that finds no round open passes the short test.
@@ -252,29 +252,31 @@ impl Coordinator {
     }
 
     /// The round of a fresh Report that finds none open.
-    fn answered(&self, report: Reported) -> Result<Outcome, NoMemory>
+    fn answered(&self, report: Reported) -> Result<Step, NoMemory>
         requires some_monitor { 0 < report.mon.0 }
         requires monitor { report.mon.0 ≤ self.now.settings.monitors }
         requires taken { IsReported self.now.settings self.now.journal report }
         requires closed { is_open self.now.settings self.now.journal ≡ false }
         ensures { (failed : List ℕ) → refusal_of self.now.settings self.now.journal report.mon.0 (report_frame self.now.journal report failed) ≡ None
-            → IfOk result (Follows self.now.settings self.now.journal report.mon (report_frame self.now.journal report failed)) }
+            → IfOk result (IsStep self.now.settings self.now.journal report.mon (report_frame self.now.journal report failed)) }
     {
         let grounds = self.grounds();
         if self.passes(&report) {
-            return end_short(grounds, &report);
+            let outcome = end_short(grounds, &report)?;
+            let kind = short_kind(&outcome.reply);
+            return Ok(outcome.step(Told::Report, kind, false));
         }
         let standing = grounds.standing.failed();
         if grounds.standing.is_tired() {
-            return open_wide(grounds.alloc, standing);
+            let outcome = open_wide(grounds.alloc, standing)?;
+            return Ok(outcome.step(Told::Report, TurnKind::Wide, true));
         }
-        open_full(
-            Grounds {
-                standing,
-                ..grounds
-            },
-            report,
-        )
+        let grounds = Grounds {
+            standing,
+            ..grounds
+        };
+        let outcome = open_full(grounds, report)?;
+        Ok(outcome.step(Told::Report, TurnKind::Full, true))
     }
 
     fn on_settled(&self, mon: Mon, frame: &Frame) -> Result<Step, NoMemory>
@@ -289,12 +291,12 @@ impl Coordinator {
         };
         let links = self.state.links.as_slice();
         if self.is_stale(mon, *seq) {
-            return Ok(self.quiet(Told::Nothing));
+            return Ok(self.quiet(Told::Nothing, TurnKind::Stale));
         }
         let place = mon.0 as usize - 1;
         let progress = Progress::of(places, *last)?;
         if self.state.round.waiting || !others_settled(links, place) {
-            return Ok(self.quiet(Told::Settled(progress)));
+            return Ok(self.quiet(Told::Settled(progress), TurnKind::Note));
         }
         let answers = Answers {
             links,
@@ -314,8 +316,7 @@ impl Coordinator {
             reply: Reply::Nothing,
             standing: self.standing.calm(stopped),
         };
-        let told = Told::Settled(progress);
-        Ok(Step { told, outcome })
+        Ok(outcome.step(Told::Settled(progress), TurnKind::Note, false))
     }
 
     fn on_values(&mut self, mon: Mon, frame: &Frame) -> Result<Step, NoMemory>
@@ -337,7 +338,7 @@ impl Coordinator {
         let place = mon.0 as usize - 1;
         if !waits_for_no_other(self.state.links.as_slice(), place) {
             let more = true;
-            return Ok(self.quiet(Told::Values { report, more }));
+            return Ok(self.quiet(Told::Values { report, more }, TurnKind::Note));
         }
         let before = mem::replace(&mut self.state.gathered[place], report);
         let grounds = Grounds {
@@ -353,21 +354,18 @@ impl Coordinator {
         let report = mem::replace(&mut self.state.gathered[place], before);
         let more = false;
         let told = Told::Values { report, more };
-        Ok(Step {
-            told,
-            outcome: outcome?,
-        })
+        Ok(outcome?.step(told, TurnKind::End, false))
     }
 
     /// A frame that nothing follows.
-    fn quiet(&self, told: Told) -> Step
+    fn quiet(&self, told: Told, kind: TurnKind) -> Step
         ensures told { result.told ≡ told }
         ensures entries { result.outcome.entries.items ≡ [] }
         ensures reply { result.outcome.reply ≡ Nothing }
         ensures standing { Stands self.now.settings self.now.journal result.outcome.standing }
+        ensures turn { result.turn ≡ quiet_turn kind }
     {
-        let outcome = nothing(*self.journal.allocator(), self.standing);
-        Step { told, outcome }
+        nothing(*self.journal.allocator(), self.standing).step(told, kind, false)
     }
 
     fn grounds(&self) -> Grounds
@@ -431,36 +429,39 @@ impl Coordinator {
         ensures err { IfErr result (λ e. (e.0 ≡ NoRoom) × (e.1 ≡ frame) × (self.new ≡ self.old)) }
         ensures settings { self.new.settings ≡ self.old.settings }
     {
-        let Step { told, outcome } = step;
         let Outcome {
             entries,
             reply,
             standing,
-        } = outcome;
+        } = step.outcome;
         let kept = match KeptFrame::new(*self.journal.allocator(), frame) {
             Ok(kept) => kept,
             Err(frame) => return Err((CoordRefusal::NoMemory, frame)),
         };
         let first = Noted::Got(mon, kept);
-        match note_turn(&mut self.journal, &mut self.index, first, entries) {
+        match note_turn(
+            &mut self.journal,
+            &mut self.turns,
+            &mut self.index,
+            first,
+            entries,
+        ) {
             Ok(()) => {}
             Err(Noted::Got(_, kept)) => return Err((CoordRefusal::NoMemory, kept.into_frame())),
             Err(_) => unreachable!(),
         }
-        self.state.take(mon, told);
+        self.state.take(mon, step.told);
         self.state.reply(reply);
         self.standing = standing;
+        let calm = self.state.is_calm();
+        self.turns.push_reserved(Turn { calm, ..step.turn });
         Ok(())
     }
 
-    /// Takes another k and epsilon: they are in force from the end of the wide round that opens.
-    pub fn retune(&mut self, k: u64, epsilon: u128) -> Result<(), RetuneRefusal>
-        ensures ok { OnOk result (retune_refusal_of self.old.settings self.old.journal k epsilon ≡ None) }
-        ensures turn { OnOk result (self.new.journal ≡ self.old.journal ++ turn_of self.old.settings self.old.journal (Tuned k (pos epsilon))) }
-        ensures refused { IfErr result (λ e. (e ≡ NoRoomToTune) ⊎ (retune_refusal_of self.old.settings self.old.journal k epsilon ≡ Some e)) }
-        ensures err { IfErr result (λ _. self.new ≡ self.old) }
-        ensures settings { self.new.settings ≡ self.old.settings }
-        ensures legal { (o : Opening) → o.settings ≡ self.old.settings → IsLegal o self.old.journal → IsLegal o self.new.journal }
+    /// The settings that a retune brings, or the first test that it does not pass.
+    fn tuned(&self, k: u64, epsilon: u128) -> Result<Settings, RetuneRefusal>
+        ensures ok { IfOk result (IsRetuned self.now.settings self.now.journal k epsilon) }
+        ensures refused { IfErr result (λ e. retune_refusal_of self.now.settings self.now.journal k epsilon ≡ Some e) }
     {
         if self.standing.stopped {
             return Err(RetuneRefusal::AfterStop);
@@ -468,7 +469,20 @@ impl Coordinator {
         if self.state.round.waiting {
             return Err(RetuneRefusal::RoundOpen);
         }
-        let next = retuned(&self.settings, k, epsilon)?;
+        retuned(&self.settings, k, epsilon)
+    }
+
+    /// Takes another k and epsilon: they are in force from the end of the wide round that opens.
+    /// Costs the objects times the monitors, which the Collects of that round name.
+    pub fn retune(&mut self, k: u64, epsilon: u128) -> Result<(), RetuneRefusal>
+        ensures ok { OnOk result (retune_refusal_of self.old.settings self.old.journal k epsilon ≡ None) }
+        ensures turn { OnOk result (self.new.journal ≡ self.old.journal ++ turn_of self.old.settings self.old.journal (Tuned k (pos epsilon))) }
+        ensures refused { IfErr result (IsRefusal NoRoomToTune (retune_refusal_of self.old.settings self.old.journal k epsilon)) }
+        ensures err { IfErr result (λ _. self.new ≡ self.old) }
+        ensures settings { self.new.settings ≡ self.old.settings }
+        ensures legal { (o : Opening) → o.settings ≡ self.old.settings → IsLegal o self.old.journal → IsLegal o self.new.journal }
+    {
+        let next = self.tuned(k, epsilon)?;
         let alloc = *self.journal.allocator();
         let (Ok(outcome), Ok(kept)) = (
             open_wide(alloc, self.standing),
@@ -482,11 +496,21 @@ impl Coordinator {
             standing,
         } = outcome;
         let first = Noted::Tuned(next.k(), kept);
-        if note_turn(&mut self.journal, &mut self.index, first, entries).is_err() {
+        if note_turn(
+            &mut self.journal,
+            &mut self.turns,
+            &mut self.index,
+            first,
+            entries,
+        )
+        .is_err()
+        {
             return Err(RetuneRefusal::NoMemory);
         }
         self.state.reply(reply);
         self.standing = Standing { next, ..standing };
+        let calm = self.state.is_calm();
+        self.turns.push_reserved(retune_turn(calm));
         Ok(())
     }
 
@@ -524,8 +548,7 @@ impl Coordinator {
     }
 
     pub fn members(&self) -> &ObjSet
-        ensures value { result.now ≡ self.now.members }
-        ensures named { result.now ≡ members_at self.now.journal }
+        ensures { result.now ≡ members_at self.now.journal }
     {
         &self.state.members
     }
@@ -550,6 +573,13 @@ impl Coordinator {
         ensures entries { All (IsEntryOf self.now.settings.monitors self.now.settings.objects) self.now.journal }
     {
         self.journal.as_slice()
+    }
+
+    /// The turns of the journal, in order: one for each frame taken and each retune.
+    pub fn turns(&self) -> &[Turn]
+        ensures { result.now ≡ turns_of self.now.settings self.now.journal }
+    {
+        self.turns.as_slice()
     }
 
     /// How many sets were published.

@@ -7,7 +7,7 @@ ghost use Rattle.std.specs.List.{All};
 use crate::step::append;
 use std::alloc::{AllocError, Global};
 use tk_base::NoMemory;
-use tk_journal::Noted;
+use tk_journal::{Noted, Turn};
 
 /// Where in a journal the frames to each monitor and the publications stand.
 #[derive(Debug, Drop)]
@@ -103,10 +103,11 @@ pub fn note_from(
     }
 }
 
-/// Appends an entry and those that follow it, and notes their places. All room is taken first, and the
-/// entry is handed back where there is none.
+/// Appends an entry and those that follow it, and notes their places. All room is taken first, that for the
+/// turn too, and the entry is handed back where there is none.
 pub fn note_turn(
     journal: &mut Vec<Noted>,
+    turns: &mut Vec<Turn>,
     index: &mut Index,
     first: Noted,
     entries: Vec<Noted>,
@@ -118,12 +119,17 @@ pub fn note_turn(
     requires published { IsIndex published_in journal.old.items index.old.published.items }
     ensures ok { OnOk result (journal.new.items ≡ journal.old.items ++ first ∷ entries.items) }
     ensures err { IfErr result (λ e. (e ≡ first) × (journal.new.items ≡ journal.old.items)) }
+    ensures turns { turns.new.items ≡ turns.old.items }
+    ensures turns_room { OnOk result (vec_len turns.new < vec_capacity turns.new) }
     ensures monitors { vec_len index.new.sent ≡ vec_len index.old.sent }
     ensures sent { AreIndexed journal.new.items index.new.sent.items }
     ensures published { IsIndex published_in journal.new.items index.new.published.items }
 {
     let more = entries.len() + 1;
     if reserve(journal, index, more).is_err() {
+        return Err(first);
+    }
+    if turns.reserve(1).is_err() {
         return Err(first);
     }
     let from = journal.len();

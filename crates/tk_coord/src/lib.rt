@@ -22,8 +22,6 @@ mod round;
 mod standing;
 mod state;
 mod step;
-#[cfg(test)]
-mod tests;
 
 pub use coordinator::Coordinator;
-pub use tk_journal::CoordRefusal;
+pub use tk_journal::{CoordRefusal, RetuneRefusal, Turn, TurnKind};

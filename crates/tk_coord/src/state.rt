@@ -1,10 +1,12 @@
 ghost use Rattle.std.specs.Prelude.{◌≡◌, ◌++◌, List, length, suc};
 ghost use Rattle.tk_base.specs.Settings.{Setup};
 ghost use Rattle.tk_frames.specs.declared.frame.Frame.{Frame};
+ghost use Rattle.std.specs.List.{list_all};
 ghost use Rattle.tk_journal.specs.Laws.{IsMonitor};
+ghost use Rattle.tk_journal.specs.Readings.{is_calm as is_calm_at};
 ghost use Rattle.tk_journal.specs.declared.noted.Noted.{Noted};
 ghost use Rattle.tk_coord.specs.Checks.{AreNamed};
-ghost use Rattle.tk_coord.specs.Keeping.{AreChanged, HasPlace, CanReply, assigned_at};
+ghost use Rattle.tk_coord.specs.Keeping.{AreChanged, HasPlace, CanReply, assigned_at, has_settled};
 ghost use Rattle.tk_coord.specs.Ranking.{ranks_of};
 ghost use Rattle.tk_coord.specs.State.{Holds};
 ghost use Rattle.tk_coord.specs.Steps.{Tells, IsReply, told_at, values_in, open_after, with_got};
@@ -67,6 +69,24 @@ fn still_waits(waiting: bool, told: &Told) -> bool
     }
 }
 
+fn is_settled(link: &Link) -> bool
+    ensures { result ≡ has_settled link.now }
+{
+    matches!(link.answer, Some(Answer::Settled))
+}
+
+/// Whether every monitor's current answer is a Settled.
+fn all_settled(links: &[Link]) -> bool
+    ensures { result ≡ list_all has_settled links.now }
+{
+    for link in links {
+        if !is_settled(link) {
+            return false;
+        }
+    }
+    true
+}
+
 /// Each monitor with changes was sent one more Assign.
 fn assign(links: &mut [Link], changes: &[MonChange])
     requires { AreNamed (length links.old) changes.now }
@@ -81,6 +101,16 @@ fn assign(links: &mut [Link], changes: &[MonChange])
 }
 
 impl State {
+    /// Whether no round is open and every monitor's current answer is a Settled.
+    pub fn is_calm(&self) -> bool
+        ensures { (s : Setup) (j : List Noted) → Holds s j self.now → result ≡ is_calm_at s j }
+    {
+        if self.round.waiting {
+            return false;
+        }
+        all_settled(self.links.as_slice())
+    }
+
     /// A frame of a monitor was taken.
     pub fn take(&mut self, mon: Mon, told: Told)
         requires { HasPlace self.old mon.0 }

@@ -1,17 +1,21 @@
-ghost use Rattle.std.specs.Prelude.{◌≡◌, ◌+◌, ◌≤◌, ◌∷◌, ◌++◌, vec_len, vec_capacity};
+ghost use Rattle.std.specs.Prelude.{◌≡◌, ◌+◌, ◌≤◌, ◌∷◌, ◌++◌, true, false, if◌then◌else◌, vec_len, vec_capacity};
+ghost use Rattle.tk_journal.specs.declared.turn.TurnKind.TheVariants.{Tune, Short, Wide};
+ghost use Rattle.tk_coord.specs.Steps.{asks_wide};
 
 use crate::answer::Progress;
 use crate::round::Round;
 use crate::standing::Standing;
 use tk_alloc::Reported;
-use tk_journal::Noted;
+use tk_journal::{Noted, Turn, TurnKind};
 use tk_rows::Reallocation;
 
-/// What a taken frame brings about: what it tells, and what follows.
+/// What a taken frame brings about: what it tells, what follows, and its turn.
 #[derive(Drop)]
 pub struct Step {
     pub told: Told,
     pub outcome: Outcome,
+    /// Whether it is calm is known at its end.
+    pub turn: Turn,
 }
 
 /// What a taken frame tells of its monitor.
@@ -46,6 +50,63 @@ pub enum Reply {
     },
     /// The Assigns of a round that has ended.
     Assign(Reallocation),
+}
+
+impl Reply {
+    /// Whether it opens a wide round.
+    pub fn opens_wide(&self) -> bool
+        ensures { result ≡ asks_wide self.now }
+    {
+        match self {
+            Reply::Ask { round, .. } => round.wide,
+            _ => false,
+        }
+    }
+}
+
+impl Outcome {
+    /// The step of a frame that tells this, with a turn of this kind.
+    pub fn step(self, told: Told, kind: TurnKind, fails: bool) -> Step
+        ensures { result ≡ record {
+          told = told;
+          outcome = self;
+          turn = record { kind = kind; fails = fails; widens = asks_wide self.reply; calm = false };
+        } }
+    {
+        let turn = Turn {
+            kind,
+            fails,
+            widens: self.reply.opens_wide(),
+            calm: false,
+        };
+        Step {
+            told,
+            outcome: self,
+            turn,
+        }
+    }
+}
+
+/// The kind of a turn in which a Report passes the short test, by what it sends.
+pub fn short_kind(reply: &Reply) -> TurnKind
+    ensures { result ≡ (if asks_wide reply.now then Wide else Short) }
+{
+    if reply.opens_wide() {
+        return TurnKind::Wide;
+    }
+    TurnKind::Short
+}
+
+/// The turn of a retune.
+pub fn retune_turn(calm: bool) -> Turn
+    ensures { result ≡ record { kind = Tune; fails = false; widens = true; calm = calm } }
+{
+    Turn {
+        kind: TurnKind::Tune,
+        fails: false,
+        widens: true,
+        calm,
+    }
 }
 
 /// Appends an entry and those that follow it, for which there is room.

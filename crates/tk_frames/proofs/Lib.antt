@@ -2,6 +2,7 @@ mod Examples
 pub mod AnswerLemmas
 pub mod AscentLemmas
 pub mod BytesLemmas
+pub mod CarriedLemmas
 pub mod EncodingLemmas
 pub mod ExactLemmas
 pub mod FieldLemmas

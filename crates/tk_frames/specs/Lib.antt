@@ -1,3 +1,4 @@
+pub mod Carried
 pub mod Answer
 pub mod Assigns
 pub mod Encoding

@@ -8,7 +8,7 @@ use Rattle.tk_input.specs.Log.{log_of}
 use Rattle.tk_input.specs.Order.{order_of}
 use Rattle.tk_input.specs.Records.{through}
 use Rattle.tk_input.specs.declared.catalog.CatalogFault.TheVariants as catalog
-use Rattle.tk_input.specs.declared.event.Event.TheVariants.{Raise, Check, Up, Down}
+use Rattle.tk_input.specs.declared.event.Event.TheVariants.{Raise, Check, Up, Down, Retune}
 use Rattle.tk_input.specs.declared.order.OrderFault.TheVariants as order
 use Rattle.tk_input.specs.declared.part.PartFault.TheVariants as log
 
@@ -67,9 +67,12 @@ pub bad_number : log_of (codes "a" ∷ codes "b" ∷ []) (codes "a,12x\nc,1\n") 
 unfolding csv_on_literals through
 bad_number = refl
 
--- the lines of an order; empty ones are passed over
-pub events : order_of (codes "raise 1 2\r\n\n\r\ncheck 3\nup 4\ndown 999")
-    ≡ Ok (Raise (record { 0 = 1 }) (record { 0 = 2 }) ∷ Check (record { 0 = 3 }) ∷ Up (record { 0 = 4 }) ∷ Down (record { 0 = 999 }) ∷ [])
+-- the lines of an order with their numbers; empty ones are passed over, but counted
+pub events : order_of (codes "raise 1 2\r\n\n\r\ncheck 3\nup 4\ndown 999\nretune 010 0")
+    ≡ Ok (record {
+      events = Raise (record { 0 = 1 }) (record { 0 = 2 }) ∷ Check (record { 0 = 3 }) ∷ Up (record { 0 = 4 }) ∷ Down (record { 0 = 999 }) ∷ Retune (record { k = 10; epsilon = 0 }) ∷ [];
+      lines = 1 ∷ 4 ∷ 5 ∷ 6 ∷ 7 ∷ [];
+    })
 unfolding through
 events = refl
 
@@ -77,6 +80,21 @@ events = refl
 pub fourth_line : order_of (codes "\n\ncheck 1\nraise 1 2 3\nup x\n") ≡ Err (order.BadOrder 4)
 unfolding through
 fourth_line = refl
+
+-- a k has at most 18 digits
+pub long_k : order_of (codes "retune 999999999999999999 0\nretune 0000000000000000001 0") ≡ Err (order.BadOrder 2)
+unfolding through
+long_k = refl
+
+-- an epsilon has at most 38 digits
+pub long_epsilon : order_of (codes "retune 1 99999999999999999999999999999999999999\nretune 1 000000000000000000000000000000000000000") ≡ Err (order.BadOrder 2)
+unfolding through
+long_epsilon = refl
+
+-- a retune has no sign
+pub signed_epsilon : order_of (codes "retune 1 +1") ≡ Err (order.BadOrder 1)
+unfolding through
+signed_epsilon = refl
 
 -- a carriage return is dropped before a line feed alone
 pub bare_return : order_of (codes "up 1\r") ≡ Err (order.BadOrder 1)

@@ -1,4 +1,5 @@
 pub mod CountLemmas
+pub mod EdgeLemmas
 pub mod FilesLemmas
 pub mod SumLemmas
 pub mod SignedLemmas
@@ -8,9 +9,10 @@ pub mod LimitsLemmas
 pub mod ReadingLemmas
 pub mod ThroughLemmas
 pub mod NamesLemmas
+pub mod DifferLemmas
 pub mod DigitsLemmas
 pub mod LinesLemmas
 pub mod LogLemmas
 pub mod OrderLemmas
 pub mod FormatExamples
-pub mod TestLemmas
+pub mod ValidExamples

@@ -1,5 +1,5 @@
 -- One more change of a log.
-use Rattle.std.proofs.Common.{◌≡◌, ℕ, ℤ, List, [], ◌∷◌, ◌++◌, length, Some, None, Result, Ok, sym, ap, subst, ◌∙◌, arith}
+use Rattle.std.proofs.Common.{◌≡◌, ℕ, ℤ, List, [], ◌∷◌, ◌++◌, length, Some, None, Result, Ok, Err, sym, ap, subst, ◌∙◌, arith}
 use Rattle.std.proofs.lemmas.List.{length-map, map-append}
 use Rattle.csv.specs.Records.{field_at}
 use Rattle.tk_input.specs.Log.{IsFault, both_fields, change_added, log_of, next_change}
@@ -45,11 +45,18 @@ fault_ends r (UnknownName n) further is = ap (and_then further) is
 fault_ends r (BadNumber n) further is = ap (and_then further) is
 fault_ends r NoMemory further is = tt
 
+meant_is : {A : Type 0} (r : Result A PartFault) (e : PartFault) → r ≡ Err e → IsFault e r
+meant_is r TooMany is = is
+meant_is r (BadRow n) is = is
+meant_is r (UnknownName n) is = is
+meant_is r (BadNumber n) is = is
+meant_is r NoMemory is = tt
+
 -- the fault of a record is that of the file
-pub log_fault : (names : List (List ℕ)) (bytes : List ℕ) (items : List Change) (n : ℕ) (fields : List (List ℕ)) (rest rows : List (List (List ℕ))) (e : PartFault) → through (change_added names) (changes_of items) rows ≡ through (change_added names) [] (records_in bytes) → rows ≡ fields ∷ rest → n ≡ length items → IsFault e (next_change names n fields) → IsFault e (log_of names bytes)
+pub log_fault : (names : List (List ℕ)) (bytes : List ℕ) (items : List Change) (n : ℕ) (fields : List (List ℕ)) (rest rows : List (List (List ℕ))) (e : PartFault) → through (change_added names) (changes_of items) rows ≡ through (change_added names) [] (records_in bytes) → rows ≡ fields ∷ rest → n ≡ length items → next_change names n fields ≡ Err e → IsFault e (log_of names bytes)
 unfolding through
 log_fault names bytes items n fields rest rows e same is so_many fault =
-    let here : IsFault e (next_change names (length (changes_of items)) fields) = subst (λ (k : ℕ). IsFault e (next_change names k fields)) (so_many ∙ sym (length-map items pair_of)) fault in
+    let here : IsFault e (next_change names (length (changes_of items)) fields) = subst (λ (k : ℕ). IsFault e (next_change names k fields)) (so_many ∙ sym (length-map items pair_of)) (meant_is (next_change names n fields) e fault) in
     subst (λ (r : Result (List (ℕ × ℤ)) PartFault). IsFault e r) same
     (rw is (fault_ends (change_added names (changes_of items) fields) e (λ after. through (change_added names) after rest) (fault_ends (next_change names (length (changes_of items)) fields) e (λ change. Ok (changes_of items ++ change ∷ [])) here)))
 

@@ -1,10 +1,10 @@
 -- One more name of a catalogue.
 use Rattle.std.proofs.Common.{◌≡◌, ℕ, suc, zero, ◌+◌, ◌<◌, Bool, true, false, not, ◌||◌, List, [], ◌∷◌, ◌++◌, length, map, Option, Some, Result, Ok, Err, Vec, bytes_eq, refl, sym, ap, subst, ◌∙◌, arith}
-use Rattle.std.specs.Prelude.{IsTrue, nat_le, if◌then◌else◌}
+use Rattle.std.specs.Prelude.{IsTrue, is_ok, nat_le, if◌then◌else◌}
 use Rattle.std.specs.List.{list_any}
 use Rattle.std.proofs.lemmas.List.{length-map, map-append}
 use Rattle.csv.specs.Records.{field_at}
-use Rattle.tk_input.specs.Catalog.{IsFault, catalog_of, is_name, name_added, names_of, only_field, some_names, with_name}
+use Rattle.tk_input.specs.Catalog.{IsFault, IsNameFault, catalog_of, is_name, name_added, names_of, only_field, some_names, with_name}
 use Rattle.tk_input.specs.Records.{and_then, records_in, through}
 use Rattle.tk_input.proofs.ThroughLemmas.{through-none}
 use Rattle.tk_input.specs.declared.catalog.CatalogFault.{CatalogFault}
@@ -49,12 +49,20 @@ fault_ends r (BadName n) further is = ap (and_then further) is
 fault_ends r (Repeated n) further is = ap (and_then further) is
 fault_ends r NoMemory further is = tt
 
+record_fault : (r : Result (List (List ℕ)) CatalogFault) (e : CatalogFault) → IsNameFault e r → IsFault e r
+record_fault r Empty is = is
+record_fault r TooMany is = is
+record_fault r (BadRow n) is = is
+record_fault r (BadName n) is = is
+record_fault r (Repeated n) is = is
+record_fault r NoMemory is = tt
+
 -- the fault of a record is that of the file
-pub catalog_fault : (bytes : List ℕ) (before fields : List (List ℕ)) (rest rows : List (List (List ℕ))) (e : CatalogFault) → through name_added before rows ≡ through name_added [] (records_in bytes) → rows ≡ fields ∷ rest → IsFault e (name_added before fields) → IsFault e (catalog_of bytes)
+pub catalog_fault : (bytes : List ℕ) (before fields : List (List ℕ)) (rest rows : List (List (List ℕ))) (e : CatalogFault) → through name_added before rows ≡ through name_added [] (records_in bytes) → rows ≡ fields ∷ rest → IsNameFault e (name_added before fields) → IsFault e (catalog_of bytes)
 unfolding through
 catalog_fault bytes before fields rest rows e same is fault =
     subst (λ (r : Result (List (List ℕ)) CatalogFault). IsFault e (and_then some_names r)) same
-    (rw is (fault_ends (and_then (λ names. through name_added names rest) (name_added before fields)) e some_names (fault_ends (name_added before fields) e (λ names. through name_added names rest) fault)))
+    (rw is (fault_ends (and_then (λ names. through name_added names rest) (name_added before fields)) e some_names (fault_ends (name_added before fields) e (λ names. through name_added names rest) (record_fault (name_added before fields) e fault))))
 
 -- after the last record the names so far are all
 pub catalog_names : (bytes : List ℕ) (before : List (List ℕ)) (rows : List (List (List ℕ))) → through name_added before rows ≡ through name_added [] (records_in bytes) → rows ≡ [] → catalog_of bytes ≡ some_names before
@@ -74,3 +82,10 @@ none_is (name ∷ names) none = absurd (omega arith)
 pub not_none : (n : ℕ) (b : Bool) → (n ≡ 0 → IsTrue b) → b ≡ false → 0 < n
 not_none zero b told is = let true_too = told refl in absurd (cc)
 not_none (suc n) b told is = omega arith
+
+-- a proper name that did not stand before is taken
+pub fresh_is_taken : {A : Type 0} (keys : List (Vec ℕ A)) (fields : List (List ℕ)) (name : List ℕ) → nat_le 65536 (length (names_of keys)) ≡ false → only_field fields ≡ Some name → is_name name ≡ true → list_any (λ k. bytes_eq name k.items) keys ≡ false → IsTrue (is_ok (name_added (names_of keys) fields))
+fresh_is_taken {A} keys fields name few one proper fresh =
+    ap (λ (r : Result (List (List ℕ)) CatalogFault). is_ok r)
+    (name_added-proper (names_of keys) fields name few one proper
+    ∙ ap (λ (b : Bool). if b then Err (Repeated (length (names_of keys) + 1)) else Ok (names_of keys ++ name ∷ [])) (any-names_of name keys ∙ fresh))

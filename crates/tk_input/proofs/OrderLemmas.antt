@@ -1,12 +1,12 @@
 -- One more line of an order file.
-use Rattle.std.proofs.Common.{◌≡◌, ℕ, ◌<◌, Bool, true, false, cond, List, [], ◌∷◌, ◌++◌, length, Some, None, Ok, Err, refl, ap, ◌∙◌, arith}
+use Rattle.std.proofs.Common.{◌≡◌, ℕ, ◌<◌, Bool, true, false, cond, List, [], ◌∷◌, length, Ok, refl, ap, ◌∙◌, arith}
 use Rattle.std.specs.Prelude.{nat_lt}
 use Rattle.std.specs.Str.Lines.{lines}
 use Rattle.std.proofs.lemmas.Bool.{lt-ltb, le-ltb}
-use Rattle.tk_input.specs.Order.{event_added, event_in, filled, number_after, numbered, with_event, words}
+use Rattle.tk_input.specs.Order.{IsFault, IsLineFault, Ordered, filled, line_added, number_after, numbered}
 use Rattle.tk_input.specs.Records.{through}
-use Rattle.tk_input.specs.declared.event.Event.{Event}
-use Rattle.tk_input.specs.declared.order.OrderFault.TheVariants.{BadOrder}
+use Rattle.tk_input.specs.declared.order.OrderFault.{OrderFault}
+use Rattle.tk_input.specs.declared.order.OrderFault.TheVariants.{BadOrder, NoMemory}
 use Rattle.tk_input.proofs.ThroughLemmas.{through-fault, through-none, through-some}
 
 -- what is left after so many lines
@@ -29,18 +29,17 @@ line_next number text line rest is some =
     ∙ kept true 0 (number_after number) line (numbered (number_after (number_after number)) (lines rest)) (lt-ltb 0 (length line) some)
 
 -- a line that is an event adds it
-pub event_next : (events : List Event) (number : ℕ) (text line rest : List ℕ) (event : Event) → lines text ≡ line ∷ lines rest → 0 < length line → event_in (words line) ≡ Some event → through event_added events (left_after number text) ≡ through event_added (events ++ event ∷ []) (left_after (number_after number) rest)
-event_next events number text line rest event is some read =
-    through-some event_added events (events ++ event ∷ []) (number_after number, line) (left_after (number_after number) rest) (left_after number text) (line_next number text line rest is some)
-    (ap (with_event events (number_after number)) read)
+pub event_next : (before after : Ordered) (number : ℕ) (text line rest : List ℕ) → lines text ≡ line ∷ lines rest → 0 < length line → line_added before (number_after number, line) ≡ Ok after → through line_added before (left_after number text) ≡ through line_added after (left_after (number_after number) rest)
+event_next before after number text line rest is some added =
+    through-some line_added before after (number_after number, line) (left_after (number_after number) rest) (left_after number text) (line_next number text line rest is some) added
 
--- another line is the fault
-pub event_missing : (events : List Event) (number : ℕ) (text line rest : List ℕ) → lines text ≡ line ∷ lines rest → 0 < length line → event_in (words line) ≡ None → through event_added events (left_after number text) ≡ Err (BadOrder (number_after number))
-event_missing events number text line rest is some none =
-    through-fault event_added events (number_after number, line) (left_after (number_after number) rest) (left_after number text) (BadOrder (number_after number)) (line_next number text line rest is some)
-    (ap (with_event events (number_after number)) none)
+-- the fault of a line is that of what is left
+pub event_fault : (before : Ordered) (number : ℕ) (text line rest : List ℕ) (e : OrderFault) → lines text ≡ line ∷ lines rest → 0 < length line → IsLineFault e (line_added before (number_after number, line)) → IsFault e (through line_added before (left_after number text))
+event_fault before number text line rest (BadOrder n) is some fault =
+    through-fault line_added before (number_after number, line) (left_after (number_after number) rest) (left_after number text) (BadOrder n) (line_next number text line rest is some) fault
+event_fault before number text line rest NoMemory is some fault = tt
 
 -- after the last line
-pub no_more : (events : List Event) (number : ℕ) (text : List ℕ) → length text ≡ 0 → through event_added events (left_after number text) ≡ Ok events
-no_more events number [] none = through-none event_added events (left_after number []) refl
-no_more events number (c ∷ text) none = absurd (omega (arith, none))
+pub no_more : (before : Ordered) (number : ℕ) (text : List ℕ) → length text ≡ 0 → through line_added before (left_after number text) ≡ Ok before
+no_more before number [] none = through-none line_added before (left_after number []) refl
+no_more before number (c ∷ text) none = absurd (omega (arith, none))

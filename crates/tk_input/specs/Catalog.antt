@@ -1,6 +1,7 @@
 -- The names of the objects, and the catalogue that a file is.
-use Rattle.std.specs.Prelude.{◌≡◌, ℕ, ◌+◌, ◌≤◌, Bool, not, ◌&&◌, nat_lt, nat_le, if◌then◌else◌, List, [], ◌∷◌, ◌++◌, length, map, position, Option, Some, None, option_map, Result, Ok, Err, Vec, bytes_eq}
+use Rattle.std.specs.Prelude.{◌≡◌, ℕ, ◌+◌, ◌-◌, ◌≤◌, Bool, IsTrue, not, ◌&&◌, nat_lt, nat_le, if◌then◌else◌, List, [], ◌∷◌, ◌++◌, length, map, position, Option, Some, None, option_map, Result, Ok, Err, is_ok, Vec, bytes_eq, slice_index_or}
 use Rattle.std.specs.List.{list_all, list_any}
+use Rattle.tk_input.specs.Logs.{IsObject}
 use Rattle.tk_input.specs.Records.{and_then, records_in, through}
 use Rattle.tk_input.specs.declared.catalog.CatalogFault.{CatalogFault}
 use Rattle.tk_input.specs.declared.catalog.CatalogFault.TheVariants.{Empty, TooMany, BadRow, BadName, Repeated, NoMemory}
@@ -16,6 +17,10 @@ IsWithin names = (1 ≤ length names) × (length names ≤ 65536)
 -- the object of a name: its place from 1
 abbrev pub object_of : List (List ℕ) → List ℕ → Option ℕ
 object_of names name = option_map (λ i. i + 1) (position (λ n. bytes_eq name n) names)
+
+-- no name stands twice: each finds its own object
+abbrev pub AreDifferent : List (List ℕ) → Type 0
+AreDifferent names = (o : ℕ) → IsObject (length names) o → object_of names (slice_index_or names (o - 1) []) ≡ Some o
 
 -- a name has 1 to 255 bytes from 0x21 to 0x7E
 abbrev pub is_name : List ℕ → Bool
@@ -47,6 +52,15 @@ some_names (name ∷ names) = Ok (name ∷ names)
 -- the names of a catalogue file, or its first fault
 abbrev pub catalog_of : List ℕ → Result (List (List ℕ)) CatalogFault
 catalog_of bytes = and_then some_names (through name_added [] (records_in bytes))
+
+-- the fault of a record is the one that is meant; memory is wanted only for a name that is taken
+abbrev pub IsNameFault : {A : Type 0} → CatalogFault → Result A CatalogFault → Type 0
+IsNameFault Empty meant = meant ≡ Err Empty
+IsNameFault TooMany meant = meant ≡ Err TooMany
+IsNameFault (BadRow n) meant = meant ≡ Err (BadRow n)
+IsNameFault (BadName n) meant = meant ≡ Err (BadName n)
+IsNameFault (Repeated n) meant = meant ≡ Err (Repeated n)
+IsNameFault NoMemory meant = IsTrue (is_ok meant)
 
 -- a fault is the one that is meant, but for want of memory
 abbrev pub IsFault : CatalogFault → Result (List (List ℕ)) CatalogFault → Type 0

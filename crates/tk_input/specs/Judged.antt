@@ -1,5 +1,5 @@
 -- Which logs some parts make, or the first test that refuses them.
-use Rattle.std.specs.Prelude.{◌≡◌, ℕ, ◌+◌, ◌^◌, max, ℤ, Bool, List, length, map, filter, fold, find, position, sum_by, Option, Some, None, is_some, option_map, option_and_then, Result, Ok, Err, ◌==◌, nat_lt, if◌then◌else◌}
+use Rattle.std.specs.Prelude.{◌≡◌, ℕ, ◌+◌, ◌^◌, ◌≤◌, max, ℤ, Bool, List, length, map, filter, fold, find, position, sum_by, Option, Some, None, is_some, option_map, option_and_then, Result, Ok, Err, ◌==◌, nat_lt, if◌then◌else◌}
 use Rattle.std.specs.List.{range_with_len}
 use Rattle.tk_base.specs.Objects.{objects}
 use Rattle.tk_base.specs.declared.ids.Mon.{Mon}
@@ -34,6 +34,13 @@ first_gap logs = if length logs == 0 then Some 1 else first_at (λ parts. length
 -- the least monitor with over 8 parts
 abbrev pub first_crowded : List (List (List (ℕ × ℤ))) → Option ℕ
 first_crowded logs = first_at (λ parts. nat_lt 8 (length parts)) logs
+
+-- the parts pass the tests of their numbers: no monitor is without one, none has over 8, and the changes are
+-- not over 4,000,000
+pub record AreCounted (logs : List (List (List (ℕ × ℤ)))) : Type 0 where
+  pub gap : first_gap logs ≡ None
+  pub crowded : first_crowded logs ≡ None
+  pub updates : sum_by updates_of logs ≤ 4000000
 
 -- the least object of a monitor whose changes pass the limit in size
 abbrev pub great_object : ℕ → List (List (ℕ × ℤ)) → Option ℕ

@@ -43,9 +43,10 @@ pub record IsCut (logs : List (List (List (ℕ × ℤ)))) (cut : List (List ℕ)
 abbrev pub full_cut : List (List (List (ℕ × ℤ))) → List (List ℕ)
 full_cut logs = map (λ parts. map length parts) logs
 
--- the set has k objects of a catalogue of n, and each one's total plus epsilon is at least that of
--- every object outside
+-- the cut is one of the logs, and the set has k objects of a catalogue of n, each of whose totals plus
+-- epsilon is at least that of every object outside
 pub record IsValid (logs : List (List (List (ℕ × ℤ)))) (n k : ℕ) (epsilon : ℤ) (cut : List (List ℕ)) (set : List ℕ) : Type 0 where
+  pub is_cut : IsCut logs cut
   pub size : length set ≡ k
   pub ascends : IsAscending set
   pub within : All (λ t. t ≤ n) set

@@ -36,3 +36,17 @@ abbrev pub Faults : {A : Type 0} → FileFault → Result A FileFault → Type 0
 Faults Failed meant = meant ≡ Err Failed
 Faults TooLong meant = meant ≡ Err TooLong
 Faults NoMemory meant = Unit
+
+-- how many reads there were after one more: one that finds no memory does not count
+abbrev pub reads_after : {A : Type 0} → Result A FileFault → ℕ → ℕ
+reads_after (Ok bytes) reads = one_more reads
+reads_after (Err Failed) reads = one_more reads
+reads_after (Err TooLong) reads = one_more reads
+reads_after (Err NoMemory) reads = reads
+
+-- how many reads of a name failed, after one more read
+abbrev pub faults_after : {A : Type 0} → Result A FileFault → ℕ → ℕ
+faults_after (Ok bytes) faults = faults
+faults_after (Err Failed) faults = one_more faults
+faults_after (Err TooLong) faults = faults
+faults_after (Err NoMemory) faults = faults

@@ -1,7 +1,7 @@
 ghost use Rattle.std.specs.Prelude.{◌≡◌, ◌≤◌, ◌-◌, IfOk, IfErr, OnOk, Ok, nat_le, ◌&&◌, length, option_map, slice_get, Some};
 ghost use Rattle.std.specs.List.{list_all};
 ghost use Rattle.csv.specs.Records.{fields_of};
-ghost use Rattle.tk_input.specs.Catalog.{IsFault, IsWithin, is_name as is_name_of, name_added, names_of, object_of, only_field as only_field_of};
+ghost use Rattle.tk_input.specs.Catalog.{AreDifferent, IsFault, IsNameFault, IsWithin, is_name as is_name_of, name_added, names_of, object_of, only_field as only_field_of};
 ghost use Rattle.tk_input.specs.Logs.{IsObject};
 ghost use Rattle.tk_input.specs.declared.catalog.CatalogFault.TheVariants.{NoMemory as OutOfMemory};
 
@@ -109,7 +109,7 @@ fn take_name(
     row: &ByteRecord,
 ) -> Result<(), CatalogFault>
     ensures ok { OnOk result (name_added (names_of names.old.keys) (fields_of row.now) ≡ Ok (names_of names.new.keys)) }
-    ensures err { IfErr result (λ e. IsFault e (name_added (names_of names.old.keys) (fields_of row.now))) }
+    ensures err { IfErr result (λ e. IsNameFault e (name_added (names_of names.old.keys) (fields_of row.now))) }
     ensures few { OnOk result (length names.new.keys ≤ 65536) }
 {
     if names.len() >= MAX_OBJECTS {
@@ -150,10 +150,11 @@ impl Catalog {
         Ok(Catalog { names })
     }
 
-    /// How many names there are.
+    /// How many names there are. No two are the same.
     pub fn len(&self) -> usize
         ensures value { result ≡ length self.now }
         ensures within { IsWithin self.now }
+        ensures differ { AreDifferent self.now }
     {
         self.names.len()
     }

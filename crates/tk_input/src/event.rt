@@ -1,7 +1,12 @@
-use tk_base::{Feeder, Mon};
+ghost use Rattle.std.specs.Prelude.{◌≡◌, IfOk};
+ghost use Rattle.tk_input.specs.declared.event.Event.TheVariants.{Retune};
 
-/// What happens next at a monitor, as a line of the order file says.
-#[derive(Clone, Copy, Debug, PartialEq, Eq)]
+use crate::retuning::Retuning;
+use std::alloc::Global;
+use tk_base::{Feeder, Mon, NoMemory};
+
+/// What happens next, as a line of the order file says. An event has 16 bytes.
+#[derive(Debug, Drop)]
 pub enum Event {
     /// The next change of a feeder arrives.
     Raise(Mon, Feeder),
@@ -11,4 +16,28 @@ pub enum Event {
     Up(Mon),
     /// The monitor takes the next frame of the coordinator.
     Down(Mon),
+    /// The coordinator is asked for another k and epsilon.
+    Retune(Retuning),
+}
+
+impl Event {
+    /// Takes the room for two numbers.
+    pub fn retune(alloc: Global, k: u64, epsilon: u128) -> Result<Event, NoMemory>
+        ensures { IfOk result (λ e. e ≡ Retune (record { k = k; epsilon = epsilon })) }
+    {
+        Ok(Event::Retune(Retuning::new(alloc, k, epsilon)?))
+    }
+
+    /// The same event once more.
+    pub fn try_clone(&self) -> Result<Event, NoMemory>
+        ensures { IfOk result (λ e. e ≡ self.now) }
+    {
+        Ok(match self {
+            Event::Raise(mon, f) => Event::Raise(*mon, *f),
+            Event::Check(mon) => Event::Check(*mon),
+            Event::Up(mon) => Event::Up(*mon),
+            Event::Down(mon) => Event::Down(*mon),
+            Event::Retune(retuning) => Event::Retune(retuning.try_clone()?),
+        })
+    }
 }

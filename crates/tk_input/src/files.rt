@@ -1,5 +1,5 @@
 ghost use Rattle.std.specs.Prelude.{◌≡◌, ◌≢◌, ℕ, ◌<◌, ◌≤◌, max, List, length, Option, IfOk, IfSome, IsErrOf};
-ghost use Rattle.tk_input.specs.Files.{HasRisen, faults_after};
+ghost use Rattle.tk_input.specs.Files.{HasRisen};
 
 use std::alloc::Global;
 use std::error::Error;
@@ -47,7 +47,7 @@ pub trait Files {
     fn longest(&self, name: &str) -> u64
         ensures { result ≡ most_taken self.now name.now };
 
-    /// Takes at most one byte over the limit.
+    /// An implementation takes the room for what it counts of the name before it reads.
     fn read_all(&mut self, alloc: Global, name: &str) -> Result<Vec<u8>, FileFault>
         // What is told of a name is what a read of it gives, and no read changes what is told.
         ensures content { IfOk result (λ v. IfSome (content self.old name.now) (λ told. v.items ≡ told)) }
@@ -56,13 +56,13 @@ pub trait Files {
         ensures short { IfOk result (λ v. length v.items ≤ 67108864) }
         ensures too_long { IsErrOf result FileFault.TooLong → IfSome (content self.old name.now) (λ told. 67108864 < length told) }
         ensures too_much { IsErrOf result FileFault.TooLong → 67108864 < most_taken self.new name.now }
-        // Failed reads are counted, each for its own name.
+        // A failed read is counted. No count falls, and each is of its own name.
         ensures failed { IsErrOf result FileFault.Failed → HasRisen (fault_count self.old name.now) (fault_count self.new name.now) }
-        ensures counted { fault_count self.new name.now ≡ faults_after result (fault_count self.old name.now) }
+        ensures kept_faults { fault_count self.old name.now ≤ fault_count self.new name.now }
         ensures other_faults { (other : List ℕ) → other ≢ name.now → fault_count self.new other ≡ fault_count self.old other }
-        // So is the most that one read took.
-        ensures taken { IfOk result (λ v. most_taken self.new name.now ≡ max (most_taken self.old name.now) (length v.items)) }
-        ensures rises { most_taken self.old name.now ≤ most_taken self.new name.now }
-        ensures bound { most_taken self.new name.now ≤ max (most_taken self.old name.now) 67108865 }
+        // So is the most that one read took, which is no more than there is.
+        ensures taken { IfOk result (λ v. length v.items ≤ most_taken self.new name.now) }
+        ensures kept_taken { most_taken self.old name.now ≤ most_taken self.new name.now }
+        ensures no_more { IfSome (content self.old name.now) (λ told. most_taken self.new name.now ≤ max (most_taken self.old name.now) (length told)) }
         ensures other_taken { (other : List ℕ) → other ≢ name.now → most_taken self.new other ≡ most_taken self.old other };
 }

@@ -7,6 +7,7 @@
 
 mod catalog;
 mod change;
+mod edges;
 mod event;
 mod files;
 mod logs;
@@ -15,6 +16,7 @@ mod number;
 mod order;
 mod part;
 mod records;
+mod retuning;
 mod sink;
 mod std_sink;
 mod tallies;
@@ -23,16 +25,15 @@ mod vec_sink;
 
 pub use catalog::{Catalog, CatalogFault};
 pub use change::Change;
+pub use edges::{put_all, take_all};
 pub use event::Event;
 pub use files::{FileFault, Files};
 pub use logs::{Logs, LogsFault};
 pub use map_files::MapFiles;
 pub use order::{Order, OrderFault};
 pub use part::{Part, PartFault};
+pub use retuning::Retuning;
 pub use sink::{PutFailed, Sink};
 pub use std_sink::StdSink;
 pub use true_files::TrueFiles;
 pub use vec_sink::VecSink;
-
-#[cfg(test)]
-mod tests;

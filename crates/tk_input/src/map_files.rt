@@ -1,6 +1,6 @@
-ghost use Rattle.std.specs.Prelude.{◌≡◌, ◌≢◌, ℕ, ◌<◌, ◌≤◌, max, [], List, length, IfOk, IfErr, IfSome, IsErrOf, Ok, option_map, position, bytes_eq, string_bytes};
-ghost use Rattle.tk_input.specs.Files.{HasRisen, faults_after, one_more};
-ghost use Rattle.tk_input.specs.MapFiles.{Faults, content_of, files_of, given, read_of};
+ghost use Rattle.std.specs.Prelude.{◌≡◌, ◌≢◌, ℕ, ◌<◌, ◌≤◌, max, [], List, length, IfOk, IfErr, IfSome, IsErrOf, IsOk, Ok, option_map, position, bytes_eq, string_bytes};
+ghost use Rattle.tk_input.specs.Files.{HasRisen};
+ghost use Rattle.tk_input.specs.MapFiles.{Faults, content_of, faults_after, files_of, given, read_of, reads_after as reads_then};
 ghost use Rattle.tk_input.specs.Tallies.{faults_of, longest_of};
 
 use crate::files::{FileFault, Files, MAX_LENGTH};
@@ -33,7 +33,8 @@ impl Model for MapFiles {
 impl MapFiles {
     ghost use Rattle.tk_input.specs.MapFiles.{files_of};
 
-    /// Read i of all, from 1, fails where i is among `fails`, as does a read of a name that is not here.
+    /// Read i of all, from 1, fails where i is among `fails`, as does a read of a name that is not here. A read
+    /// that finds no memory is not counted.
     /// Of two files of one name the first is read.
     pub fn new(alloc: Global, files: Vec<(String, Vec<u8>)>, fails: Vec<u64>) -> MapFiles
         ensures { result ≡ record { files = files_of files.items; fails = fails.items; reads = 0; counts = [] } }
@@ -63,6 +64,8 @@ fn file_of<'a>(files: &'a [(String, Vec<u8>)], name: &str) -> Option<&'a [u8]>
 fn copy_of(alloc: Global, fails: bool, file: Option<&[u8]>) -> Result<Vec<u8>, FileFault>
     ensures ok { IfOk result (λ v. given fails (option_map (λ s. s.now) file.entry) ≡ Ok v.items) }
     ensures err { IfErr result (λ e. Faults e (given fails (option_map (λ s. s.now) file.entry))) }
+    // Memory is wanted for what is read alone.
+    ensures room { IsErrOf result FileFault.NoMemory → IsOk (given fails (option_map (λ s. s.now) file.entry)) }
 {
     match file {
         Some(bytes) if !fails => {
@@ -72,6 +75,15 @@ fn copy_of(alloc: Global, fails: bool, file: Option<&[u8]>) -> Result<Vec<u8>, F
             Vec::from_slice(alloc, bytes).map_err(|_| FileFault::NoMemory)
         }
         _ => Err(FileFault::Failed),
+    }
+}
+
+fn reads_after(outcome: &Result<Vec<u8>, FileFault>, reads: u64) -> u64
+    ensures { result ≡ reads_then outcome.now reads }
+{
+    match outcome {
+        Err(FileFault::NoMemory) => reads,
+        _ => reads.saturating_add(1),
     }
 }
 
@@ -96,7 +108,8 @@ impl Files for MapFiles {
         ensures err { IfErr result (λ e. Faults e (read_of self.old name.now)) }
         ensures files { self.new.files ≡ self.old.files }
         ensures fails { self.new.fails ≡ self.old.fails }
-        ensures reads { self.new.reads ≡ one_more self.old.reads }
+        ensures reads { self.new.reads ≡ reads_then result self.old.reads }
+        ensures counted { faults_of self.new.counts name.now ≡ faults_after result (faults_of self.old.counts name.now) }
         // As every implementation of the trait.
         ensures content { IfOk result (λ v. IfSome (content_of self.old.files name.now) (λ told. v.items ≡ told)) }
         ensures told { (other : List ℕ) → content_of self.new.files other ≡ content_of self.old.files other }
@@ -104,19 +117,19 @@ impl Files for MapFiles {
         ensures too_long { IsErrOf result FileFault.TooLong → IfSome (content_of self.old.files name.now) (λ told. 67108864 < length told) }
         ensures too_much { IsErrOf result FileFault.TooLong → 67108864 < longest_of self.new.counts name.now }
         ensures failed { IsErrOf result FileFault.Failed → HasRisen (faults_of self.old.counts name.now) (faults_of self.new.counts name.now) }
-        ensures counted { faults_of self.new.counts name.now ≡ faults_after result (faults_of self.old.counts name.now) }
+        ensures kept_faults { faults_of self.old.counts name.now ≤ faults_of self.new.counts name.now }
         ensures other_faults { (other : List ℕ) → other ≢ name.now → faults_of self.new.counts other ≡ faults_of self.old.counts other }
-        ensures taken { IfOk result (λ v. longest_of self.new.counts name.now ≡ max (longest_of self.old.counts name.now) (length v.items)) }
-        ensures rises { longest_of self.old.counts name.now ≤ longest_of self.new.counts name.now }
-        ensures bound { longest_of self.new.counts name.now ≤ max (longest_of self.old.counts name.now) 67108865 }
+        ensures taken { IfOk result (λ v. length v.items ≤ longest_of self.new.counts name.now) }
+        ensures kept_taken { longest_of self.old.counts name.now ≤ longest_of self.new.counts name.now }
+        ensures no_more { IfSome (content_of self.old.files name.now) (λ told. longest_of self.new.counts name.now ≤ max (longest_of self.old.counts name.now) (length told)) }
         ensures other_taken { (other : List ℕ) → other ≢ name.now → longest_of self.new.counts other ≡ longest_of self.old.counts other }
     {
-        self.reads = self.reads.saturating_add(1);
         if self.tallies.reserve(alloc, name).is_err() {
             return Err(FileFault::NoMemory);
         }
-        let fails = self.fails.contains(&self.reads);
+        let fails = self.fails.contains(&self.reads.saturating_add(1));
         let outcome = copy_of(alloc, fails, file_of(self.files.as_slice(), name));
+        self.reads = reads_after(&outcome, self.reads);
         match &outcome {
             Ok(copy) => self.tallies.note_length(name, copy.len() as u64),
             Err(FileFault::Failed) => self.tallies.note_fault(name),

@@ -1,7 +1,7 @@
-ghost use Rattle.std.specs.Prelude.{◌≡◌, ◌<◌, ◌==◌, ◌∷◌, [], IfOk, IfErr, Ok, length, position, slice_get, Some};
+ghost use Rattle.std.specs.Prelude.{◌≡◌, ◌<◌, ◌==◌, ◌∷◌, [], IfOk, IfErr, OnOk, Ok, length, position, slice_get, Some};
 ghost use Rattle.std.specs.Option.{option_map_or};
 ghost use Rattle.std.specs.Str.Lines.{lines, strip_carriage_return};
-ghost use Rattle.tk_input.specs.Order.{IsFault, event_in, is_short as is_short_word, number_in, order_of, raise_at, words};
+ghost use Rattle.tk_input.specs.Order.{IsFault, IsLineFault, IsReadAs, event_in, event_of_one as of_one, event_of_two as of_two, is_short as is_short_word, k_in, line_added, number_in, order_of, raise_at, retune_at, words};
 ghost use Rattle.tk_input.specs.declared.order.OrderFault.TheVariants.{NoMemory as OutOfMemory};
 
 use crate::event::Event;
@@ -10,7 +10,10 @@ use std::alloc::{AllocFailed, Global};
 use std::error::Error;
 use std::fmt;
 use std::marker::Model;
-use tk_base::{Feeder, Mon};
+use tk_base::{Feeder, Mon, NoMemory};
+
+/// The most digits of a k.
+const K_DIGITS: usize = 18;
 
 /// Why a file is no order. The number is that of the line, from 1.
 #[derive(Clone, Copy, Debug, PartialEq, Eq)]
@@ -30,6 +33,14 @@ impl fmt::Display for OrderFault {
 
 impl Error for OrderFault {}
 
+impl From<NoMemory> for OrderFault {
+    ghost from_gives = { λ _ e. e ≡ OutOfMemory };
+
+    fn from(_error: NoMemory) -> OrderFault {
+        OrderFault::NoMemory
+    }
+}
+
 impl<T: Drop> From<AllocFailed<T>> for OrderFault {
     ghost from_gives = { λ _ e. e ≡ OutOfMemory };
 
@@ -38,19 +49,22 @@ impl<T: Drop> From<AllocFailed<T>> for OrderFault {
     }
 }
 
-/// The events of an order file, in order.
+/// The events of an order file in order, each with its line.
 #[derive(Debug, Drop)]
 pub struct Order {
     events: Vec<Event>,
+    lines: Vec<u32>,
 }
 
 impl Model for Order {
-    ghost use Rattle.std.specs.Prelude.{List};
-    ghost use Rattle.tk_input.specs.declared.event.Event.{Event};
+    ghost use Rattle.std.specs.Prelude.{◌≡◌, length};
+    ghost use Rattle.tk_input.specs.Order.{Ordered};
 
-    ghost Value = { List Event };
+    ghost Value = { Ordered };
 
-    ghost view = { λ o. o.events.items };
+    ghost view = { λ o. record { events = o.events.items; lines = o.lines.items } };
+
+    ghost invariant = { λ o. length o.events.items ≡ length o.lines.items };
 }
 
 fn is_short(word: &[u8]) -> bool
@@ -93,34 +107,87 @@ fn raise_of(mon: &[u8], feeder: &[u8]) -> Option<Event>
     Some(Event::Raise(Mon(number_of(mon)?), Feeder(number_of(feeder)?)))
 }
 
-fn event_at(verb: &[u8], mon: &[u8]) -> Option<Event>
-    ensures { result ≡ event_in (verb.now ∷ mon.now ∷ []) }
+fn event_of_one(verb: &[u8], mon: &[u8]) -> Option<Event>
+    ensures { result ≡ of_one verb.now mon.now }
 {
-    match verb {
-        b"check" => Some(Event::Check(Mon(number_of(mon)?))),
-        b"up" => Some(Event::Up(Mon(number_of(mon)?))),
-        b"down" => Some(Event::Down(Mon(number_of(mon)?))),
-        _ => None,
-    }
-}
-
-fn event_of(line: &[u8]) -> Option<Event>
-    ensures { result ≡ event_in (words line.now) }
-{
-    let (verb, rest) = split_word(line);
-    let (mon, rest) = split_word(rest?);
-    let Some(rest) = rest else {
-        return event_at(verb, mon);
-    };
-    let (feeder, more) = split_word(rest);
-    let None = more else {
-        return None;
-    };
-    if verb == b"raise".as_slice() {
-        raise_of(mon, feeder)
+    if verb == b"check".as_slice() {
+        Some(Event::Check(Mon(number_of(mon)?)))
+    } else if verb == b"up".as_slice() {
+        Some(Event::Up(Mon(number_of(mon)?)))
+    } else if verb == b"down".as_slice() {
+        Some(Event::Down(Mon(number_of(mon)?)))
     } else {
         None
     }
+}
+
+fn k_of(word: &[u8]) -> Option<u64>
+    ensures { result ≡ k_in word.now }
+{
+    if word.len() <= K_DIGITS {
+        Some(digits_of(word)? as u64)
+    } else {
+        None
+    }
+}
+
+fn retune_of(alloc: Global, k: &[u8], epsilon: &[u8]) -> Option<Result<Event, NoMemory>>
+    ensures { IsReadAs result (retune_at k.now epsilon.now) }
+{
+    Some(Event::retune(alloc, k_of(k)?, digits_of(epsilon)?))
+}
+
+fn event_of_two(
+    alloc: Global,
+    verb: &[u8],
+    first: &[u8],
+    second: &[u8],
+) -> Option<Result<Event, NoMemory>>
+    ensures { IsReadAs result (of_two verb.now first.now second.now) }
+{
+    if verb == b"raise".as_slice() {
+        Some(Ok(raise_of(first, second)?))
+    } else if verb == b"retune".as_slice() {
+        retune_of(alloc, first, second)
+    } else {
+        None
+    }
+}
+
+fn event_of(alloc: Global, line: &[u8]) -> Option<Result<Event, NoMemory>>
+    ensures { IsReadAs result (event_in (words line.now)) }
+{
+    let (verb, rest) = split_word(line);
+    let (first, rest) = split_word(rest?);
+    let Some(rest) = rest else {
+        return Some(Ok(event_of_one(verb, first)?));
+    };
+    let (second, more) = split_word(rest);
+    match more {
+        None => event_of_two(alloc, verb, first, second),
+        Some(_) => None,
+    }
+}
+
+fn take_line(
+    alloc: Global,
+    events: &mut Vec<Event>,
+    lines: &mut Vec<u32>,
+    number: u32,
+    line: &[u8],
+) -> Result<(), OrderFault>
+    ensures ok { OnOk result (line_added (record { events = events.old.items; lines = lines.old.items }) (number, line.now)
+        ≡ Ok (record { events = events.new.items; lines = lines.new.items })) }
+    ensures err { IfErr result (λ e. IsLineFault e
+        (line_added (record { events = events.old.items; lines = lines.old.items }) (number, line.now))) }
+    ensures pairs { OnOk result (length events.old.items ≡ length lines.old.items → length events.new.items ≡ length lines.new.items) }
+{
+    let Some(event) = event_of(alloc, line) else {
+        return Err(OrderFault::BadOrder(number));
+    };
+    events.push(event?)?;
+    lines.push(number)?;
+    Ok(())
 }
 
 fn strip_return(line: &[u8]) -> &[u8]
@@ -150,6 +217,7 @@ impl Order {
         ensures err { IfErr result (λ e. IsFault e (order_of bytes.now)) }
     {
         let mut events = Vec::new(alloc);
+        let mut lines = Vec::new(alloc);
         let mut number = 0u32;
         let mut rest = bytes;
         while !rest.is_empty() {
@@ -159,26 +227,31 @@ impl Order {
             if line.is_empty() {
                 continue;
             }
-            let Some(event) = event_of(line) else {
-                return Err(OrderFault::BadOrder(number));
-            };
-            events.push(event)?;
+            take_line(alloc, &mut events, &mut lines, number, line)?;
         }
-        Ok(Order { events })
+        Ok(Order { events, lines })
     }
 
     /// How many events there are.
     pub fn len(&self) -> usize
-        ensures { result ≡ length self.now }
+        ensures { result ≡ length self.now.events }
     {
         self.events.len()
     }
 
     /// The event at a place from 0.
-    pub fn at(&self, i: usize) -> Event
-        requires { i < length self.now }
-        ensures { slice_get self.now i ≡ Some result }
+    pub fn at(&self, i: usize) -> &Event
+        requires { i < length self.now.events }
+        ensures { slice_get self.now.events i ≡ Some result.now }
     {
-        self.events[i]
+        &self.events[i]
+    }
+
+    /// The line of the event at a place from 0. Lines count from 1, with the empty ones.
+    pub fn line(&self, i: usize) -> u32
+        requires { i < length self.now.events }
+        ensures { slice_get self.now.lines i ≡ Some result }
+    {
+        self.lines[i]
     }
 }

@@ -1,8 +1,8 @@
 ghost use Rattle.std.specs.Prelude.{◌≡◌, None};
 
+use crate::edges::put_all;
 use crate::sink::{PutFailed, Sink};
 use std::io;
-use std::io::Write;
 use std::marker::Model;
 
 /// Standard output. Nothing is known of what it takes.
@@ -39,12 +39,10 @@ impl<R: Print> Sink for StdSink<R> {
     }
 
     fn put(&mut self, bytes: &[u8]) -> Result<(), PutFailed> {
-        match io::writer(&self.system).write_all(bytes) {
-            Ok(()) => Ok(()),
-            Err(_) => {
-                self.faults = self.faults.saturating_add(1);
-                Err(PutFailed)
-            }
+        let outcome = put_all(&mut io::writer(&self.system), bytes);
+        if outcome.is_err() {
+            self.faults = self.faults.saturating_add(1);
         }
+        outcome
     }
 }

@@ -1,12 +1,12 @@
-ghost use Rattle.std.specs.Prelude.{◌≡◌, ◌≤◌, [], None, vec_len};
+ghost use Rattle.std.specs.Prelude.{◌≡◌, ◌<◌, ◌≤◌, [], None, IsErrOf, OnOk, length};
 ghost use Rattle.tk_input.specs.Tallies.{faults_of, longest_of};
 
-use crate::files::{FileFault, Files, MAX_LENGTH};
+use crate::edges::{fault_of, take_all};
+use crate::files::{FileFault, Files};
 use crate::tallies::Tallies;
 use std::alloc::Global;
-use std::io::Read;
 use std::marker::Model;
-use std::{fs, io, rt};
+use std::{fs, rt};
 
 /// The files of the system. Nothing is known of what they hold.
 #[derive(Debug, Drop)]
@@ -36,45 +36,13 @@ impl<R: rt::Files> TrueFiles<R> {
     }
 }
 
-fn fault_of(error: &io::Error) -> FileFault {
-    if error.kind() == io::ErrorKind::OutOfMemory {
-        FileFault::NoMemory
-    } else {
-        FileFault::Failed
-    }
-}
-
-/// Reads up to one byte over the limit.
-fn take_bytes<F: Read + Drop>(mut file: F, bytes: &mut Vec<u8>) -> Result<(), FileFault>
-    requires { vec_len bytes.old ≡ 0 }
-    ensures { vec_len bytes.new ≤ 67108865 }
-{
-    let mut piece = [0u8; 8192];
-    for _ in 0..u64::MAX {
-        let room = (MAX_LENGTH + 1 - bytes.len()).min(8192);
-        match file.read(&mut piece[..room]) {
-            Ok(0) => return Ok(()),
-            Ok(n) => {
-                if bytes.extend_from_slice(&piece[..n]).is_err() {
-                    return Err(FileFault::NoMemory);
-                }
-            }
-            Err(error) => {
-                if error.kind() != io::ErrorKind::Interrupted {
-                    return Err(fault_of(&error));
-                }
-            }
-        }
-    }
-    Err(FileFault::Failed)
-}
-
 fn read_file<R: rt::Files>(system: &R, name: &str, bytes: &mut Vec<u8>) -> Result<(), FileFault>
-    requires { vec_len bytes.old ≡ 0 }
-    ensures { vec_len bytes.new ≤ 67108865 }
+    requires { length bytes.old.items ≡ 0 }
+    ensures short { OnOk result (length bytes.new.items ≤ 67108864) }
+    ensures too_much { IsErrOf result FileFault.TooLong → 67108864 < length bytes.new.items }
 {
     match fs::open(system, name) {
-        Ok(file) => take_bytes(file, bytes),
+        Ok(file) => take_all(file, bytes),
         Err(error) => Err(fault_of(&error)),
     }
 }
@@ -102,13 +70,12 @@ impl<R: rt::Files> Files for TrueFiles<R> {
         let outcome = read_file(&self.system, name, &mut bytes);
         self.tallies.note_length(name, bytes.len() as u64);
         match outcome {
-            Ok(()) if bytes.len() > MAX_LENGTH => Err(FileFault::TooLong),
             Ok(()) => Ok(bytes),
-            Err(FileFault::NoMemory) => Err(FileFault::NoMemory),
-            Err(_) => {
+            Err(FileFault::Failed) => {
                 self.tallies.note_fault(name);
                 Err(FileFault::Failed)
             }
+            Err(fault) => Err(fault),
         }
     }
 }

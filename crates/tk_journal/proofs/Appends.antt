@@ -7,7 +7,8 @@ use Rattle.std.proofs.lemmas.List.Sums.{fold-append}
 use Rattle.std.proofs.lemmas.List.Elements.{filter_map-append}
 use Rattle.std.proofs.lemmas.List.Folds.{list_any-append}
 use Rattle.tk_frames.specs.Assigns.{assign_in}
-use Rattle.tk_journal.specs.Walks.{walk, last_of}
+use Rattle.tk_base.specs.History.{last_of}
+use Rattle.tk_journal.specs.Walks.{walk}
 use Rattle.tk_journal.specs.Links.{frames_to, frames_from, link_of, sent_to, got_from, passed_by}
 use Rattle.tk_journal.specs.Readings.{seq_in, seqs_to, assigns_to, assigns_sent, members_at, members_in, answer_of, answered, progress_of, told, last_round, round_in, asked_of, asked_by, values_of, values_for, is_stopped, is_stop}
 use Rattle.tk_journal.specs.declared.noted.Noted.{Noted}

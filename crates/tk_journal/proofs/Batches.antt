@@ -8,7 +8,8 @@ use Rattle.tk_base.specs.Objects.{is_in}
 use Rattle.tk_frames.specs.Assigns.{Assign, assign_in}
 use Rattle.tk_frames.specs.declared.frame.Frame.{Frame}
 use Rattle.tk_frames.specs.declared.frame.Frame.TheVariants as f
-use Rattle.tk_journal.specs.Walks.{walk, last_of}
+use Rattle.tk_base.specs.History.{last_of}
+use Rattle.tk_journal.specs.Walks.{walk}
 use Rattle.tk_journal.specs.Links.{Passed, link_of}
 use Rattle.tk_journal.specs.Links.Passed.{Down}
 use Rattle.tk_journal.specs.Readings.{seq_in, seqs_to, assigns_to, members_at, members_in, answer_of, answered, last_round, round_in, collect_in, asked_of, asked_by}

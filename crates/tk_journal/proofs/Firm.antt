@@ -22,7 +22,7 @@ use Rattle.tk_alloc.proofs.FullLemmas.{IsCalled, held_length}
 use Rattle.tk_alloc.proofs.WideLemmas.{of_catalogue, in_catalogue}
 use Rattle.tk_journal.specs.Laws.{IsMonitor, AreSentShort}
 use Rattle.tk_journal.specs.Readings.{monitors, assigns_sent, members_at, table_at, last_round, is_open, tunings, tuned_to, in_force}
-use Rattle.tk_journal.specs.Walks.{last_of}
+use Rattle.tk_base.specs.History.{last_of}
 use Rattle.tk_journal.specs.Deciding.{Decided}
 use Rattle.tk_journal.specs.Turns.{collects, wide_collects, assigns, is_wide}
 use Rattle.tk_journal.specs.Refusal.{refusal_of}

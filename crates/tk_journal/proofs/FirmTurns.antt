@@ -21,9 +21,10 @@ use Rattle.tk_alloc.specs.Resolving.{CanTakePart}
 use Rattle.tk_journal.specs.Laws.{IsMonitor}
 use Rattle.tk_journal.specs.Readings.{monitors, assigns_sent, members_at, table_at, answer_of, last_round, asked_of, values_of, values_for, is_open, tuned_to, in_force}
 use Rattle.tk_journal.specs.Deciding.{report_of, reports_at, answered_report, is_within_limit, short_decides, full_decides, passes_short_test}
-use Rattle.tk_journal.specs.Turns.{Note, End, reported, passes_at, short_at, full_at, wide_at, streak, kind_of, rounds, collects, wide_collects, assigns, full_end, wide_end, is_wide, report_demands, values_demand, demanded}
+use Rattle.tk_journal.specs.declared.turn.TurnKind.TheVariants.{Note, End}
+use Rattle.tk_journal.specs.Turns.{reported, passes_at, short_at, full_at, wide_at, streak, kind_of, rounds, collects, wide_collects, assigns, full_end, wide_end, is_wide, report_demands, values_demand, demanded}
 use Rattle.tk_journal.specs.Refusal.{refusal_of, shown_by, known_by, refusal_of_report}
-use Rattle.tk_journal.specs.Walks.{last_of}
+use Rattle.tk_base.specs.History.{last_of}
 use Rattle.tk_journal.specs.declared.noted.Noted.{Noted}
 use Rattle.tk_journal.specs.declared.noted.Noted.TheVariants as n
 use Rattle.tk_journal.proofs.Appends.{later}
@@ -210,7 +211,7 @@ no_choice true x none = none
 no_choice false x none = refl
 
 -- an answer's frame opens and ends no round
-not_values : (s : Setup) (j : List Noted) (from : Mon) (frame : Frame) → ((r mon : ℕ) → values_for r mon frame ≡ None) → is_open s (j ++ n.Got from frame ∷ []) ≡ is_open s j
+pub not_values : (s : Setup) (j : List Noted) (from : Mon) (frame : Frame) → ((r mon : ℕ) → values_for r mon frame ≡ None) → is_open s (j ++ n.Got from frame ∷ []) ≡ is_open s j
 not_values s j from frame none =
     open_by s j (j ++ n.Got from frame ∷ []) (got_round j from frame) (λ r mon. got_asked r mon j from frame)
     (λ r mon. got_values r mon j from frame ∙ ap (later (values_of r mon j)) (no_choice (from.0 == mon) (values_for r mon frame) (none r mon)))

@@ -1,3 +1,4 @@
+pub mod AscendsLemmas
 pub mod Appends
 pub mod Pieces
 pub mod Batches
@@ -31,3 +32,19 @@ pub mod Ended
 pub mod StartLemmas
 pub mod Worked
 mod WorkedRefusals
+pub mod AskedLemmas
+pub mod GatheredLemmas
+pub mod GrowLemmas
+pub mod HeardLemmas
+pub mod KindLemmas
+pub mod LastLemmas
+pub mod LevelledLemmas
+pub mod ProgressLemmas
+pub mod RestLemmas
+pub mod SendLemmas
+pub mod SendTurns
+pub mod SentLemmas
+pub mod ShapeLemmas
+pub mod StandLemmas
+pub mod StreakLemmas
+pub mod WholeLemmas

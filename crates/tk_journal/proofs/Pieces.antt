@@ -6,7 +6,8 @@ use Rattle.std.proofs.lemmas.List.{append-nil}
 use Rattle.tk_frames.specs.Assigns.{assign_in}
 use Rattle.tk_frames.specs.declared.frame.Frame.{Frame}
 use Rattle.tk_base.specs.declared.ids.Mon.{Mon}
-use Rattle.tk_journal.specs.Walks.{walk, last_of}
+use Rattle.tk_base.specs.History.{last_of}
+use Rattle.tk_journal.specs.Walks.{walk}
 use Rattle.tk_journal.specs.Links.{Passed, frames_to, frames_from, link_of}
 use Rattle.tk_journal.specs.Links.Passed.{Up, Down}
 use Rattle.tk_journal.specs.Readings.{Progress, assigns_to, assigns_sent, assigns_on, assign_down, members_at, answer_of, answered, is_answer, progress_of, told, last_round, asked_of, values_of, values_for, is_stopped}

@@ -16,7 +16,9 @@ use Rattle.tk_alloc.specs.declared.reported.Reported.{Reported}
 use Rattle.tk_journal.specs.Laws.{SaysWhatIsDue}
 use Rattle.tk_journal.specs.Deciding.{Decided, is_within_limit, reports_at}
 use Rattle.tk_journal.specs.Readings.{monitors, assigns_sent, is_stop, is_stopped}
-use Rattle.tk_journal.specs.Turns.{Kind, Tune, Stale, Note, Short, Wide, Full, End, reported, kind_of, rounds, collects, wide_collects, assigns, short_at, full_at, wide_at, full_end, wide_end, is_wide, report_demands, values_demand, demanded}
+use Rattle.tk_journal.specs.declared.turn.TurnKind.{TurnKind}
+use Rattle.tk_journal.specs.declared.turn.TurnKind.TheVariants.{Tune, Stale, Note, Short, Wide, Full, End}
+use Rattle.tk_journal.specs.Turns.{reported, kind_of, rounds, collects, wide_collects, assigns, short_at, full_at, wide_at, full_end, wide_end, is_wide, report_demands, values_demand, demanded}
 use Rattle.tk_journal.specs.Publishing.{publications, published_in, publication_at, is_due, is_last, closing, stops}
 use Rattle.tk_journal.specs.Legal.{Opening, opened, IsLegal}
 use Rattle.tk_journal.specs.declared.noted.Noted.{Noted}
@@ -80,7 +82,7 @@ full_wanted : (s : Setup) (j : List Noted) (next : ℕ) (reports : List Reported
 full_wanted s j next reports =
     either_wanted (is_within_limit (full_at s j reports)) (assigns j (full_at s j reports)) (wide_collects s next) (assigns_are_wanted j (full_at s j reports)) (collects_are_wanted next (objects s.objects) (monitors s))
 
-report_wanted : (s : Setup) (before : List Noted) (report : Reported) (kind : Kind) → AreWanted (report_demands s before report kind)
+report_wanted : (s : Setup) (before : List Noted) (report : Reported) (kind : TurnKind) → AreWanted (report_demands s before report kind)
 report_wanted s before report Tune = tt
 report_wanted s before report Stale = tt
 report_wanted s before report Note = tt
@@ -91,7 +93,7 @@ report_wanted s before report Full =
     (full_wanted s before (rounds s before + 1 + 1) (report ∷ [])) (collects_are_wanted (rounds s before + 1) (objects_of report.values) (filter (λ mon. not (mon == report.mon.0)) (monitors s)))
 report_wanted s before report End = tt
 
-values_wanted : (s : Setup) (now : List Noted) (kind : Kind) → AreWanted (values_demand s now kind)
+values_wanted : (s : Setup) (now : List Noted) (kind : TurnKind) → AreWanted (values_demand s now kind)
 values_wanted s now Tune = tt
 values_wanted s now Stale = tt
 values_wanted s now Note = tt

@@ -135,7 +135,7 @@ either_there : {B : Type 0} (b : Bool) (x y : Option B) → (b ≡ true → IsTh
 either_there true x y p q = p refl
 either_there false x y p q = q refl
 
-values_there : (asked : Option (List ℕ)) (values : Option Reported) → (is_some asked && not (is_some values)) ≡ false → is_some asked ≡ true → IsThere values
+pub values_there : (asked : Option (List ℕ)) (values : Option Reported) → (is_some asked && not (is_some values)) ≡ false → is_some asked ≡ true → IsThere values
 values_there asked (Some y) e some = (y, refl)
 values_there (Some x) None e some = cc
 values_there None None e some = cc

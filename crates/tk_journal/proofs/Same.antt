@@ -9,7 +9,8 @@ use Rattle.tk_base.specs.Sum.{int_sum}
 use Rattle.tk_frames.specs.Assigns.{Assign, row}
 use Rattle.tk_frames.specs.declared.frame.Frame.{Frame}
 use Rattle.tk_frames.specs.declared.frame.Frame.TheVariants as f
-use Rattle.tk_journal.specs.Walks.{walk, last_of}
+use Rattle.tk_base.specs.History.{last_of}
+use Rattle.tk_journal.specs.Walks.{walk}
 use Rattle.tk_journal.specs.Readings.{Tuning, monitors, seqs_to, assigns_to, assigns_sent, members_at, factor, own, table_at, answer_of, progress_of, settled_in, last_round, round_in, asked_of, values_of, waits_for, is_open, is_calm, tunings, first_round, is_over, tuned_to, in_force}
 use Rattle.tk_journal.specs.Deciding.{report_of, answered_report}
 use Rattle.tk_journal.specs.Turns.{rounds, rounds_after}

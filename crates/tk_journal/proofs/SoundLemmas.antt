@@ -16,7 +16,7 @@ use Rattle.tk_alloc.proofs.BorderLemmas.{factor_size}
 use Rattle.tk_alloc.proofs.WideLemmas.{catalogue_length}
 use Rattle.tk_journal.specs.Laws.{IsSetUp}
 use Rattle.tk_journal.specs.Readings.{monitors, assigns_to, members_at, table_at, last_round, asked_of, values_of, waits_for, is_open, tunings, is_over, tuned_to, in_force, is_stopped}
-use Rattle.tk_journal.specs.Walks.{last_of}
+use Rattle.tk_base.specs.History.{last_of}
 use Rattle.tk_journal.specs.Turns.{collects, wide_collects, rounds, is_wide}
 use Rattle.tk_journal.specs.Publishing.{closing}
 use Rattle.tk_journal.specs.Refusal.{retune_refusal_of}
@@ -81,13 +81,13 @@ retuned_limits s k e limits members small =
       own_weight = limits.own_weight;
     }
 
-waiting : (asked : Option (List ℕ)) (values : Option Reported) (all : List ℕ) → asked ≡ Some all → values ≡ None → (is_some asked && not (is_some values)) ≡ true
+pub waiting : (asked : Option (List ℕ)) (values : Option Reported) (all : List ℕ) → asked ≡ Some all → values ≡ None → (is_some asked && not (is_some values)) ≡ true
 waiting (Some x) None all is none = refl
 waiting (Some x) (Some y) all is none = cc
 waiting None values all is none = cc
 
 -- a wide round that is opened is open, and wide
-collects_open : (s : Setup) (j : List Noted) (round k : ℕ) → s.monitors ≡ suc k → AreCounted s j → last_round j < round → is_open s (j ++ wide_collects s round) ≡ true
+pub collects_open : (s : Setup) (j : List Noted) (round k : ℕ) → s.monitors ≡ suc k → AreCounted s j → last_round j < round → is_open s (j ++ wide_collects s round) ≡ true
 unfolding is_open waits_for
 collects_open s j round k some c new =
     let after = j ++ wide_collects s round in
@@ -99,12 +99,12 @@ collects_open s j round k some c new =
     (ap (λ r. asked_of r 1 after) last ∙ new_asked s j round (objects s.objects) (monitors s) 1 c new ∙ ap (λ b. if b then Some (objects s.objects) else None) here)
     (ap (λ r. values_of r 1 after) last ∙ new_values s j round (objects s.objects) (monitors s) 1 c new))
 
-all_of_range : (p : ℕ → Bool) (a k : ℕ) → ((q : ℕ) → a ≤ q → q < a + k → p q ≡ true) → list_all p (range_with_len a k) ≡ true
+pub all_of_range : (p : ℕ → Bool) (a k : ℕ) → ((q : ℕ) → a ≤ q → q < a + k → p q ≡ true) → list_all p (range_with_len a k) ≡ true
 all_of_range p a zero each = refl
 all_of_range p a (suc k) each =
     and_from (p a) (list_all p (range_with_len (a + 1) k)) (each a (omega arith) (omega arith)) (all_of_range p (a + 1) k (λ q low high. each q (omega (arith, low)) (omega (arith, high))))
 
-collects_wide : (s : Setup) (j : List Noted) (round k : ℕ) → s.monitors ≡ suc k → AreCounted s j → last_round j < round → is_wide s (j ++ wide_collects s round) ≡ true
+pub collects_wide : (s : Setup) (j : List Noted) (round k : ℕ) → s.monitors ≡ suc k → AreCounted s j → last_round j < round → is_wide s (j ++ wide_collects s round) ≡ true
 unfolding is_wide
 collects_wide s j round k some c new =
     let after = j ++ wide_collects s round in

@@ -15,7 +15,7 @@ use Rattle.tk_rows.proofs.SumLemmas.{int_sum-cons}
 use Rattle.tk_alloc.specs.Resolving.{MeetsOwn}
 use Rattle.tk_alloc.proofs.WideLemmas.{of_catalogue, catalogue_length}
 use Rattle.tk_frames.specs.declared.frame.Frame.TheVariants as f
-use Rattle.tk_journal.specs.Laws.{IsSetUp, AreSentShort}
+use Rattle.tk_journal.specs.Laws.{AreChanges, IsSetUp, AreSentShort}
 use Rattle.tk_journal.specs.Legal.{start, opened}
 use Rattle.tk_journal.specs.Readings.{monitors, factor, own, table_at}
 use Rattle.tk_journal.proofs.Batches.{named_assigns}
@@ -90,6 +90,9 @@ start_short s limits =
     batch_short (λ (p : Given). p.0) (λ p. f.Assign 1 (objects s.k) p.1) (enumerate_from 1 (replicate s.monitors []))
     (λ p in'. ((let l = catalogue_length s.k in let m = limits.k in omega (arith, l, m)), (let e = ap length (empty_changes 1 s.monitors p in') in omega (arith, e))))
 
+nothing_changes : (n : ℕ) → AreChanges n []
+nothing_changes n c (k, below, is) = absurd (omega (arith, below))
+
 pub start_set_up : (s : Setup) → IsWithinLimits s → IsSetUp (start s)
 start_set_up s limits = record {
   limits = limits;
@@ -98,6 +101,7 @@ start_set_up s limits = record {
   ascends = ascends (objects s.k) (rises-objects s.k);
   within = start_within s limits;
   changes = start_short s limits;
+  given = λ p in'. subst (AreChanges s.objects) (sym (empty_changes 1 s.monitors p in')) (nothing_changes s.objects);
   table = table_balanced s (opened (start s)) (start_sized s);
   own = start_meets s limits;
 }

@@ -7,7 +7,7 @@ use Rattle.std.proofs.Math.Bool.{or-true}
 use Rattle.std.proofs.lemmas.List.{append-nil, append_assoc}
 use Rattle.std.proofs.lemmas.List.Elements.{filter-append}
 use Rattle.tk_base.specs.Settings.{Setup, IsWithinLimits}
-use Rattle.tk_journal.specs.Walks.{last_of}
+use Rattle.tk_base.specs.History.{last_of}
 use Rattle.tk_journal.specs.Readings.{Tuning, monitors, round_in, last_round, asked_of, is_open, tunings, first_round, is_over, tuned_to, in_force}
 use Rattle.tk_journal.specs.Turns.{is_wide, collects}
 use Rattle.tk_journal.specs.declared.noted.Noted.{Noted}

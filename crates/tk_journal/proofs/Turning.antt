@@ -13,7 +13,9 @@ use Rattle.tk_frames.specs.declared.frame.Frame.TheVariants as f
 use Rattle.tk_alloc.specs.declared.reported.Reported.{Reported}
 use Rattle.tk_journal.specs.Readings.{monitors, assigns_sent, answer_of, last_round, waits_for, is_open}
 use Rattle.tk_journal.specs.Deciding.{reports_at, is_within_limit}
-use Rattle.tk_journal.specs.Turns.{Kind, Stale, Note, Short, Wide, Full, End, reported, passes_at, short_at, full_at, wide_at, streak, kind_of, rounds, collects, wide_collects, full_end, wide_end, is_wide, full_turn, report_demands, values_demand, demanded}
+use Rattle.tk_journal.specs.declared.turn.TurnKind.{TurnKind}
+use Rattle.tk_journal.specs.declared.turn.TurnKind.TheVariants.{Stale, Note, Short, Wide, Full, End}
+use Rattle.tk_journal.specs.Turns.{reported, passes_at, short_at, full_at, wide_at, streak, kind_of, rounds, collects, wide_collects, full_end, wide_end, is_wide, full_turn, report_demands, values_demand, demanded}
 use Rattle.tk_journal.specs.Refusal.{refusal_of, shown_by, known_by, refusal_of_report, is_report}
 use Rattle.tk_journal.specs.declared.noted.Noted.{Noted}
 use Rattle.tk_journal.specs.declared.noted.Noted.TheVariants as n
@@ -100,7 +102,7 @@ reporting s before from seq border failed values k some range none o late is =
       stands = fresh_stands from.0 before from seq border failed values (eq-eqb from.0 from.0 refl) (fresh_seq s before from seq border failed values none late);
     }
 
-abbrev pub kind_by : Bool → Bool → Bool → Bool → Bool → Kind
+abbrev pub kind_by : Bool → Bool → Bool → Bool → Bool → TurnKind
 kind_by stale opened' passes within few =
     if stale then Stale else (if opened' then Note else (if passes then (if within then Short else Wide) else (if few then Full else Wide)))
 

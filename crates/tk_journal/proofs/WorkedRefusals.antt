@@ -67,6 +67,16 @@ pub a_member_failed : refused fresh 2 (from_two 1 (pos 0) (1 ∷ []) ((1, pos 0)
 unfolding objects least_of greatest_of assigns_sent members_at factor own table_at answer_of progress_of last_round asked_of values_of waits_for is_open is_stopped refusal_of retune_refusal_of
 a_member_failed = refl
 
+-- a Report of object 0, which is none of the catalogue
+pub object_0_failed : refused fresh 2 (from_two 1 (pos 0) (0 ∷ 2 ∷ []) ((1, pos 0) ∷ (2, pos 3) ∷ [])) ≡ Some WrongObjects
+unfolding objects least_of greatest_of assigns_sent members_at factor own table_at answer_of progress_of last_round asked_of values_of waits_for is_open is_stopped refusal_of retune_refusal_of
+object_0_failed = refl
+
+-- a Report of failed objects that do not ascend
+pub failed_out_of_order : refused fresh 2 (from_two 1 (pos 0) (2 ∷ 2 ∷ []) ((1, pos 0) ∷ (2, pos 3) ∷ [])) ≡ Some WrongObjects
+unfolding objects least_of greatest_of assigns_sent members_at factor own table_at answer_of progress_of last_round asked_of values_of waits_for is_open is_stopped refusal_of retune_refusal_of
+failed_out_of_order = refl
+
 -- values that are not over members and failed
 pub a_value_is_missing : refused fresh 2 (from_two 1 (pos 0) (2 ∷ []) ((2, pos 3) ∷ [])) ≡ Some WrongObjects
 unfolding objects least_of greatest_of assigns_sent members_at factor own table_at answer_of progress_of last_round asked_of values_of waits_for is_open is_stopped refusal_of retune_refusal_of

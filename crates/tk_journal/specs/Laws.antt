@@ -1,6 +1,6 @@
 -- What holds of legal journals.
-use Rattle.std.specs.Prelude.{ℕ, ◌≤◌, ◌≡◌, true, false, List, [], ◌∷◌, ◌++◌, length, ◌<◌, ◌+ℤ◌, ◌≤ℤ◌, Contains, None}
-use Rattle.std.specs.List.{All}
+use Rattle.std.specs.Prelude.{ℕ, ℤ, ◌≤◌, ◌≡◌, true, false, List, [], ◌∷◌, ◌++◌, length, ◌<◌, ◌+ℤ◌, ◌≤ℤ◌, Contains, None}
+use Rattle.std.specs.List.{All, enumerate_from}
 use Rattle.tk_base.specs.Ascending.{IsAscending}
 use Rattle.tk_base.specs.Settings.{Setup, IsWithinLimits}
 use Rattle.tk_frames.specs.Size.{IsShort}
@@ -27,8 +27,13 @@ AreSentShort (n.Sent to frame ∷ rest) = IsShort frame × AreSentShort rest
 AreSentShort (n.Published publication ∷ rest) = AreSentShort rest
 AreSentShort (n.Tuned k epsilon ∷ rest) = AreSentShort rest
 
+-- the changes are of objects of the catalogue, and each is a factor
+abbrev pub AreChanges : ℕ → List (ℕ × ℤ) → Type 0
+AreChanges objects changes = (c : ℕ × ℤ) → Contains changes c → (c.0 ≤ objects) × IsFactor c.1
+
 -- an opening from which a journal may start: settings within the limits, k members of the catalogue, and for each
--- monitor factors that make a table within its limits, which meets the coordinator's constraint
+-- monitor changes of objects of the catalogue that make a table within its limits, which meets the coordinator's
+-- constraint
 pub record IsSetUp (o : Opening) : Type 0 where
   pub limits : IsWithinLimits o.settings
   pub factors : length o.factors ≡ o.settings.monitors
@@ -36,6 +41,7 @@ pub record IsSetUp (o : Opening) : Type 0 where
   pub ascends : IsAscending o.members
   pub within : All (λ t. t ≤ o.settings.objects) o.members
   pub changes : AreSentShort (opened o)
+  pub given : (p : ℕ × List (ℕ × ℤ)) → Contains (enumerate_from 1 o.factors) p → AreChanges o.settings.objects p.1
   pub table : AreBalanced (table_at o.settings (opened o))
   pub own : MeetsOwn (table_at o.settings (opened o)) o.settings.epsilon o.members
 

@@ -9,6 +9,11 @@ pub mod Readings
 pub mod Refusal
 pub mod Turns
 pub mod Walks
+pub mod Kinds
+pub mod Sending
+pub mod Shapes
+pub mod Tally
+pub mod Whole
 pub use Rattle.tk_alloc.specs.Limit
 pub use Rattle.tk_alloc.specs.Parts
 pub use Rattle.tk_alloc.specs.Resolving

@@ -6,7 +6,7 @@ use Rattle.std.specs.Cmp.Lexicographic.{pointwise}
 use Rattle.tk_base.specs.Settings.{Setup}
 use Rattle.tk_frames.specs.declared.frame.Frame.TheVariants as f
 use Rattle.tk_journal.specs.Readings.{Progress, monitors, settled_of, is_calm, members_at, in_force}
-use Rattle.tk_journal.specs.Walks.{last_of}
+use Rattle.tk_base.specs.History.{last_of}
 use Rattle.tk_journal.specs.declared.noted.Noted.{Noted}
 use Rattle.tk_journal.specs.declared.noted.Noted.TheVariants as n
 use Rattle.tk_journal.specs.declared.publication.Publication.{Publication}

@@ -12,7 +12,8 @@ use Rattle.tk_rows.specs.Factors.{Grid}
 use Rattle.tk_alloc.specs.declared.reported.Reported.{Reported}
 use Rattle.tk_journal.specs.Links.{Passed, frames_to, frames_from, link_of}
 use Rattle.tk_journal.specs.Links.Passed.{Up, Down}
-use Rattle.tk_journal.specs.Walks.{walk, last_of}
+use Rattle.tk_base.specs.History.{last_of}
+use Rattle.tk_journal.specs.Walks.{walk}
 use Rattle.tk_journal.specs.declared.noted.Noted.{Noted}
 use Rattle.tk_journal.specs.declared.noted.Noted.TheVariants as n
 

@@ -3,6 +3,7 @@ use Rattle.std.specs.Prelude.{ℕ, ◌^◌, ℤ, pos, neg_ℤ, ◌+ℤ◌, int_l
 use Rattle.std.specs.List.{list_all, zip}
 use Rattle.std.specs.Option.{option_map}
 use Rattle.std.specs.Cmp.Lexicographic.{pointwise}
+use Rattle.tk_base.specs.Ascending.{ascends}
 use Rattle.tk_base.specs.Objects.{is_in}
 use Rattle.tk_base.specs.Pairs.{objects_of}
 use Rattle.tk_base.specs.Settings.{Setup, is_k}
@@ -45,10 +46,10 @@ level_in known values o = value_of values o +ℤ factor_at known.table known.mon
 abbrev pub least_in : Known → List (ℕ × ℤ) → Option ℤ
 least_in known values = least_of (map (level_in known values) known.members)
 
--- some objects, all of the catalogue and no members
+-- some objects, ascending, all of the catalogue and no members
 abbrev pub are_outsiders : Known → List ℕ → Bool
 are_outsiders known failed =
-    nat_lt 0 (length failed) && list_all (λ o. nat_le o known.objects && not (is_in known.members o)) failed
+    nat_lt 0 (length failed) && ascends failed && list_all (λ o. nat_le o known.objects && not (is_in known.members o)) failed
 
 -- whether two lists of objects are the same
 abbrev pub are_same : List ℕ → List ℕ → Bool

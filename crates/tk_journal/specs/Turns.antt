@@ -10,18 +10,10 @@ use Rattle.tk_alloc.specs.declared.reported.Reported.{Reported}
 use Rattle.tk_journal.specs.Readings.{monitors, assigns_sent, members_at, table_at, is_open, is_calm, in_force, last_round, asked_of}
 use Rattle.tk_journal.specs.Deciding.{Decided, reports_at, short_decides, full_decides, wide_decides, passes_short_test, is_within_limit}
 use Rattle.tk_journal.specs.Walks.{walk}
+use Rattle.tk_journal.specs.declared.turn.TurnKind.{TurnKind}
+use Rattle.tk_journal.specs.declared.turn.TurnKind.TheVariants.{Tune, Stale, Note, Short, Wide, Full, End}
 use Rattle.tk_journal.specs.declared.noted.Noted.{Noted}
 use Rattle.tk_journal.specs.declared.noted.Noted.TheVariants as n
-
--- the kinds of turn
-pub data Kind : Type 0 where
-  Tune : Kind
-  Stale : Kind
-  Note : Kind
-  Short : Kind
-  Wide : Kind
-  Full : Kind
-  End : Kind
 
 -- what a Report of a monitor reports
 abbrev pub reported : ℕ → ℤ → List (ℕ × ℤ) → Reported
@@ -60,13 +52,13 @@ unfoldable pub streak : Setup → List Noted → ℕ
 streak setup journal = unless_calm setup journal (walk (failures_after setup) [] 0 journal)
 
 -- the kind of the turn of a fresh Report that finds no open round
-abbrev pub kind_of_report : Setup → List Noted → Reported → Kind
+abbrev pub kind_of_report : Setup → List Noted → Reported → TurnKind
 kind_of_report setup before report =
     if passes_at setup before report then (if is_within_limit (short_at setup before report) then Short else Wide)
     else (if nat_lt (streak setup before) 8 then Full else Wide)
 
 -- the kind of the turn of a frame that is not refused
-unfoldable pub kind_of : Setup → List Noted → ℕ → Frame → Kind
+unfoldable pub kind_of : Setup → List Noted → ℕ → Frame → TurnKind
 kind_of setup before mon (f.Report seq border failed values) =
     if nat_lt seq (assigns_sent mon before) then Stale
     else (if is_open setup before then Note else kind_of_report setup before (reported mon border values))
@@ -78,7 +70,7 @@ kind_of setup before mon frame = Note
 -- ---- the numbers of rounds
 
 -- a Full turn with one monitor opens a round without any Collect
-abbrev pub is_lone_full : Setup → Kind → Bool
+abbrev pub is_lone_full : Setup → TurnKind → Bool
 is_lone_full setup Full = setup.monitors == 1
 is_lone_full setup kind = false
 
@@ -137,14 +129,14 @@ full_turn setup journal report =
     else collects next (objects_of report.values) (filter (λ mon. not (mon == report.mon.0)) (monitors setup))
 
 -- what the turn of a Report demands, by its kind
-abbrev pub report_demands : Setup → List Noted → Reported → Kind → List Noted
+abbrev pub report_demands : Setup → List Noted → Reported → TurnKind → List Noted
 report_demands setup before report Short = assigns before (short_at setup before report)
 report_demands setup before report Wide = wide_collects setup (rounds setup before + 1)
 report_demands setup before report Full = full_turn setup before report
 report_demands setup before report kind = []
 
 -- what the turn of Values demands, by its kind: over the journal with these Values
-abbrev pub values_demand : Setup → List Noted → Kind → List Noted
+abbrev pub values_demand : Setup → List Noted → TurnKind → List Noted
 values_demand setup now End =
     if is_wide setup now then wide_end setup now (reports_at setup now)
     else full_end setup now (rounds setup now + 1) (reports_at setup now)

@@ -6,10 +6,11 @@ use Rattle.std.proofs.lemmas.Bool.{leb-true, le-leb, lt-ltb, cases_lt}
 use Rattle.std.proofs.lemmas.Map.Views.{exact_unsigned_eq}
 use Rattle.std.proofs.lemmas.List.Sums.{AllPass-from_list_all, list_all-from_AllPass}
 use Rattle.std.proofs.lemmas.List.{get_or_default}
-use Rattle.tk_base.specs.Ascending.{IsAscending}
+use Rattle.tk_base.specs.Ascending.{IsAscending, ascends}
 use Rattle.tk_base.specs.Objects.{is_in}
 use Rattle.tk_base.proofs.AscendingLemmas.{ascending_along}
 use Rattle.tk_trail.specs.Refusal.{are_some_of}
+use Rattle.tk_trail.proofs.AscendsLemmas.{ascending_passes}
 
 -- two tests that pass together are one
 pub bool_same : (a b : Bool) → (a ≡ true → b ≡ true) → (b ≡ true → a ≡ true) → a ≡ b
@@ -29,12 +30,12 @@ and_right false b both = absurd (cc)
 pub last_tells : (n : ℕ) (xs : List ℕ) → IsAscending xs → 0 < length xs → nat_le (get_or xs (length xs - 1) 0) n ≡ are_some_of n xs
 last_tells n xs up some =
     bool_same (nat_le (get_or xs (length xs - 1) 0) n) (are_some_of n xs)
-    (λ last. and_true (nat_lt 0 (length xs)) (list_all (λ o. nat_le o n) xs) (lt-ltb 0 (length xs) some)
+    (λ last. and_true (nat_lt 0 (length xs) && ascends xs) (list_all (λ o. nat_le o n) xs) (and_true (nat_lt 0 (length xs)) (ascends xs) (lt-ltb 0 (length xs) some) (ascending_passes xs up))
     (list_all-from_AllPass (λ o. nat_le o n) xs (λ k d within.
     let same = get_or_default xs k 0 d within in
     let below = ascending_along xs up k (length xs - 1) (omega arith) (omega arith) in
     le-leb (get_or xs k d) n (omega (arith, same, leb-true (get_or xs (length xs - 1) 0) n last)))))
-    (λ all. AllPass-from_list_all (λ o. nat_le o n) xs (and_right (nat_lt 0 (length xs)) (list_all (λ o. nat_le o n) xs) all) (length xs - 1) 0 (omega arith))
+    (λ all. AllPass-from_list_all (λ o. nat_le o n) xs (and_right (nat_lt 0 (length xs) && ascends xs) (list_all (λ o. nat_le o n) xs) all) (length xs - 1) 0 (omega arith))
 
 -- an empty list has no last object
 pub none_tells : (n : ℕ) (xs : List ℕ) → length xs ≤ 0 → false ≡ are_some_of n xs

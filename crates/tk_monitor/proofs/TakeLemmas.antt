@@ -9,7 +9,7 @@ use Rattle.std.proofs.lemmas.Bool.{leb-true, ltb-true, cases_lt, lt-ltb}
 use Rattle.std.proofs.lemmas.Map.Views.{exact_unsigned_eq}
 use Rattle.std.proofs.lemmas.List.Sums.{AllPass-from_list_all}
 use Rattle.std.proofs.lemmas.List.{get_or_default}
-use Rattle.tk_base.specs.Ascending.{IsAscending}
+use Rattle.tk_base.specs.Ascending.{IsAscending, ascends}
 use Rattle.tk_base.specs.Objects.{is_in, objects}
 use Rattle.tk_base.proofs.AscendingLemmas.{ascending_positive}
 use Rattle.tk_frames.specs.declared.frame.Frame.{Frame}
@@ -80,12 +80,12 @@ assign_passes setup trail seq members changes none =
     let first = if_none (not (seq == seq_of trail + 1)) (WrongSequence (seq_of trail) seq) _ kind.1 in
     let second = if_none (not (are_members n members)) BadMembers (option_map (λ (change : ℕ × ℤ). BadChange (record { 0 = change.0 })) (find (is_bad_change n) changes)) first.1 in
     let are = and_both (are_some_of n members) (nat_le (length members) 1024) (not_false (are_members n members) second.0) in
-    let some = and_both (nat_lt 0 (length members)) (list_all (λ o. nat_le o n) members) are.0 in
+    let some = and_both (nat_lt 0 (length members) && ascends members) (list_all (λ o. nat_le o n) members) are.0 in
     let good : All (λ c. is_bad_change n c ≡ false) changes = found_none (is_bad_change n) changes (mapped_none (λ (change : ℕ × ℤ). BadChange (record { 0 = change.0 })) (find (is_bad_change n) changes) second.1) in
     record {
       running = kind.0;
       next = exact_unsigned_eq seq (seq_of trail + 1) (not_false (seq == seq_of trail + 1) first.0);
-      members_are = record { some_member = ltb-true 0 (length members) some.0; in_range = within_all n members some.1 };
+      members_are = record { some_member = ltb-true 0 (length members) (and_both (nat_lt 0 (length members)) (ascends members) some.0).0; in_range = within_all n members some.1 };
       factors_are = record {
         within = λ k d below. not_below n (get_or changes k d).0 (or_parts_false (nat_lt n (get_or changes k d).0) (nat_lt (2 ^ 112) (unsigned_abs (get_or changes k d).1)) (good k d below)).0;
         small = λ k d below. not_below (2 ^ 112) (unsigned_abs (get_or changes k d).1) (or_parts_false (nat_lt n (get_or changes k d).0) (nat_lt (2 ^ 112) (unsigned_abs (get_or changes k d).1)) (good k d below)).1;
@@ -108,7 +108,7 @@ collect_passes setup trail round asked none =
     record {
       running = kind.0;
       after_assign = ltb-true 0 (seq_of trail) front.0;
-      within = within_all n asked (and_both (nat_lt 0 (length asked)) (list_all (λ o. nat_le o n) asked) front.1).1;
+      within = within_all n asked (and_both (nat_lt 0 (length asked) && ascends asked) (list_all (λ o. nat_le o n) asked) front.1).1;
       held = all.1;
     }
 
@@ -205,10 +205,11 @@ kept_assigned setup log after board now next phase seq members changes broken en
     }
 
 -- what the tests look at, as the fields have it
-pub shown_made : (setup : MonitorSetup) (trail : List Entry) (seq : ℕ) (members : List ℕ) (told stopped : Bool) (frame : Frame) → seq ≡ seq_of trail → members ≡ members_at trail → told ≡ is_end_told trail → stopped ≡ is_stopped trail → refusal_over (record { objects = setup.objects; seq = seq; members = members; told = told; stopped = stopped }) frame ≡ refusal_of setup trail frame
+pub shown_made : (setup : MonitorSetup) (trail : List Entry) (objects seq : ℕ) (members : List ℕ) (told stopped : Bool) (frame : Frame) → objects ≡ setup.objects → seq ≡ seq_of trail → members ≡ members_at trail
+    → told ≡ is_end_told trail → stopped ≡ is_stopped trail → refusal_over (record { objects = objects; seq = seq; members = members; told = told; stopped = stopped }) frame ≡ refusal_of setup trail frame
 unfolding refusal_of
-shown_made setup trail seq members told stopped frame a b c d =
-    let same : record { objects = setup.objects; seq = seq; members = members; told = told; stopped = stopped } ≡ shown_by setup trail = cc in
+shown_made setup trail objects seq members told stopped frame size a b c d =
+    let same : record { objects = objects; seq = seq; members = members; told = told; stopped = stopped } ≡ shown_by setup trail = cc in
     ap (λ (shown : Shown). refusal_over shown frame) same
 
 -- the Values that answer a Collect just taken

@@ -1,5 +1,6 @@
 -- A monitor as contracts see it, and what its calls answer.
 use Rattle.std.specs.Prelude.{◌≡◌, ℕ, ◌≤◌, List, [], ◌∷◌, ◌++◌, length, Option, Some, None, Result, Err, IfErr, if◌then◌else◌}
+use Rattle.tk_base.specs.Settings.{Setup}
 use Rattle.tk_base.specs.declared.ids.Feeder.{Feeder}
 use Rattle.tk_frames.specs.declared.frame.Frame.{Frame}
 use Rattle.tk_trail.specs.Setup.{MonitorSetup}
@@ -15,8 +16,9 @@ use Rattle.tk_monitor.specs.declared.outcome.Raised.TheVariants.{Done, Ended}
 use Rattle.tk_monitor.specs.declared.outcome.Checked.{Checked}
 use Rattle.tk_monitor.specs.declared.outcome.Checked.TheVariants.{Reported, ToldEnd, Nothing}
 
--- what a monitor is made of, and its trail
-pub record Monitored : Type 0 where
+-- the settings of the run, what a monitor is made of, and its trail
+pub record MonitorView : Type 0 where
+  pub settings : Setup
   pub setup : MonitorSetup
   pub trail : List Entry
 
@@ -26,7 +28,7 @@ pub record IsFeederOf (setup : MonitorSetup) (g : ℕ) : Type 0 where
   pub within : g ≤ length setup.parts
 
 -- what a raise answers, and what it leaves: one more change of the feeder counts, or its part is at its end
-abbrev pub Raises : Monitored → Feeder → Raised → Monitored → Type 0
+abbrev pub Raises : MonitorView → Feeder → Raised → MonitorView → Type 0
 Raises old feeder (Done broken) new =
     HasNext old.setup old.trail feeder.0
     × (new ≡ record old { trail = old.trail ++ e.Raised feeder ∷ [] })

@@ -16,8 +16,6 @@ mod parts;
 mod phase;
 mod refusals;
 mod start;
-#[cfg(test)]
-mod tests;
 
 pub use monitor::Monitor;
 pub use outcome::{Checked, Raised};

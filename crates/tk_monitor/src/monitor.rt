@@ -15,16 +15,16 @@ use crate::outcome::Raised;
 use crate::parts::next_change;
 use crate::phase::Phase;
 use std::marker::Model;
-use tk_base::{Feeder, Mon, NoMemory, Obj, Places};
+use tk_base::{Feeder, Mon, NoMemory, Obj, Places, Settings};
 use tk_frames::Frame;
 use tk_input::Part;
 use tk_trail::Entry;
 
-/// One monitor, which contracts see as what it was made of and its trail.
+/// One monitor, which contracts see as the settings of its run, what it was made of, and its trail.
 #[derive(Drop)]
 pub struct Monitor {
+    settings: Settings,
     number: Mon,
-    objects: u32,
     parts: Vec<Part>,
     from: Places,
     next: Vec<u32>,
@@ -34,19 +34,20 @@ pub struct Monitor {
 }
 
 impl Model for Monitor {
-    ghost use Rattle.tk_monitor.specs.Monitored.{Monitored};
+    ghost use Rattle.tk_monitor.specs.Monitored.{MonitorView};
     ghost use Rattle.tk_monitor.specs.Kept.{IsKept};
 
-    ghost Value = { Monitored };
+    ghost Value = { MonitorView };
 
     ghost view = { λ m. record {
-      setup = record { number = m.number.0; objects = m.objects; parts = m.parts.items; from = m.from };
+      settings = m.settings;
+      setup = record { number = m.number.0; objects = m.settings.objects; parts = m.parts.items; from = m.from };
       trail = m.log.entries;
     } };
 
     ghost invariant = { λ m.
         IsKept
-        (record { number = m.number.0; objects = m.objects; parts = m.parts.items; from = m.from })
+        (record { number = m.number.0; objects = m.settings.objects; parts = m.parts.items; from = m.from })
         m.log
         m.board
         m.next.items
@@ -125,6 +126,14 @@ impl Monitor {
         ensures { result ≡ is_stopped self.now.trail }
     {
         self.phase.stopped
+    }
+
+    /// The settings that it was made with.
+    pub fn settings(&self) -> &Settings
+        ensures value { result.now ≡ self.now.settings }
+        ensures objects { self.now.setup.objects ≡ self.now.settings.objects }
+    {
+        &self.settings
     }
 
     /// The number that it was made with.

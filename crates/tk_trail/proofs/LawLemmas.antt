@@ -11,7 +11,8 @@ use Rattle.tk_frames.specs.declared.kind.Kind.TheVariants as k
 use Rattle.tk_frames.specs.Assigns.{Assign, assign_in}
 use Rattle.tk_trail.specs.Setup.{MonitorSetup}
 use Rattle.tk_trail.specs.Readings.{assigns_of, taken_by, taken_in, seq_of, is_broken, is_reported, is_stopped}
-use Rattle.tk_trail.specs.Frames.{report_at, settled_at, values_at, answer_at, answer_to, owed_after, owed_at, due_at, report_is_due, end_is_due, may_report, seq_in}
+use Rattle.tk_frames.specs.Carried.{seq_in}
+use Rattle.tk_trail.specs.Frames.{report_at, settled_at, values_at, answer_at, answer_to, owed_after, owed_at, due_at, report_is_due, end_is_due, may_report}
 use Rattle.tk_trail.specs.Legal.{Allowed, IsLegal, to_send}
 use Rattle.tk_trail.specs.Slack.{slack_of, moved_between, IsWithinSlack}
 use Rattle.tk_trail.specs.declared.entry.Entry.{Entry}

@@ -6,6 +6,7 @@ use Rattle.std.specs.List.{list_all, zip}
 use Rattle.std.proofs.lemmas.Map.Views.{exact_unsigned_eq}
 use Rattle.std.proofs.lemmas.Bool.{cases_eq, cases_lt, ltb-true}
 use Rattle.std.proofs.lemmas.List.{length-set, get_or-set_same, get_or-set_other}
+use Rattle.tk_base.specs.Ascending.{ascends}
 use Rattle.tk_base.specs.declared.ids.Feeder.{Feeder}
 use Rattle.tk_frames.specs.declared.frame.Frame.{Frame}
 use Rattle.tk_frames.specs.declared.frame.Frame.TheVariants as f
@@ -141,7 +142,7 @@ told_took setup trail (f.Report seq border failed values) told none = absurd (le
 told_took setup trail (f.Values round seq border values) told none = absurd (let go = (not_refused setup trail (f.Values round seq border values) none).1 in cc)
 told_took setup trail (f.Settled seq last places) told none = absurd (let go = (not_refused setup trail (f.Settled seq last places) none).1 in cc)
 
-told_goes : (setup : MonitorSetup) → length setup.from ≡ length setup.parts → (trail : List Entry) (e : Entry) → IsTold setup trail → Allowed setup trail e → IsTold setup (trail ++ e ∷ [])
+pub told_goes : (setup : MonitorSetup) → length setup.from ≡ length setup.parts → (trail : List Entry) (e : Entry) → IsTold setup trail → Allowed setup trail e → IsTold setup (trail ++ e ∷ [])
 told_goes setup shape trail (Raised feeder) told allowed = record {
   rest = λ is. absurd (not_at_ends setup trail feeder.0 (length-places_at setup trail ∙ shape) allowed.2 (told.rest (sym (told-raised trail feeder) ∙ is)).ends);
   stop = λ is. absurd (let e = stopped-raised trail feeder in let go = allowed.1 in cc);
@@ -261,8 +262,9 @@ not_false false is = cc
 
 first_of_members : (n : ℕ) (members : List ℕ) → not (are_members n members) ≡ false → 0 < length members
 first_of_members n members is =
-    ltb-true 0 (length members) (and_both (nat_lt 0 (length members)) (list_all (λ o. nat_le o n) members)
-    (and_both (are_some_of n members) (nat_le (length members) 1024) (not_false (are_members n members) is)).0).0
+    ltb-true 0 (length members) (and_both (nat_lt 0 (length members)) (ascends members)
+    (and_both (nat_lt 0 (length members) && ascends members) (list_all (λ o. nat_le o n) members)
+    (and_both (are_some_of n members) (nat_le (length members) 1024) (not_false (are_members n members) is)).0).0).0
 
 same_members : (a b : List Assign) → a ≡ b → (0 < length b → 0 < length (members_of b)) → 0 < length a → 0 < length (members_of a)
 same_members a b same had some = subst (λ (assigns : List Assign). 0 < length (members_of assigns)) (sym same) (had (subst (λ (assigns : List Assign). 0 < length assigns) same some))

@@ -1,3 +1,4 @@
+pub mod AscendsLemmas
 pub mod BrokenLemmas
 mod Examples
 pub mod LawLemmas
@@ -8,3 +9,11 @@ pub mod PlacesLemmas
 pub mod ReadingsLemmas
 pub mod SlackLemmas
 pub mod ValuesLemmas
+pub mod AnsweredLemmas
+pub mod DueLemmas
+pub mod OrderLemmas
+pub mod PairLemmas
+pub mod SaysLemmas
+pub mod SendsLemmas
+pub mod MemberLemmas
+pub mod BoundLemmas

@@ -74,13 +74,3 @@ unfoldable pub due_at : MonitorSetup → List Entry → Option Frame
 due_at setup trail =
     if report_is_due setup trail then Some (report_at setup trail)
     else (if end_is_due setup trail then Some (settled_at setup trail) else None)
-
--- the sequence number that a frame of a monitor carries
-abbrev pub seq_in : Frame → Option ℕ
-seq_in (f.Hello run version mon) = None
-seq_in (f.Report seq border failed values) = Some seq
-seq_in (f.Collect round asked) = None
-seq_in (f.Values round seq border values) = Some seq
-seq_in (f.Assign seq members changes) = None
-seq_in (f.Settled seq last places) = Some seq
-seq_in f.Stop = None

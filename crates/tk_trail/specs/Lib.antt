@@ -4,6 +4,9 @@ pub mod Readings
 pub mod Refusal
 pub mod Setup
 pub mod Slack
+pub mod Says
+pub mod Still
+pub mod Bounds
 pub use Rattle.tk_base.specs.History
 pub use Rattle.tk_base.specs.Objects
 pub use Rattle.tk_border.specs.Levels

@@ -2,6 +2,7 @@
 use Rattle.std.specs.Prelude.{ℕ, ◌+◌, ◌^◌, ℤ, Bool, not, ◌&&◌, ◌||◌, ◌==◌, nat_lt, nat_le, unsigned_abs, List, length, find, Option, Some, None, if◌then◌else◌}
 use Rattle.std.specs.List.{list_all}
 use Rattle.std.specs.Option.{option_map}
+use Rattle.tk_base.specs.Ascending.{ascends}
 use Rattle.tk_base.specs.Objects.{is_in}
 use Rattle.tk_frames.specs.declared.frame.Frame.{Frame}
 use Rattle.tk_frames.specs.declared.frame.Frame.TheVariants as f
@@ -12,9 +13,9 @@ use Rattle.tk_trail.specs.declared.entry.Entry.{Entry}
 use Rattle.tk_trail.specs.declared.refusal.MonitorRefusal.{MonitorRefusal}
 use Rattle.tk_trail.specs.declared.refusal.MonitorRefusal.TheVariants.{AfterStop, NotForMonitor, WrongSequence, BadMembers, BadChange, BadCollect, EarlyStop}
 
--- some objects, none of them past a catalogue of n
+-- some objects of a catalogue of n, ascending
 abbrev pub are_some_of : ℕ → List ℕ → Bool
-are_some_of n list = nat_lt 0 (length list) && list_all (λ o. nat_le o n) list
+are_some_of n list = nat_lt 0 (length list) && ascends list && list_all (λ o. nat_le o n) list
 
 -- members are 1 to 1,024 objects of the catalogue
 abbrev pub are_members : ℕ → List ℕ → Bool

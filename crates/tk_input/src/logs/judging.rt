@@ -1,7 +1,7 @@
 //! The tests that rows of parts must pass, in their order.
 
-ghost use Rattle.std.specs.Prelude.{◌≡◌, ◌<◌, ◌≤◌, ◌^◌, IfOk, IfErr, OnOk, All, Ok, length, nat_lt, option_map, position, sum_by, ◌==◌};
-ghost use Rattle.tk_input.specs.Judged.{Refuses, first_crowded, first_gap, great_in, great_object, judged};
+ghost use Rattle.std.specs.Prelude.{◌≡◌, ◌<◌, ◌≤◌, ◌^◌, IfOk, IfErr, IsErrOf, OnOk, All, Ok, length, nat_lt, option_map, position, sum_by, ◌==◌};
+ghost use Rattle.tk_input.specs.Judged.{AreCounted, Refuses, first_crowded, first_gap, great_in, great_object, judged};
 ghost use Rattle.tk_input.specs.Logs.{AreLogs, IsObject, updates_of as updates_at};
 ghost use Rattle.tk_input.specs.Rows.{logs_in};
 
@@ -104,6 +104,8 @@ pub fn judge(alloc: Global, rows: &[Vec<Part>], objects: u32) -> Result<(), Logs
     ensures ok { OnOk result (judged (record { logs = logs_in rows.now; objects = objects })
         ≡ Ok (record { logs = logs_in rows.now; objects = objects })) }
     ensures err { IfErr result (λ e. Refuses e (judged (record { logs = logs_in rows.now; objects = objects }))) }
+    // Memory is wanted only where the tests of the numbers pass.
+    ensures room { IsErrOf result LogsFault.NoMemory → AreCounted (logs_in rows.now) }
     ensures limits { OnOk result (AreLogs (record { logs = logs_in rows.now; objects = objects })) }
 {
     if let Some(mon) = gap_of(rows) {

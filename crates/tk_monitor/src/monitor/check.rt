@@ -1,9 +1,10 @@
-ghost use Rattle.std.specs.Prelude.{◌≡◌, ◌&&◌, ◌∷◌, ◌++◌, [], true, false, not, IfOk, OnOk, OnErr, if◌then◌else◌};
+ghost use Rattle.std.specs.Prelude.{◌≡◌, ◌&&◌, ◌∷◌, ◌++◌, [], true, false, not, Ok, IfOk, OnOk, OnErr, if◌then◌else◌};
 ghost use Rattle.tk_trail.specs.Readings.{at_ends};
 ghost use Rattle.tk_trail.specs.Frames.{report_at, settled_at, report_is_due, end_is_due};
 ghost use Rattle.tk_trail.specs.Legal.{IsLegal, after_check};
 ghost use Rattle.tk_trail.specs.declared.entry.Entry.TheVariants.{Sent};
 ghost use Rattle.tk_monitor.specs.Monitored.{checked_at};
+ghost use Rattle.tk_monitor.specs.declared.outcome.Checked.TheVariants.{Nothing};
 
 use crate::messages::{report, settled};
 use crate::monitor::Monitor;
@@ -31,6 +32,8 @@ impl Monitor {
     /// times a logarithm of the objects; the room for raises stays free.
     pub fn check(&mut self) -> Result<Checked, NoMemory>
         ensures answer { IfOk result (λ c. c ≡ checked_at self.old.setup self.old.trail) }
+        // Where nothing is due no memory is wanted.
+        ensures nothing { checked_at self.old.setup self.old.trail ≡ Nothing → result ≡ Ok Nothing }
         ensures ok { OnOk result (self.new ≡ record self.old {
           trail = after_check self.old.setup self.old.trail;
         }) }

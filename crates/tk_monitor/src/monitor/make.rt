@@ -25,20 +25,20 @@ impl Monitor {
         requires parts { AreParts settings.now.objects parts.items }
         requires places { ArePlaces parts.items from.now }
         ensures ok { IfOk result (λ m. m ≡ record {
+          settings = settings.now;
           setup = record { number = mon.0; objects = settings.now.objects; parts = parts.items; from = from.now };
           trail = [];
         }) }
         ensures legal { IfOk result (λ m. IsLegal m.setup m.trail) }
     {
-        let objects = settings.objects();
-        let mut board = Board::new(alloc, objects)?;
+        let mut board = Board::new(alloc, settings.objects())?;
         let next = start(alloc, &mut board, parts.as_slice(), from)?;
         let left = left_of(parts.as_slice(), next.as_slice());
         let log = Log::new(alloc, left)?;
         let from = from.try_clone()?;
         Ok(Monitor {
+            settings: *settings,
             number: mon,
-            objects,
             parts,
             from,
             next,

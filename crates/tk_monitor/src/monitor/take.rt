@@ -39,7 +39,7 @@ impl Monitor {
         ensures legal { IsLegal self.now.setup self.now.trail }
     {
         let shown = Shown {
-            objects: self.objects,
+            objects: self.settings.objects(),
             seq: self.phase.seq,
             members: self.board.members(),
             told: self.phase.told,

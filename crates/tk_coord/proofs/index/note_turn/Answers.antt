@@ -11,6 +11,10 @@ pub returns-then-is_err-clause-sent : goal.returns-then-is_err-clause-sent
 returns-then-is_err-clause-sent c =
     subst (λ (l : List Noted). AreIndexed l c.reserve.new.index.sent.items) (sym c.reserve.ensures.same_journal) (c.reserve.ensures.kept c.args.journal.now.items c.requires.sent)
 
+pub returns-then-is_err-2-clause-sent : goal.returns-then-is_err-2-clause-sent
+returns-then-is_err-2-clause-sent c =
+    subst (λ (l : List Noted). AreIndexed l c.reserve.new.index.sent.items) (sym c.reserve.ensures.same_journal) (c.reserve.ensures.kept c.args.journal.now.items c.requires.sent)
+
 pub note_from-requires-clause-monitors : goal.note_from-requires-clause-monitors
 note_from-requires-clause-monitors c =
     let m = vec_len c.args.index.now.sent in

@@ -2,10 +2,11 @@ use Rattle.std.proofs.Common.{◌≡◌, ◌+◌, ℕ, Bool, true, false, List, 
 use Rattle.std.specs.Prelude.{nat_le, if◌then◌else◌}
 use Rattle.std.specs.List.{list_any}
 use Rattle.std.proofs.lemmas.Bool.{lt-leb}
+use Rattle.std.proofs.lemmas.Result.{err_from_is_err_and}
 use Rattle.csv.specs.Records.{fields_of}
 use Rattle.tk_input.specs.Catalog.{names_of, only_field}
 use Rattle.tk_input.specs.declared.catalog.CatalogFault.TheVariants.{Repeated}
-use Rattle.tk_input.proofs.NamesLemmas.{name_added-proper, names_of-push, length-names_of, any-names_of}
+use Rattle.tk_input.proofs.NamesLemmas.{fresh_is_taken, name_added-proper, names_of-push, length-names_of, any-names_of}
 use Rattle.tk_input.proofs.catalog.take_name.Goals as goal
 
 pub returns-then-contains-clause-err : goal.returns-then-contains-clause-err
@@ -35,3 +36,20 @@ returns-clause-ok c =
     ∙ ap (λ (b : Bool). if b then Err (Repeated (length names + 1)) else Ok (names ++ name ∷ [])) (any-names_of name keys ∙ fresh)
     ∙ ap (λ (bytes : List ℕ). Ok (names ++ bytes ∷ [])) (sym c.in_ok-from_slice.ensures.items)
     ∙ ap (λ (all : List (List ℕ)). Ok all) (sym (names_of-push keys key) ∙ ap (λ ks. names_of ks) (sym added))
+
+-- what is wanted memory for is a name that is taken
+pub returns-in_err-from_slice-clause-err : goal.returns-in_err-from_slice-clause-err
+returns-in_err-from_slice-clause-err c =
+    let keys = c.args.names.now.keys in
+    let few : nat_le 65536 (length (names_of keys)) ≡ false = lt-leb 65536 (length (names_of keys)) (omega (arith, length-names_of keys, c.len.ensures.len, c.if-len-ge-MAX_OBJECTS.false)) in
+    let given = err_from_is_err_and c.from_residual.result c.from_residual.ensures.1 in
+    rw (given.1, given.2)
+    (fresh_is_taken keys (fields_of c.args.row.now) c.in-Some.name.now few (sym c.in-Some.ensures) (sym c.is_name.ensures ∙ c.if-not-is_name.false) (sym c.contains.ensures ∙ c.if-contains.false))
+
+pub returns-in_err-insert-clause-err : goal.returns-in_err-insert-clause-err
+returns-in_err-insert-clause-err c =
+    let keys = c.args.names.now.keys in
+    let few : nat_le 65536 (length (names_of keys)) ≡ false = lt-leb 65536 (length (names_of keys)) (omega (arith, length-names_of keys, c.len.ensures.len, c.if-len-ge-MAX_OBJECTS.false)) in
+    let given = err_from_is_err_and c.from_residual-in_err-insert.result c.from_residual-in_err-insert.ensures.1 in
+    rw (given.1, given.2)
+    (fresh_is_taken keys (fields_of c.args.row.now) c.in-Some.name.now few (sym c.in-Some.ensures) (sym c.is_name.ensures ∙ c.if-not-is_name.false) (sym c.contains.ensures ∙ c.if-contains.false))

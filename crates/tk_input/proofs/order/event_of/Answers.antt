@@ -1,4 +1,4 @@
-use Rattle.std.proofs.Common.{sym, ◌∙◌, ap, ℕ, List, [], ◌∷◌, Option, Bor}
+use Rattle.std.proofs.Common.{◌∙◌, ap, ℕ, List, [], ◌∷◌, Option, Bor}
 use Rattle.std.specs.Option.{option_map_or}
 use Rattle.tk_input.specs.Order.{words}
 use Rattle.tk_input.proofs.LinesLemmas.{four_words}
@@ -8,9 +8,9 @@ abbrev after : (verb : List ℕ) → Option (Bor (List ℕ)) → List (List ℕ)
 after verb rest = verb ∷ option_map_or (λ r. words r.now) rest []
 
 -- a fourth word
-pub returns-in_default-more : goal.returns-in_default-more
-returns-in_default-more c =
-    sym (four_words c.args.line.now c.in_ok-rest.field-0.now c.in-Some.rest.now c.in_default-more.field-0.now _ _ _
+pub returns-in-Some-more : goal.returns-in-Some-more
+returns-in-Some-more c =
+    four_words c.args.line.now c.in_ok-rest.field-0.now c.in-Some.rest.now c.in-Some-more.field-0.now _ _ _
     (c.split_word.ensures ∙ ap (after c.split_word.result.0.now) c.in_ok-rest.was)
     (c.split_word-2.ensures ∙ ap (after c.split_word-2.result.0.now) c.in-Some.is)
-    (c.split_word-3.ensures ∙ ap (after c.split_word-3.result.0.now) c.in_default-more.is))
+    (c.split_word-3.ensures ∙ ap (after c.split_word-3.result.0.now) c.in-Some-more.is)

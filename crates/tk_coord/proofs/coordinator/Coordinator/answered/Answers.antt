@@ -2,18 +2,22 @@ use Rattle.std.proofs.Common.{◌≡◌, ℕ, List, Bool, false, true, not, leng
 use Rattle.std.specs.List.{All}
 use Rattle.tk_base.specs.Settings.{Setup}
 use Rattle.tk_rows.specs.Factors.{Grid}
-use Rattle.tk_journal.specs.Deciding.{short_decides}
+use Rattle.tk_journal.specs.Readings.{assigns_sent}
+use Rattle.tk_journal.specs.declared.turn.TurnKind.{TurnKind}
 use Rattle.tk_journal.specs.Entries.{IsEntryOf}
 use Rattle.tk_journal.specs.declared.noted.Noted.{Noted}
-use Rattle.tk_coord.specs.Dealing.{CanOpenFull, Ends, OpensOrEnds, OpensWide}
-use Rattle.tk_coord.specs.Steps.{Follows, report_frame}
+use Rattle.tk_coord.specs.Dealing.{CanOpenFull, OpensOrEnds, OpensWide}
+use Rattle.tk_coord.specs.Steps.{IsCounted, IsStep, asks_wide, report_frame}
 use Rattle.tk_coord.specs.declared.link.Link.{Link}
 use Rattle.tk_coord.specs.declared.standing.Standing.{Standing}
-use Rattle.tk_coord.specs.declared.step.Outcome.{Outcome}
-use Rattle.tk_coord.proofs.AnswerLemmas.{both_ok, deals, takes_part}
+use Rattle.tk_coord.specs.declared.step.Step.{Step}
+use Rattle.tk_coord.proofs.AnswerLemmas.{deals, takes_part}
+use Rattle.tk_coord.proofs.CountedTurns.{full_counts, short_counts, tired_counts}
 use Rattle.tk_coord.proofs.GroundLemmas.{IsGrounded, entries_of, force_large}
 use Rattle.tk_coord.proofs.OutcomesLemmas.{alone_can_end}
 use Rattle.tk_coord.proofs.ReportTurns.{IsAnswered, failed_once, open_follows, same_test, short_follows, tired_follows}
+use Rattle.tk_coord.proofs.GrowLemmas.{orderly_at}
+use Rattle.tk_coord.proofs.TellLemmas.{report_tells}
 use Rattle.tk_coord.proofs.coordinator.Coordinator.answered.Goals as goal
 
 -- as many links as monitors of the settings in force
@@ -56,14 +60,17 @@ returns-then-passes c = λ failed taken.
     let g = c.grounds-grounds.ensures in
     let grounded : IsGrounded s j r.members.now r.table.now r.links.now r.standing = record { journal = g.journal; named = g.members; dealt = g.table; linked = g.links; stands = g.standing } in
     let frame = report_frame j report failed in
-    both_ok (Ends r.table.now r.links.now r.standing (short_decides r.standing.settings r.table.now r.members.now report))
-    (λ (o : Outcome). All (IsEntryOf r.standing.settings.monitors s.objects) o.entries.items) (Follows s j report.mon frame)
-    c.end_short.result
-    (λ o ends all. short_follows s j r.members.now r.table.now r.links.now r.standing report failed o grounded
-    (record { range = record { from_one = c.requires.some_monitor; within = c.requires.monitor }; taken = taken; closed = c.requires.closed })
-    (same_test s j r.members.now r.table.now r.standing.settings report g.standing.settings g.table g.members ∙ sym c.passes.ensures ∙ c.if-passes.true) ends
-    (entries_of s j r.standing o.entries.items grounded.stands all))
-    c.end_short.ensures.ends (c.end_short.ensures.entries s.objects)
+    let o = c.in_ok-outcome.outcome in
+    let known : IsAnswered s j report failed = record { range = record { from_one = c.requires.some_monitor; within = c.requires.monitor }; taken = taken; closed = c.requires.closed } in
+    let test = same_test s j r.members.now r.table.now r.standing.settings report g.standing.settings g.table g.members ∙ sym c.passes.ensures ∙ c.if-passes.true in
+    let ends = c.in_ok-outcome.ensures.ends in
+    subst (λ (x : Step). IsStep s j report.mon frame x) (sym c.step.ensures) (record {
+      told = report_tells s j report.mon (assigns_sent report.mon.0 j) report.border failed report.values (orderly_at s j g.journal) taken refl;
+      outcome = short_follows s j r.members.now r.table.now r.links.now r.standing report failed o grounded known test ends
+          (entries_of s j r.standing o.entries.items grounded.stands (c.in_ok-outcome.ensures.entries s.objects));
+      counted = subst (λ (k : TurnKind). IsCounted s j report.mon.0 frame k false (asks_wide o.reply)) (sym c.short_kind-kind.ensures)
+          (short_counts s j r.members.now r.table.now r.links.now r.standing report failed o grounded known test ends);
+    })
 
 pub returns-then-is_tired : goal.returns-then-is_tired
 returns-then-is_tired c = λ failed taken.
@@ -74,15 +81,19 @@ returns-then-is_tired c = λ failed taken.
     let g = c.grounds-grounds.ensures in
     let grounded : IsGrounded s j r.members.now r.table.now r.links.now r.standing = record { journal = g.journal; named = g.members; dealt = g.table; linked = g.links; stands = g.standing } in
     let frame = report_frame j report failed in
+    let o = c.in_ok-outcome-2.outcome in
+    let known : IsAnswered s j report failed = record { range = record { from_one = c.requires.some_monitor; within = c.requires.monitor }; taken = taken; closed = c.requires.closed } in
     let fell = c.failed-standing.result in
     let is : fell ≡ failed_once r.standing = c.failed-standing.ensures in
-    both_ok (OpensWide fell) (λ (o : Outcome). All (IsEntryOf fell.settings.monitors s.objects) o.entries.items) (Follows s j report.mon frame) c.open_wide.result
-    (λ o opens all. tired_follows s j r.members.now r.table.now r.links.now r.standing report failed o grounded
-    (record { range = record { from_one = c.requires.some_monitor; within = c.requires.monitor }; taken = taken; closed = c.requires.closed })
-    (same_test s j r.members.now r.table.now r.standing.settings report g.standing.settings g.table g.members ∙ sym c.passes.ensures ∙ c.if-passes.false)
-    (not_true (nat_lt r.standing.streak 8) c.is_tired.result c.is_tired.ensures c.if-is_tired.true) (subst (λ (t : Standing). OpensWide t o) is opens)
-    (entries_of s j r.standing o.entries.items grounded.stands (subst (λ (t : Standing). All (IsEntryOf t.settings.monitors s.objects) o.entries.items) is all)))
-    c.open_wide.ensures.opens (c.open_wide.ensures.entries s.objects)
+    let test = same_test s j r.members.now r.table.now r.standing.settings report g.standing.settings g.table g.members ∙ sym c.passes.ensures ∙ c.if-passes.false in
+    let many = not_true (nat_lt r.standing.streak 8) c.is_tired.result c.is_tired.ensures c.if-is_tired.true in
+    let opens : OpensWide (failed_once r.standing) o = subst (λ (t : Standing). OpensWide t o) is c.in_ok-outcome-2.ensures.opens in
+    subst (λ (x : Step). IsStep s j report.mon frame x) (sym c.step-then-is_tired.ensures) (record {
+      told = report_tells s j report.mon (assigns_sent report.mon.0 j) report.border failed report.values (orderly_at s j g.journal) taken refl;
+      outcome = tired_follows s j r.members.now r.table.now r.links.now r.standing report failed o grounded known test many opens
+          (entries_of s j r.standing o.entries.items grounded.stands (subst (λ (t : Standing). All (IsEntryOf t.settings.monitors s.objects) o.entries.items) is (c.in_ok-outcome-2.ensures.entries s.objects)));
+      counted = tired_counts s j r.members.now r.table.now r.links.now r.standing report failed o grounded known test many opens;
+    })
 
 pub open_full-requires-clause-can : goal.open_full-requires-clause-can
 open_full-requires-clause-can c =
@@ -111,13 +122,17 @@ returns c = λ failed taken.
     let g = c.grounds-grounds.ensures in
     let grounded : IsGrounded s j r.members.now r.table.now r.links.now r.standing = record { journal = g.journal; named = g.members; dealt = g.table; linked = g.links; stands = g.standing } in
     let frame = report_frame j report failed in
+    let o = c.in_ok-outcome-3.outcome in
+    let known : IsAnswered s j report failed = record { range = record { from_one = c.requires.some_monitor; within = c.requires.monitor }; taken = taken; closed = c.requires.closed } in
     let fell = c.failed-standing.result in
     let is : fell ≡ failed_once r.standing = c.failed-standing.ensures in
-    both_ok (OpensOrEnds r.table.now r.links.now fell r.members.now report) (λ (o : Outcome). All (IsEntryOf fell.settings.monitors s.objects) o.entries.items)
-    (Follows s j report.mon frame) c.open_full.result
-    (λ o opens all. open_follows s j r.members.now r.table.now r.links.now r.standing report failed o grounded
-    (record { range = record { from_one = c.requires.some_monitor; within = c.requires.monitor }; taken = taken; closed = c.requires.closed })
-    (same_test s j r.members.now r.table.now r.standing.settings report g.standing.settings g.table g.members ∙ sym c.passes.ensures ∙ c.if-passes.false)
-    (not_false (nat_lt r.standing.streak 8) c.is_tired.result c.is_tired.ensures c.if-is_tired.false) (subst (λ (t : Standing). OpensOrEnds r.table.now r.links.now t r.members.now report o) is opens)
-    (entries_of s j r.standing o.entries.items grounded.stands (subst (λ (t : Standing). All (IsEntryOf t.settings.monitors s.objects) o.entries.items) is all)))
-    c.open_full.ensures.opens (c.open_full.ensures.entries s.objects)
+    let test = same_test s j r.members.now r.table.now r.standing.settings report g.standing.settings g.table g.members ∙ sym c.passes.ensures ∙ c.if-passes.false in
+    let few = not_false (nat_lt r.standing.streak 8) c.is_tired.result c.is_tired.ensures c.if-is_tired.false in
+    let opens : OpensOrEnds r.table.now r.links.now (failed_once r.standing) r.members.now report o =
+    subst (λ (t : Standing). OpensOrEnds r.table.now r.links.now t r.members.now report o) is c.in_ok-outcome-3.ensures.opens in
+    subst (λ (x : Step). IsStep s j report.mon frame x) (sym c.step-2.ensures) (record {
+      told = report_tells s j report.mon (assigns_sent report.mon.0 j) report.border failed report.values (orderly_at s j g.journal) taken refl;
+      outcome = open_follows s j r.members.now r.table.now r.links.now r.standing report failed o grounded known test few opens
+          (entries_of s j r.standing o.entries.items grounded.stands (subst (λ (t : Standing). All (IsEntryOf t.settings.monitors s.objects) o.entries.items) is (c.in_ok-outcome-3.ensures.entries s.objects)));
+      counted = full_counts s j r.members.now r.table.now r.links.now r.standing report failed o grounded known test few opens;
+    })

@@ -12,6 +12,7 @@ use Rattle.tk_coord.specs.Ranking.{ranks_of}
 use Rattle.tk_coord.specs.declared.state.State.{State}
 use Rattle.tk_coord.proofs.BegunLemmas.{begun_chosen, begun_entries, begun_holds, begun_journal, begun_rows, begun_stands}
 use Rattle.tk_coord.proofs.NotedLemmas.{written_back, all_targets}
+use Rattle.tk_coord.proofs.TurnsLemmas.{begun_turns}
 use Rattle.tk_coord.proofs.coordinator.Coordinator.begin.Goals as goal
 
 pub note_from-requires-clause-sent : goal.note_from-requires-clause-sent
@@ -70,4 +71,5 @@ invariant_of-result c =
             sets = subst (λ (l : List Noted). IsIndex published_in l c.note_from.new.published.items) c.as_slice.ensures.value c.note_from.ensures.published;
           }),
       c.in_ok-ranks.ensures ∙ sym (ap₂ ranks_of c.table.view_is c.members.view_is),
+      c.new-turns.ensures.items ∙ begun_turns s members table journal begins,
     )

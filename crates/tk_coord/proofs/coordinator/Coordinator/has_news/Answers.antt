@@ -3,8 +3,8 @@ use Rattle.std.proofs.lemmas.Option.{slice_get_within}
 use Rattle.tk_base.specs.Settings.{Setup}
 use Rattle.tk_journal.specs.Publishing.{differs, publications}
 use Rattle.tk_journal.specs.Readings.{in_force, members_at}
-use Rattle.tk_journal.specs.Walks.{last_of}
-use Rattle.tk_coord.specs.Coordinator.{Seen}
+use Rattle.tk_base.specs.History.{last_of}
+use Rattle.tk_coord.specs.Coordinator.{CoordinatorView}
 use Rattle.tk_coord.proofs.SettledTurns.{news_is}
 use Rattle.tk_coord.proofs.coordinator.Coordinator.has_news.Goals as goal
 
@@ -12,8 +12,8 @@ pub returns-in_default : goal.returns-in_default
 returns-in_default c =
     let f = c.self.inside in
     let now = c.args.self.now in
-    let force = subst (λ (v : Seen). f.standing.settings ≡ in_force v.settings v.journal) c.self.view_is c.self.invariant.2.settings in
-    let named = subst (λ (v : Seen). f.state.members ≡ members_at v.journal) c.self.view_is c.self.invariant.1.members in
+    let force = subst (λ (v : CoordinatorView). f.standing.settings ≡ in_force v.settings v.journal) c.self.view_is c.self.invariant.2.settings in
+    let named = subst (λ (v : CoordinatorView). f.state.members ≡ members_at v.journal) c.self.view_is c.self.invariant.1.members in
     let there = slice_get_within (publications now.journal) (c.published.result - 1) c.publication-last.result.now c.publication-last.ensures in
     let count = c.published.ensures in
     let some : 0 < c.published.result = omega (arith, there, count) in

@@ -1,7 +1,7 @@
 use Rattle.std.proofs.Common.{◌≤◌, ap, sym, ◌∙◌, subst}
 use Rattle.tk_journal.specs.Refusal.{known_by}
 use Rattle.tk_coord.specs.Checks.{IsKnown}
-use Rattle.tk_coord.specs.Coordinator.{Seen}
+use Rattle.tk_coord.specs.Coordinator.{CoordinatorView}
 use Rattle.tk_coord.proofs.ShownLemmas.{known_fits, known_is}
 use Rattle.tk_coord.proofs.coordinator.Coordinator.known.Goals as goal
 
@@ -9,11 +9,11 @@ pub returns-clause-value : goal.returns-clause-value
 returns-clause-value c =
     let f = c.self.inside in
     known_is f.settings f.journal.items c.args.mon.0 c.objects.result _ _ c.objects.ensures.value c.self.invariant.1.members c.self.invariant.1.table
-    ∙ ap (λ (v : Seen). known_by v.settings c.args.mon.0 v.journal) c.self.view_is
+    ∙ ap (λ (v : CoordinatorView). known_by v.settings c.args.mon.0 v.journal) c.self.view_is
 
 pub returns-clause-known : goal.returns-clause-known
 returns-clause-known c =
     let f = c.self.inside in
-    let high = subst (λ (v : Seen). c.args.mon.0 ≤ v.settings.monitors) (sym c.self.view_is) c.requires.monitor in
+    let high = subst (λ (v : CoordinatorView). c.args.mon.0 ≤ v.settings.monitors) (sym c.self.view_is) c.requires.monitor in
     subst IsKnown (sym (known_is f.settings f.journal.items c.args.mon.0 c.objects.result _ _ c.objects.ensures.value c.self.invariant.1.members c.self.invariant.1.table))
     (known_fits f.settings f.journal.items c.args.mon.0 c.self.invariant.0 (record { from_one = c.requires.some_monitor; within = high }))

@@ -1,7 +1,7 @@
 use Rattle.std.proofs.Common.{◌≡◌, ◌∙◌, sym, subst, ap}
 use Rattle.tk_base.specs.Objects.{objects}
 use Rattle.tk_journal.specs.Legal.{IsLegal, opened, start}
-use Rattle.tk_coord.specs.Coordinator.{Seen}
+use Rattle.tk_coord.specs.Coordinator.{CoordinatorView}
 use Rattle.tk_coord.proofs.BatchLemmas.{opened_legal}
 use Rattle.tk_coord.proofs.BeginLemmas.{begins_at_start, begun_at_start}
 use Rattle.tk_coord.proofs.BegunLemmas.{begun_so}
@@ -24,7 +24,7 @@ returns-clause-journal c =
     let s = c.args.settings in
     let members = c.in_ok-members.members in
     let named : members ≡ objects s.k = c.in_ok-members.ensures ∙ ap objects c.k.ensures.value in
-    begun_so c.begin.result _ (λ (x : Seen). x.journal ≡ opened (start s)) c.begin.ensures
+    begun_so c.begin.result _ (λ (x : CoordinatorView). x.journal ≡ opened (start s)) c.begin.ensures
     (begun_at_start s members c.in_ok-journal.journal.items c.monitors-monitors.result named c.in_ok-journal.ensures.value c.monitors-monitors.ensures.value)
 
 pub returns-clause-legal : goal.returns-clause-legal
@@ -32,12 +32,7 @@ returns-clause-legal c =
     let s = c.args.settings in
     let members = c.in_ok-members.members in
     let named : members ≡ objects s.k = c.in_ok-members.ensures ∙ ap objects c.k.ensures.value in
-    begun_so c.begin.result _ (λ (x : Seen). IsLegal (start s) x.journal) c.begin.ensures
+    begun_so c.begin.result _ (λ (x : CoordinatorView). IsLegal (start s) x.journal) c.begin.ensures
     (subst (IsLegal (start s))
     (sym (begun_at_start s members c.in_ok-journal.journal.items c.monitors-monitors.result named c.in_ok-journal.ensures.value c.monitors-monitors.ensures.value))
     (opened_legal (start s)))
-
-pub returns-clause-members : goal.returns-clause-members
-returns-clause-members c =
-    let named = c.in_ok-members.ensures ∙ ap objects c.k.ensures.value in
-    begun_so c.begin.result _ (λ (x : Seen). x.members ≡ objects c.args.settings.k) c.begin.ensures named

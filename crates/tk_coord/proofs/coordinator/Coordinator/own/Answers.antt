@@ -4,23 +4,23 @@ use Rattle.std.proofs.lemmas.Int.{ints, to_z-of_z}
 use Rattle.tk_rows.specs.Factors.{Grid}
 use Rattle.tk_journal.specs.Readings.{own}
 use Rattle.tk_journal.proofs.Tables.{rows_count}
-use Rattle.tk_coord.specs.Coordinator.{Seen}
+use Rattle.tk_coord.specs.Coordinator.{CoordinatorView}
 use Rattle.tk_coord.proofs.ShownLemmas.{own_of}
 use Rattle.tk_coord.proofs.coordinator.Coordinator.own.Goals as goal
 
 pub own-requires-clause-within : goal.own-requires-clause-within
 own-requires-clause-within c =
     let f = c.self.inside in
-    let high = subst (λ (v : Seen). c.args.o.0 ≤ v.settings.objects) (sym c.self.view_is) c.requires.within in
+    let high = subst (λ (v : CoordinatorView). c.args.o.0 ≤ v.settings.objects) (sym c.self.view_is) c.requires.within in
     let size : length f.state.table.rows ≡ f.settings.objects = ap (λ (g : Grid). length g.rows) c.self.invariant.1.table ∙ rows_count f.settings f.journal.items in
     omega (arith, high, size)
 
 pub returns : goal.returns
 returns c =
     let f = c.self.inside in
-    let high = subst (λ (v : Seen). c.args.o.0 ≤ v.settings.objects) (sym c.self.view_is) c.requires.within in
+    let high = subst (λ (v : CoordinatorView). c.args.o.0 ≤ v.settings.objects) (sym c.self.view_is) c.requires.within in
     let small = c.own.ensures.size in
     let fits : FitsSigned w128 c.own.result = omega (arith, ints, small) in
     to_z-of_z w128 c.own.result fits
     ∙ own_of f.settings f.journal.items f.state.table c.args.o.0 c.own.result c.self.invariant.1.table (record { from_one = c.requires.some; within = high }) c.own.ensures.value
-    ∙ ap (λ (v : Seen). own v.settings v.journal c.args.o.0) c.self.view_is
+    ∙ ap (λ (v : CoordinatorView). own v.settings v.journal c.args.o.0) c.self.view_is

@@ -7,7 +7,7 @@ use Rattle.tk_journal.specs.declared.noted.Noted.TheVariants as n
 use Rattle.tk_journal.specs.declared.publication.Publication.{Publication}
 use Rattle.tk_journal.specs.Publishing.{published_in, publications}
 use Rattle.tk_coord.specs.Index.{IsIndex}
-use Rattle.tk_coord.specs.Coordinator.{Seen}
+use Rattle.tk_coord.specs.Coordinator.{CoordinatorView}
 use Rattle.tk_coord.proofs.IndexLemmas.{index_reads}
 use Rattle.tk_coord.proofs.coordinator.Coordinator.publication.Goals as goal
 
@@ -32,21 +32,21 @@ read_at journal places i place at within here =
 pub index-requires-2 : goal.index-requires-2
 index-requires-2 c =
     let f = c.self.inside in
-    let inside : c.args.i < length (publications f.journal.items) = subst (λ (s : Seen). c.args.i < length (publications s.journal)) (sym c.self.view_is) c.requires in
+    let inside : c.args.i < length (publications f.journal.items) = subst (λ (s : CoordinatorView). c.args.i < length (publications s.journal)) (sym c.self.view_is) c.requires in
     let (e, p, there, is, found) = read_at f.journal.items f.index.published.items c.args.i c.index.result.now c.self.invariant.3.sets inside c.index.ensures in
     omega (arith, slice_get_within f.journal.items c.index.result.now e there)
 
 pub unreachable-requires : goal.unreachable-requires
 unreachable-requires c =
     let f = c.self.inside in
-    let inside : c.args.i < length (publications f.journal.items) = subst (λ (s : Seen). c.args.i < length (publications s.journal)) (sym c.self.view_is) c.requires in
+    let inside : c.args.i < length (publications f.journal.items) = subst (λ (s : CoordinatorView). c.args.i < length (publications s.journal)) (sym c.self.view_is) c.requires in
     let (e, p, there, is, found) = read_at f.journal.items f.index.published.items c.args.i c.index.result.now c.self.invariant.3.sets inside c.index.ensures in
     c.in_default.not-Published p (c.index-2.ensures ∙ get_or_from_slice_get f.journal.items c.index.result.now e c.index-2.result.now there ∙ is)
 
 pub returns : goal.returns
 returns c =
     let f = c.self.inside in
-    let inside : c.args.i < length (publications f.journal.items) = subst (λ (s : Seen). c.args.i < length (publications s.journal)) (sym c.self.view_is) c.requires in
+    let inside : c.args.i < length (publications f.journal.items) = subst (λ (s : CoordinatorView). c.args.i < length (publications s.journal)) (sym c.self.view_is) c.requires in
     let (e, p, there, is, found) = read_at f.journal.items f.index.published.items c.args.i c.index.result.now c.self.invariant.3.sets inside c.index.ensures in
     let same : n.Published c.in-Published.publication ≡ n.Published p =
     sym c.in-Published.is ∙ c.index-2.ensures ∙ get_or_from_slice_get f.journal.items c.index.result.now e c.index-2.result.now there ∙ is in

@@ -1,25 +1,25 @@
-use Rattle.std.proofs.Common.{FitsSigned, ◌≡◌, ◌+◌, ℕ, true, false, pos, IfErr, OnOk, List, ◌∷◌, ◌++◌, None, Some, Result, Ok, Err, inr, sym, ap, ◌∙◌, subst, arith}
+use Rattle.std.proofs.Common.{FitsSigned, ◌≡◌, ◌+◌, ℕ, true, false, pos, IfErr, OnOk, List, [], ◌∷◌, ◌++◌, Result, Ok, Err, inl, inr, refl, sym, ap, ap₂, ◌∙◌, subst, arith}
 use Rattle.std.specs.Int.{w128}
 use Rattle.std.specs.List.{All}
 use Rattle.std.specs.Result.{is_err}
 use Rattle.std.proofs.lemmas.Int.{ints, to_z-of_z}
 use Rattle.std.proofs.lemmas.Result.{err_from_is_err_and}
 use Rattle.tk_journal.specs.Legal.{IsLegal, turn_of}
-use Rattle.tk_journal.specs.Readings.{is_open, is_stopped}
-use Rattle.tk_journal.specs.Refusal.{retune_refusal_of}
 use Rattle.tk_journal.specs.Turns.{rounds, wide_collects}
 use Rattle.tk_journal.specs.declared.noted.Noted.{Noted}
 use Rattle.tk_journal.specs.declared.noted.Noted.TheVariants.{Tuned}
-use Rattle.tk_journal.specs.declared.refusal.RetuneRefusal.TheVariants.{AfterStop, RoundOpen}
-use Rattle.tk_coord.specs.Coordinator.{Seen, IsJournal}
+use Rattle.tk_coord.specs.Coordinator.{CoordinatorView, IsJournal}
 use Rattle.tk_coord.specs.Index.{IsForOneOf}
 use Rattle.tk_coord.specs.State.{Holds, Stands}
-use Rattle.tk_coord.specs.Steps.{retuned_to}
 use Rattle.tk_coord.specs.declared.standing.Standing.{Standing}
 use Rattle.tk_coord.proofs.GroundLemmas.{entries_of}
 use Rattle.tk_coord.proofs.GrowLemmas.{journal_retuned, legal_by_retune}
 use Rattle.tk_coord.proofs.NotedLemmas.{all_targets, noted_after, noted_same}
-use Rattle.tk_coord.proofs.RetuneTurns.{IsRetuned, none_refuses, open_refuses, past_refuses, retuned_holds, retuned_stands, stopped_refuses, tuned_entry, tuned_is_asked, tuned_turn}
+use Rattle.tk_coord.proofs.RetuneTurns.{retuned_holds, retuned_stands, tuned_entry, tuned_is_asked, tuned_turn}
+use Rattle.tk_journal.specs.Kinds.{turns_of}
+use Rattle.tk_journal.specs.declared.turn.Turn.{Turn}
+use Rattle.tk_coord.specs.Steps.{IsRetuned}
+use Rattle.tk_coord.proofs.TurnsLemmas.{turns_retuned}
 use Rattle.tk_coord.proofs.coordinator.Coordinator.retune.Goals as goal
 
 -- ---- what was noted, or not
@@ -36,32 +36,16 @@ on_err (Err e) Q some q = (e, q)
 
 -- ---- the refusals
 
-pub returns-then-self-clause-refused : goal.returns-then-self-clause-refused
-returns-then-self-clause-refused c =
-    let f = c.self.inside in
-    let stopped : is_stopped f.journal.items ≡ true = sym c.self.invariant.2.stopped ∙ c.if-self.true in
-    inr (subst (λ (v : Seen). retune_refusal_of v.settings v.journal c.args.k c.args.epsilon ≡ Some AfterStop) c.self.view_is
-    (stopped_refuses f.settings f.journal.items c.args.k c.args.epsilon stopped))
-
-pub returns-then-self-2-clause-refused : goal.returns-then-self-2-clause-refused
-returns-then-self-2-clause-refused c =
-    let f = c.self.inside in
-    let going : is_stopped f.journal.items ≡ false = sym c.self.invariant.2.stopped ∙ c.if-self.false in
-    let opened' : is_open f.settings f.journal.items ≡ true = sym c.self.invariant.1.round.waiting ∙ c.if-self-2.true in
-    inr (subst (λ (v : Seen). retune_refusal_of v.settings v.journal c.args.k c.args.epsilon ≡ Some RoundOpen) c.self.view_is
-    (open_refuses f.settings f.journal.items c.args.k c.args.epsilon going opened'))
-
 pub returns-in_err-next-clause-refused : goal.returns-in_err-next-clause-refused
 returns-in_err-next-clause-refused c =
-    let f = c.self.inside in
-    let going : is_stopped f.journal.items ≡ false = sym c.self.invariant.2.stopped ∙ c.if-self.false in
-    let closed : is_open f.settings f.journal.items ≡ false = sym c.self.invariant.1.round.waiting ∙ c.if-self-2.false in
-    let r = c.in_err-next.field-0.0 in
-    let is : retuned_to f.settings c.args.k c.args.epsilon ≡ Err r = sym c.retuned.ensures ∙ c.in_err-next.was in
-    let refused = subst (λ (v : Seen). retune_refusal_of v.settings v.journal c.args.k c.args.epsilon ≡ Some r) c.self.view_is
-    (past_refuses f.settings f.journal.items c.args.k c.args.epsilon r going closed is) in
     let p = err_from_is_err_and c.from_residual.result c.from_residual.ensures.1 in
-    rw (p.1, p.2) (inr refused)
+    rw (p.1, p.2) (inr c.in_err-next.ensures.refused)
+
+pub returns-in_default-clause-refused : goal.returns-in_default-clause-refused
+returns-in_default-clause-refused c = inl (refl, c.in_ok-next.ensures.ok.accepted)
+
+pub returns-then-is_err-clause-refused : goal.returns-then-is_err-clause-refused
+returns-then-is_err-clause-refused c = inl (refl, c.in_ok-next.ensures.ok.accepted)
 
 -- ---- the room
 
@@ -98,22 +82,21 @@ invariant_of-self c =
       noted_same f.settings f.journal.items journal f.index.sent.items c.note_turn.new.index.sent.items f.index.published.items c.note_turn.new.index.published.items
           c.self.invariant.3 same (sym c.note_turn.new.index.sent.ok.0 ∙ c.note_turn.ensures.monitors ∙ f.index.sent.ok.0) c.note_turn.ensures.sent c.note_turn.ensures.published,
       c.self.invariant.4,
+      c.note_turn.ensures.turns ∙ c.self.invariant.5 ∙ ap (turns_of f.settings) (sym same),
     )
 
 pub returns-then-is_err-clause-legal : goal.returns-then-is_err-clause-legal
-returns-then-is_err-clause-legal c = λ o is legal. subst (IsLegal o) (sym (same_of c ∙ ap (λ (v : Seen). v.journal) c.self.view_is)) legal
+returns-then-is_err-clause-legal c = λ o is legal. subst (IsLegal o) (sym (same_of c ∙ ap (λ (v : CoordinatorView). v.journal) c.self.view_is)) legal
 
 -- ---- the turn
 
 -- it is not refused
-retuned_of : (c : goal.After-self-1) → IsRetuned c.self.inside.settings c.self.inside.journal.items c.args.k c.args.epsilon c.in_ok-next.next
+retuned_of : (c : goal.After-push_reserved) → IsRetuned c.self.inside.settings c.self.inside.journal.items c.args.k c.args.epsilon c.in_ok-next.next
 retuned_of c =
-    let f = c.self.inside in
-    none_refuses f.settings f.journal.items c.args.k c.args.epsilon c.in_ok-next.next (sym c.self.invariant.2.stopped ∙ c.if-self.false) (sym c.self.invariant.1.round.waiting ∙ c.if-self-2.false)
-    (sym c.retuned.ensures ∙ c.in_ok-next.was)
+    subst (λ (v : CoordinatorView). IsRetuned v.settings v.journal c.args.k c.args.epsilon c.in_ok-next.next) (sym c.self.view_is) c.in_ok-next.ensures.ok
 
 -- the entry that was noted
-entry_of : (c : goal.After-self-1) → Tuned c.k.result c.in-Ok-Ok.kept ≡ Tuned c.args.k (pos c.args.epsilon)
+entry_of : (c : goal.After-push_reserved) → Tuned c.k.result c.in-Ok-Ok.kept ≡ Tuned c.args.k (pos c.args.epsilon)
 entry_of c =
     let f = c.self.inside in
     let limits = c.epsilon.ensures.limits in
@@ -125,17 +108,17 @@ entry_of c =
     (c.in-Ok-Ok.ensures' ∙ to_z-of_z w128 c.epsilon.result fits ∙ is)
 
 -- the Collects that follow it
-asked_of : (c : goal.After-self-1) → c.in-Ok-Ok.outcome.entries.items ≡ wide_collects c.self.inside.settings (rounds c.self.inside.settings c.self.inside.journal.items + 1)
+asked_of : (c : goal.After-push_reserved) → c.in-Ok-Ok.outcome.entries.items ≡ wide_collects c.self.inside.settings (rounds c.self.inside.settings c.self.inside.journal.items + 1)
 asked_of c =
     let f = c.self.inside in
     (tuned_is_asked f.settings f.journal.items c.args.k c.args.epsilon f.standing c.in_ok-next.next c.in-Ok-Ok.outcome c.self.invariant.0 c.self.invariant.2 (retuned_of c) c.in-Ok-Ok.ensures.opens).0
 
 -- the journal with the entry and the Collects
-noted_of : (c : goal.After-self-1) → c.note_turn.new.journal.items ≡ c.self.inside.journal.items ++ Tuned c.k.result c.in-Ok-Ok.kept ∷ c.in-Ok-Ok.outcome.entries.items
+noted_of : (c : goal.After-push_reserved) → c.note_turn.new.journal.items ≡ c.self.inside.journal.items ++ Tuned c.k.result c.in-Ok-Ok.kept ∷ c.in-Ok-Ok.outcome.entries.items
 noted_of c = on_ok c.note_turn.result (sym c.is_err.ensures.value ∙ c.if-is_err.false) c.note_turn.ensures.ok
 
 -- it is the journal with the turn of the retune
-turn_is : (c : goal.After-self-1)
+turn_is : (c : goal.After-push_reserved)
     → c.note_turn.new.journal.items ≡ c.self.inside.journal.items ++ turn_of c.self.inside.settings c.self.inside.journal.items (Tuned c.args.k (pos c.args.epsilon))
 turn_is c =
     let f = c.self.inside in
@@ -154,10 +137,12 @@ invariant_of-self-2 c =
     let next = c.in_ok-next.next in
     let r = retuned_of c in
     let asked = tuned_is_asked s j k e f.standing next outcome c.self.invariant.0 c.self.invariant.2 r c.in-Ok-Ok.ensures.opens in
-    let turn = turn_is c in (
+    let turn = turn_is c in
+    let after = c.note_turn.new.journal.items in
+    let holds : Holds s after c.reply.new.self = subst (λ (b : List Noted). Holds s b c.reply.new.self) (sym turn)
+    (retuned_holds s j outcome.entries.items k e f.state c.reply.new.self outcome.reply asked.0 asked.1 c.self.invariant.1 c.reply.ensures.holds) in (
       subst (IsJournal s) (sym turn) (journal_retuned s j k e c.self.invariant.0 r.accepted),
-      subst (λ (b : List Noted). Holds s b c.reply.new.self) (sym turn)
-          (retuned_holds s j outcome.entries.items k e f.state c.reply.new.self outcome.reply asked.0 asked.1 c.self.invariant.1 c.reply.ensures.holds),
+      holds,
       subst (λ (b : List Noted). Stands s b (record outcome.standing { next = next })) (sym turn)
           (subst (λ (x : Standing). Stands s (j ++ turn_of s j (Tuned k (pos e))) (record x { next = next })) (sym c.in-Ok-Ok.ensures.opens.holds)
           (retuned_stands s j k e f.standing next c.self.invariant.0 c.self.invariant.2 r)),
@@ -166,18 +151,20 @@ invariant_of-self-2 c =
           c.self.invariant.3 tt (entries_of s j f.standing outcome.entries.items c.self.invariant.2 (c.in-Ok-Ok.ensures.entries s.objects)) (noted_of c)
           (sym c.note_turn.new.index.sent.ok.0 ∙ c.note_turn.ensures.monitors ∙ f.index.sent.ok.0) c.note_turn.ensures.sent c.note_turn.ensures.published,
       c.reply.ensures.ranks c.self.invariant.4,
+      turns_retuned s j after k e c.is_calm-calm.result f.turns.items _ r.accepted turn (c.is_calm-calm.ensures s after holds) c.self.invariant.5
+          (c.push_reserved.ensures.items ∙ ap₂ (λ (xs : List Turn) (t : Turn). xs ++ t ∷ []) c.note_turn.ensures.turns c.retune_turn.ensures),
     )
 
 pub returns-clause-ok : goal.returns-clause-ok
-returns-clause-ok c = subst (λ (v : Seen). retune_refusal_of v.settings v.journal c.args.k c.args.epsilon ≡ None) c.self.view_is (retuned_of c).accepted
+returns-clause-ok c = c.in_ok-next.ensures.ok.accepted
 
 pub returns-clause-turn : goal.returns-clause-turn
 returns-clause-turn c =
-    turn_is c ∙ ap (λ (v : Seen). v.journal ++ turn_of v.settings v.journal (Tuned c.args.k (pos c.args.epsilon))) c.self.view_is
+    turn_is c ∙ ap (λ (v : CoordinatorView). v.journal ++ turn_of v.settings v.journal (Tuned c.args.k (pos c.args.epsilon))) c.self.view_is
 
 pub returns-clause-legal : goal.returns-clause-legal
 returns-clause-legal c = λ o is legal.
     let f = c.self.inside in
     subst (IsLegal o) (sym (turn_is c))
     (legal_by_retune f.settings o f.journal.items c.args.k c.args.epsilon
-    (is ∙ ap (λ (v : Seen). v.settings) (sym c.self.view_is)) (subst (λ (v : Seen). IsLegal o v.journal) (sym c.self.view_is) legal) (retuned_of c).accepted)
+    (is ∙ ap (λ (v : CoordinatorView). v.settings) (sym c.self.view_is)) (subst (λ (v : CoordinatorView). IsLegal o v.journal) (sym c.self.view_is) legal) (retuned_of c).accepted)

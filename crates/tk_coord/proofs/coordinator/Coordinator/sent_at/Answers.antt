@@ -9,7 +9,7 @@ use Rattle.tk_journal.specs.declared.noted.Noted.{Noted}
 use Rattle.tk_journal.specs.declared.noted.Noted.TheVariants as n
 use Rattle.tk_journal.specs.Links.{sent_to, frames_to}
 use Rattle.tk_coord.specs.Index.{IsIndex, AreIndexed}
-use Rattle.tk_coord.specs.Coordinator.{Seen}
+use Rattle.tk_coord.specs.Coordinator.{CoordinatorView}
 use Rattle.tk_coord.proofs.IndexLemmas.{index_reads}
 use Rattle.tk_coord.proofs.coordinator.Coordinator.sent_at.Goals as goal
 
@@ -40,8 +40,8 @@ read_at journal sent mon i place v some high at within list here =
 pub index-requires-3 : goal.index-requires-3
 index-requires-3 c =
     let f = c.self.inside in
-    let high : c.args.mon.0 ≤ length f.index.sent.items = omega (arith, c.self.invariant.3.list_count, ap (λ (s : Seen). s.settings.monitors) c.self.view_is) in
-    let inside : c.args.i < length (frames_to c.args.mon.0 f.journal.items) = subst (λ (s : Seen). c.args.i < length (frames_to c.args.mon.0 s.journal)) (sym c.self.view_is) c.requires.within in
+    let high : c.args.mon.0 ≤ length f.index.sent.items = omega (arith, c.self.invariant.3.list_count, ap (λ (s : CoordinatorView). s.settings.monitors) c.self.view_is) in
+    let inside : c.args.i < length (frames_to c.args.mon.0 f.journal.items) = subst (λ (s : CoordinatorView). c.args.i < length (frames_to c.args.mon.0 s.journal)) (sym c.self.view_is) c.requires.within in
     let (e, g, m, there, is, found) =
     read_at f.journal.items f.index.sent.items c.args.mon.0 c.args.i c.index-2.result.now c.index.result.now
     c.requires.some_monitor high c.self.invariant.3.frames inside c.index.ensures c.index-2.ensures in
@@ -50,8 +50,8 @@ index-requires-3 c =
 pub unreachable-requires : goal.unreachable-requires
 unreachable-requires c =
     let f = c.self.inside in
-    let high : c.args.mon.0 ≤ length f.index.sent.items = omega (arith, c.self.invariant.3.list_count, ap (λ (s : Seen). s.settings.monitors) c.self.view_is) in
-    let inside : c.args.i < length (frames_to c.args.mon.0 f.journal.items) = subst (λ (s : Seen). c.args.i < length (frames_to c.args.mon.0 s.journal)) (sym c.self.view_is) c.requires.within in
+    let high : c.args.mon.0 ≤ length f.index.sent.items = omega (arith, c.self.invariant.3.list_count, ap (λ (s : CoordinatorView). s.settings.monitors) c.self.view_is) in
+    let inside : c.args.i < length (frames_to c.args.mon.0 f.journal.items) = subst (λ (s : CoordinatorView). c.args.i < length (frames_to c.args.mon.0 s.journal)) (sym c.self.view_is) c.requires.within in
     let (e, g, m, there, is, found) =
     read_at f.journal.items f.index.sent.items c.args.mon.0 c.args.i c.index-2.result.now c.index.result.now
     c.requires.some_monitor high c.self.invariant.3.frames inside c.index.ensures c.index-2.ensures in
@@ -60,8 +60,8 @@ unreachable-requires c =
 pub returns : goal.returns
 returns c =
     let f = c.self.inside in
-    let high : c.args.mon.0 ≤ length f.index.sent.items = omega (arith, c.self.invariant.3.list_count, ap (λ (s : Seen). s.settings.monitors) c.self.view_is) in
-    let inside : c.args.i < length (frames_to c.args.mon.0 f.journal.items) = subst (λ (s : Seen). c.args.i < length (frames_to c.args.mon.0 s.journal)) (sym c.self.view_is) c.requires.within in
+    let high : c.args.mon.0 ≤ length f.index.sent.items = omega (arith, c.self.invariant.3.list_count, ap (λ (s : CoordinatorView). s.settings.monitors) c.self.view_is) in
+    let inside : c.args.i < length (frames_to c.args.mon.0 f.journal.items) = subst (λ (s : CoordinatorView). c.args.i < length (frames_to c.args.mon.0 s.journal)) (sym c.self.view_is) c.requires.within in
     let (e, g, m, there, is, found) =
     read_at f.journal.items f.index.sent.items c.args.mon.0 c.args.i c.index-2.result.now c.index.result.now
     c.requires.some_monitor high c.self.invariant.3.frames inside c.index.ensures c.index-2.ensures in

@@ -1,7 +1,7 @@
 use Rattle.std.proofs.Common.{◌≡◌, ◌≤◌, ◌-◌, suc, length, refl, ap, sym, ◌∙◌, subst, arith}
 use Rattle.std.proofs.lemmas.Option.{slice_get_read}
 use Rattle.tk_journal.specs.Refusal.{shown_by}
-use Rattle.tk_coord.specs.Coordinator.{Seen}
+use Rattle.tk_coord.specs.Coordinator.{CoordinatorView}
 use Rattle.tk_coord.specs.State.{link_at}
 use Rattle.tk_coord.proofs.ShownLemmas.{shown_is}
 use Rattle.tk_coord.proofs.coordinator.Coordinator.shown.Goals as goal
@@ -10,7 +10,7 @@ pub returns : goal.returns
 returns c =
     let f = c.self.inside in
     let mon = c.args.mon.0 in
-    let high = subst (λ (v : Seen). mon ≤ v.settings.monitors) (sym c.self.view_is) c.requires.monitor in
+    let high = subst (λ (v : CoordinatorView). mon ≤ v.settings.monitors) (sym c.self.view_is) c.requires.monitor in
     let links = c.self.invariant.1.links in
     let number : suc (mon - 1) ≡ mon = omega (arith, c.requires.some_monitor) in
     let there = slice_get_read f.state.links.items (length f.state.links.items) (mon - 1) c.index-link.result.now refl
@@ -19,4 +19,4 @@ returns c =
     c.shown_of.ensures
     ∙ shown_is f.settings f.journal.items mon c.index-link.result.now f.state.round f.state.gathered.items f.standing.stopped
     (record { from_one = c.requires.some_monitor; within = high }) link c.self.invariant.1.round c.self.invariant.2.stopped
-    ∙ ap (λ (v : Seen). shown_by mon v.journal) c.self.view_is
+    ∙ ap (λ (v : CoordinatorView). shown_by mon v.journal) c.self.view_is

@@ -6,7 +6,7 @@ use Rattle.tk_journal.specs.declared.noted.Noted.{Noted}
 use Rattle.tk_journal.specs.declared.noted.Noted.TheVariants as n
 use Rattle.tk_journal.specs.declared.refusal.CoordRefusal.{CoordRefusal}
 use Rattle.tk_journal.specs.declared.refusal.CoordRefusal.TheVariants.{NoMemory as NoRoom}
-use Rattle.tk_coord.specs.Coordinator.{Seen}
+use Rattle.tk_coord.specs.Coordinator.{CoordinatorView}
 use Rattle.tk_coord.proofs.GrowLemmas.{legal_by_frame}
 use Rattle.tk_coord.proofs.coordinator.Coordinator.take.Goals as goal
 
@@ -22,7 +22,7 @@ returns-clause-legal c = λ o is legal.
     let same : c.prepare.new.self ≡ old = c.in-Ok.ensures.same in
     legal_either o old.journal c.note.new.self.journal (old.journal ++ turn_of old.settings old.journal (n.Got c.args.mon c.args.frame))
     (λ (e : CoordRefusal × Frame). (e.0 ≡ NoRoom) × (e.1 ≡ c.args.frame) × (c.note.new.self ≡ c.prepare.new.self)) c.note.result
-    (λ e kept. ap (λ (v : Seen). v.journal) (kept.2 ∙ same))
-    (subst (λ (v : Seen). OnOk c.note.result (c.note.new.self.journal ≡ v.journal ++ turn_of v.settings v.journal (n.Got c.args.mon c.args.frame))) same c.note.ensures.ok)
+    (λ e kept. ap (λ (v : CoordinatorView). v.journal) (kept.2 ∙ same))
+    (subst (λ (v : CoordinatorView). OnOk c.note.result (c.note.new.self.journal ≡ v.journal ++ turn_of v.settings v.journal (n.Got c.args.mon c.args.frame))) same c.note.ensures.ok)
     c.note.ensures.err legal
     (legal_by_frame old.settings o old.journal c.args.mon c.args.frame is legal (record { from_one = c.requires.some_monitor; within = c.requires.monitor }) c.in-Ok.ensures.taken)

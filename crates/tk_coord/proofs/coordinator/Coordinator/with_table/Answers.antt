@@ -1,7 +1,7 @@
 use Rattle.std.proofs.Common.{sym, subst}
 use Rattle.tk_base.specs.Ascending.{IsAscending}
 use Rattle.tk_journal.specs.Legal.{IsLegal}
-use Rattle.tk_coord.specs.Coordinator.{Seen, with_factors}
+use Rattle.tk_coord.specs.Coordinator.{CoordinatorView, with_factors}
 use Rattle.tk_coord.proofs.BatchLemmas.{opened_legal}
 use Rattle.tk_coord.proofs.BeginLemmas.{can_begin}
 use Rattle.tk_coord.proofs.BegunLemmas.{begun_so}
@@ -15,5 +15,5 @@ begin-requires c =
 pub returns-clause-legal : goal.returns-clause-legal
 returns-clause-legal c =
     let o = with_factors c.args.settings c.args.members c.args.table in
-    begun_so c.begin.result _ (λ (x : Seen). IsLegal o x.journal) c.begin.ensures
+    begun_so c.begin.result _ (λ (x : CoordinatorView). IsLegal o x.journal) c.begin.ensures
     (subst (IsLegal o) (sym c.in_ok-journal.ensures.value) (opened_legal o))

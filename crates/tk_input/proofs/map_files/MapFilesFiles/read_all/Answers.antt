@@ -10,8 +10,8 @@ returns-in-Err-Failed-clause-err c =
     let m = c.args.self.now in
     let file = option_map (λ (s : Bor (List ℕ)). s.now) c.file_of.result in
     subst (λ (meant : Result (List ℕ) FileFault). IfErr c.copy_of-outcome.result (λ e. Faults e meant))
-    (given_is m c.args.name.now c.contains-fails.result c.saturating_add-self-inside.result c.deref.result.now file c.contains-fails.ensures.value
-    (c.saturating_add-self-inside.ensures ∙ ap (λ (r : Remembered). one_more r.reads) c.self.view_is)
+    (given_is m c.args.name.now c.contains-fails.result c.saturating_add.result c.deref.result.now file c.contains-fails.ensures.value
+    (c.saturating_add.ensures ∙ ap (λ (r : Remembered). one_more r.reads) c.self.view_is)
     (c.deref.ensures.value ∙ ap (λ (r : Remembered). r.fails) c.self.view_is)
     (c.file_of.ensures ∙ ap (λ fs. content_of (files_of fs) c.args.name.now) c.as_slice.ensures.value ∙ ap (λ (r : Remembered). content_of r.files c.args.name.now) c.self.view_is))
     c.copy_of-outcome.ensures.err
@@ -21,8 +21,8 @@ returns-in-Err-TooLong-clause-err c =
     let m = c.args.self.now in
     let file = option_map (λ (s : Bor (List ℕ)). s.now) c.file_of.result in
     subst (λ (meant : Result (List ℕ) FileFault). IfErr c.copy_of-outcome.result (λ e. Faults e meant))
-    (given_is m c.args.name.now c.contains-fails.result c.saturating_add-self-inside.result c.deref.result.now file c.contains-fails.ensures.value
-    (c.saturating_add-self-inside.ensures ∙ ap (λ (r : Remembered). one_more r.reads) c.self.view_is)
+    (given_is m c.args.name.now c.contains-fails.result c.saturating_add.result c.deref.result.now file c.contains-fails.ensures.value
+    (c.saturating_add.ensures ∙ ap (λ (r : Remembered). one_more r.reads) c.self.view_is)
     (c.deref.ensures.value ∙ ap (λ (r : Remembered). r.fails) c.self.view_is)
     (c.file_of.ensures ∙ ap (λ fs. content_of (files_of fs) c.args.name.now) c.as_slice.ensures.value ∙ ap (λ (r : Remembered). content_of r.files c.args.name.now) c.self.view_is))
     c.copy_of-outcome.ensures.err

@@ -3,7 +3,7 @@ use Rattle.std.specs.Prelude.{FitsSigned}
 use Rattle.std.specs.Int.{w128}
 use Rattle.std.proofs.lemmas.Int.{ints, to_z-of_z}
 use Rattle.tk_trail.specs.Setup.{MonitorSetup}
-use Rattle.tk_monitor.specs.Monitored.{Monitored}
+use Rattle.tk_monitor.specs.Monitored.{MonitorView}
 use Rattle.tk_border.specs.Levels.{level_at}
 use Rattle.tk_trail.specs.Readings.{level_of}
 use Rattle.tk_trail.proofs.LevelsLemmas.{level_at-levels_of}
@@ -14,8 +14,8 @@ use Rattle.tk_monitor.proofs.monitor.Monitor.level.Goals as goal
 pub level-requires : goal.level-requires
 level-requires c =
     let inside = c.self.inside in
-    let setup : MonitorSetup = record { number = inside.number.0; objects = inside.objects; parts = inside.parts.items; from = inside.from } in
-    let size : inside.objects ≡ c.args.self.now.setup.objects = ap (λ (m : Monitored). m.setup.objects) c.self.view_is in
+    let setup : MonitorSetup = record { number = inside.number.0; objects = inside.settings.objects; parts = inside.parts.items; from = inside.from } in
+    let size : inside.settings.objects ≡ c.args.self.now.setup.objects = ap (λ (m : MonitorView). m.setup.objects) c.self.view_is in
     record {
       from_one = c.requires.from_one;
       within = omega (arith, c.requires.within, size, kept_size setup inside.log.entries inside.board c.self.invariant.standing);
@@ -24,11 +24,11 @@ level-requires c =
 pub returns : goal.returns
 returns c =
     let inside = c.self.inside in
-    let setup : MonitorSetup = record { number = inside.number.0; objects = inside.objects; parts = inside.parts.items; from = inside.from } in
-    let size : inside.objects ≡ c.args.self.now.setup.objects = ap (λ (m : Monitored). m.setup.objects) c.self.view_is in
+    let setup : MonitorSetup = record { number = inside.number.0; objects = inside.settings.objects; parts = inside.parts.items; from = inside.from } in
+    let size : inside.settings.objects ≡ c.args.self.now.setup.objects = ap (λ (m : MonitorView). m.setup.objects) c.self.view_is in
     let fits : FitsSigned w128 c.level.result = omega (arith, ints) in
     to_z-of_z w128 c.level.result fits
     ∙ c.level.ensures
     ∙ ap (λ (s : Standing). level_at s.levels c.args.o.0) c.self.invariant.standing
     ∙ level_at-levels_of setup inside.log.entries c.args.o.0 c.requires.from_one (omega (arith, c.requires.within, size))
-    ∙ ap (λ (m : Monitored). level_of m.setup m.trail c.args.o.0) c.self.view_is
+    ∙ ap (λ (m : MonitorView). level_of m.setup m.trail c.args.o.0) c.self.view_is

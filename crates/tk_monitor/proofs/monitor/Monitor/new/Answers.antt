@@ -1,7 +1,7 @@
-use Rattle.std.proofs.Common.{◌≡◌, ℕ, ◌∙◌, List, [], length, ap, ap₂, sym, subst, arith}
+use Rattle.std.proofs.Common.{◌≡◌, ℕ, ◌∙◌, List, [], length, ap, ap₂, sym, subst}
 use Rattle.std.specs.Prelude.{ℤ, pos}
 use Rattle.std.proofs.lemmas.List.{length-replicate}
-use Rattle.tk_input.specs.Logs.{AreParts, ArePlaces}
+use Rattle.tk_input.specs.Logs.{ArePlaces}
 use Rattle.tk_trail.specs.Setup.{MonitorSetup}
 use Rattle.tk_trail.specs.Readings.{places_at}
 use Rattle.tk_trail.specs.Legal.{IsLegal}
@@ -15,24 +15,23 @@ use Rattle.tk_monitor.proofs.monitor.Monitor.new.Goals as goal
 
 pub invariant_of-result : goal.invariant_of-result
 invariant_of-result c =
-    let n = c.objects-objects.result in
+    let n = c.args.settings.now.objects in
     let setup : MonitorSetup = record { number = c.args.mon.0; objects = n; parts = c.args.parts.items; from = c.in_ok-from.from } in
-    let size : n ≡ c.args.settings.now.objects = c.objects-objects.ensures.value in
-    let limits = c.objects-objects.ensures.limits in
+    let limits = c.objects.ensures.limits in
     let from : c.in_ok-from.from ≡ c.args.from.now = c.in_ok-from.ensures in
     let log : c.in_ok-log.log ≡ record { entries = []; raises = c.left_of-left.result; spare = 0 } = c.in_ok-log.ensures in
     let entries : c.in_ok-log.log.entries ≡ [] = ap (λ (l : Logged). l.entries) log in
     let next : c.in_ok-next.next.items ≡ c.args.from.now = c.in_ok-next.ensures.next in
-    let zeros : length c.in_ok-board.board.levels ≡ n = ap (λ (s : Standing). length s.levels) c.in_ok-board.ensures ∙ length-replicate {A = ℤ} n (pos 0) in
+    let zeros : length c.in_ok-board.board.levels ≡ n = ap (λ (s : Standing). length s.levels) c.in_ok-board.ensures ∙ length-replicate {A = ℤ} c.objects.result (pos 0) ∙ c.objects.ensures.value in
     let stands : StandsAt n c.args.parts.items c.in_ok-from.from c.start.new.board =
     subst (λ (k : ℕ). StandsAt k c.args.parts.items c.in_ok-from.from c.start.new.board) zeros
     (subst (λ (ps : List (List (ℕ × ℤ))). StandsAt (length c.in_ok-board.board.levels) ps c.in_ok-from.from c.start.new.board) c.as_slice.ensures.value
     (subst (λ (ns : List ℕ). StandsAt (length c.in_ok-board.board.levels) c.as_slice.result.now ns c.start.new.board) (sym from) c.in_ok-next.ensures.board)) in
     record {
       within = record {
-        some_object = omega (arith, size, limits.some_object);
-        objects = omega (arith, size, limits.objects);
-        parts = subst (λ (k : ℕ). AreParts k c.args.parts.items) (sym size) c.requires.parts;
+        some_object = limits.some_object;
+        objects = limits.objects;
+        parts = c.requires.parts;
         from = subst (λ (ns : List ℕ). ArePlaces c.args.parts.items ns) (sym from) c.requires.places;
       };
       legal = subst (IsLegal setup) (sym entries) (start_legal setup);

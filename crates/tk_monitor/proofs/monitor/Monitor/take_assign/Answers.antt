@@ -9,7 +9,7 @@ use Rattle.tk_trail.specs.declared.entry.Entry.{Entry}
 use Rattle.tk_trail.specs.declared.entry.Entry.TheVariants as e
 use Rattle.tk_monitor.specs.Board.{Standing}
 use Rattle.tk_monitor.specs.Log.{Logged}
-use Rattle.tk_monitor.specs.Monitored.{Monitored}
+use Rattle.tk_monitor.specs.Monitored.{MonitorView}
 use Rattle.tk_monitor.specs.declared.phase.Phase.{Phase}
 use Rattle.std.specs.Prelude.{ℤ}
 use Rattle.tk_border.specs.Levels.{AreMembers}
@@ -26,30 +26,30 @@ pub assign-requires-clause-members : goal.assign-requires-clause-members
 assign-requires-clause-members c =
     let inside = c.self.inside in
     let kept = c.self.invariant in
-    let setup : MonitorSetup = record { number = inside.number.0; objects = inside.objects; parts = inside.parts.items; from = inside.from } in
+    let setup : MonitorSetup = record { number = inside.number.0; objects = inside.settings.objects; parts = inside.parts.items; from = inside.from } in
     let trail : List Entry = inside.log.entries in
     let frame = f.Assign c.args.seq c.args.members c.args.changes in
-    let none : refusal_of setup trail frame ≡ None = subst (λ (m : Monitored). refusal_of m.setup m.trail frame ≡ None) (sym c.self.view_is) c.requires in
+    let none : refusal_of setup trail frame ≡ None = subst (λ (m : MonitorView). refusal_of m.setup m.trail frame ≡ None) (sym c.self.view_is) c.requires in
     let passes = assign_passes setup trail c.args.seq c.args.members c.args.changes none in
     let mine : c.in-Ok-Ok.mine ≡ c.args.members = c.in-Ok-Ok.ensures in
     subst (λ (n : ℕ). AreMembers n c.in-Ok-Ok.mine) (sym (kept_size setup trail inside.board kept.standing))
-    (subst (λ (os : List ℕ). AreMembers inside.objects os) (sym mine) passes.members_are)
+    (subst (λ (os : List ℕ). AreMembers inside.settings.objects os) (sym mine) passes.members_are)
 
 pub assign-requires-clause-factors : goal.assign-requires-clause-factors
 assign-requires-clause-factors c =
     let inside = c.self.inside in
     let kept = c.self.invariant in
-    let setup : MonitorSetup = record { number = inside.number.0; objects = inside.objects; parts = inside.parts.items; from = inside.from } in
+    let setup : MonitorSetup = record { number = inside.number.0; objects = inside.settings.objects; parts = inside.parts.items; from = inside.from } in
     let trail : List Entry = inside.log.entries in
     let frame = f.Assign c.args.seq c.args.members c.args.changes in
-    let none : refusal_of setup trail frame ≡ None = subst (λ (m : Monitored). refusal_of m.setup m.trail frame ≡ None) (sym c.self.view_is) c.requires in
+    let none : refusal_of setup trail frame ≡ None = subst (λ (m : MonitorView). refusal_of m.setup m.trail frame ≡ None) (sym c.self.view_is) c.requires in
     let passes = assign_passes setup trail c.args.seq c.args.members c.args.changes none in
     let took : c.in_ok-took.took ≡ frame = c.in_ok-took.ensures.ok in
     let got : c.get.result.now ≡ c.in_ok-took.took = c.get.ensures in
     let is : c.get.result.now ≡ f.Assign c.in-Assign.seq c.in-Assign.members c.in-Assign.changes = c.in-Assign.is in
     let changes : c.in-Assign.changes ≡ c.args.changes = cc in
     subst (λ (n : ℕ). AreFactors n c.in-Assign.changes) (sym (kept_size setup trail inside.board kept.standing))
-    (subst (λ (ps : List (ℕ × ℤ)). AreFactors inside.objects ps) (sym changes) passes.factors_are)
+    (subst (λ (ps : List (ℕ × ℤ)). AreFactors inside.settings.objects ps) (sym changes) passes.factors_are)
 
 changes-are : (c : goal.After-sent) → c.in-Assign.changes ≡ c.args.changes
 changes-are c =
@@ -58,14 +58,14 @@ changes-are c =
     let is : c.get.result.now ≡ f.Assign c.in-Assign.seq c.in-Assign.members c.in-Assign.changes = c.in-Assign.is in
     cc
 
-entries-sent : (c : goal.After-sent) → c.sent.new.self.entries ≡ after_take (record { number = c.self.inside.number.0; objects = c.self.inside.objects; parts = c.self.inside.parts.items; from = c.self.inside.from }) c.self.inside.log.entries (f.Assign c.args.seq c.args.members c.args.changes)
+entries-sent : (c : goal.After-sent) → c.sent.new.self.entries ≡ after_take (record { number = c.self.inside.number.0; objects = c.self.inside.settings.objects; parts = c.self.inside.parts.items; from = c.self.inside.from }) c.self.inside.log.entries (f.Assign c.args.seq c.args.members c.args.changes)
 entries-sent c =
     let inside = c.self.inside in
     let kept = c.self.invariant in
-    let setup : MonitorSetup = record { number = inside.number.0; objects = inside.objects; parts = inside.parts.items; from = inside.from } in
+    let setup : MonitorSetup = record { number = inside.number.0; objects = inside.settings.objects; parts = inside.parts.items; from = inside.from } in
     let trail : List Entry = inside.log.entries in
     let frame = f.Assign c.args.seq c.args.members c.args.changes in
-    let none : refusal_of setup trail frame ≡ None = subst (λ (m : Monitored). refusal_of m.setup m.trail frame ≡ None) (sym c.self.view_is) c.requires in
+    let none : refusal_of setup trail frame ≡ None = subst (λ (m : MonitorView). refusal_of m.setup m.trail frame ≡ None) (sym c.self.view_is) c.requires in
     let passes = assign_passes setup trail c.args.seq c.args.members c.args.changes none in
     let taken = trail ++ e.Took frame ∷ [] in
     let mine : c.in-Ok-Ok.mine ≡ c.args.members = c.in-Ok-Ok.ensures in
@@ -92,10 +92,10 @@ pub invariant_of-self-in-Ok : goal.invariant_of-self-in-Ok
 invariant_of-self-in-Ok c =
     let inside = c.self.inside in
     let kept = c.self.invariant in
-    let setup : MonitorSetup = record { number = inside.number.0; objects = inside.objects; parts = inside.parts.items; from = inside.from } in
+    let setup : MonitorSetup = record { number = inside.number.0; objects = inside.settings.objects; parts = inside.parts.items; from = inside.from } in
     let trail : List Entry = inside.log.entries in
     let frame = f.Assign c.args.seq c.args.members c.args.changes in
-    let none : refusal_of setup trail frame ≡ None = subst (λ (m : Monitored). refusal_of m.setup m.trail frame ≡ None) (sym c.self.view_is) c.requires in
+    let none : refusal_of setup trail frame ≡ None = subst (λ (m : MonitorView). refusal_of m.setup m.trail frame ≡ None) (sym c.self.view_is) c.requires in
     let passes = assign_passes setup trail c.args.seq c.args.members c.args.changes none in
     let taken = trail ++ e.Took frame ∷ [] in
     let mine : c.in-Ok-Ok.mine ≡ c.args.members = c.in-Ok-Ok.ensures in
@@ -117,13 +117,13 @@ pub returns-in-Ok-clause-ok : goal.returns-in-Ok-clause-ok
 returns-in-Ok-clause-ok c =
     let inside = c.self.inside in
     let kept = c.self.invariant in
-    let setup : MonitorSetup = record { number = inside.number.0; objects = inside.objects; parts = inside.parts.items; from = inside.from } in
+    let setup : MonitorSetup = record { number = inside.number.0; objects = inside.settings.objects; parts = inside.parts.items; from = inside.from } in
     let trail : List Entry = inside.log.entries in
     let frame = f.Assign c.args.seq c.args.members c.args.changes in
-    let none : refusal_of setup trail frame ≡ None = subst (λ (m : Monitored). refusal_of m.setup m.trail frame ≡ None) (sym c.self.view_is) c.requires in
+    let none : refusal_of setup trail frame ≡ None = subst (λ (m : MonitorView). refusal_of m.setup m.trail frame ≡ None) (sym c.self.view_is) c.requires in
     let passes = assign_passes setup trail c.args.seq c.args.members c.args.changes none in
-    ap (λ (es : List Entry). record { setup = setup; trail = es }) (entries-sent c)
-    ∙ ap (λ (m : Monitored). record m { trail = after_take m.setup m.trail frame }) c.self.view_is
+    ap (λ (es : List Entry). record { settings = inside.settings; setup = setup; trail = es }) (entries-sent c)
+    ∙ ap (λ (m : MonitorView). record m { trail = after_take m.setup m.trail frame }) c.self.view_is
 
 pub returns-in-Ok-clause-legal : goal.returns-in-Ok-clause-legal
 returns-in-Ok-clause-legal c = (invariant_of-self-in-Ok c).legal

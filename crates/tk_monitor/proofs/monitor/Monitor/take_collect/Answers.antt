@@ -8,7 +8,7 @@ use Rattle.tk_trail.specs.declared.entry.Entry.{Entry}
 use Rattle.tk_trail.specs.declared.entry.Entry.TheVariants as e
 use Rattle.tk_monitor.specs.Board.{Standing}
 use Rattle.tk_monitor.specs.Log.{Logged}
-use Rattle.tk_monitor.specs.Monitored.{Monitored}
+use Rattle.tk_monitor.specs.Monitored.{MonitorView}
 use Rattle.tk_monitor.specs.declared.phase.Phase.{Phase}
 use Rattle.tk_trail.specs.Frames.{values_at}
 use Rattle.tk_border.specs.Levels.{holds}
@@ -22,10 +22,10 @@ pub values-answer-requires-clause-members : goal.values-answer-requires-clause-m
 values-answer-requires-clause-members c =
     let inside = c.self.inside in
     let kept = c.self.invariant in
-    let setup : MonitorSetup = record { number = inside.number.0; objects = inside.objects; parts = inside.parts.items; from = inside.from } in
+    let setup : MonitorSetup = record { number = inside.number.0; objects = inside.settings.objects; parts = inside.parts.items; from = inside.from } in
     let trail : List Entry = inside.log.entries in
     let frame = f.Collect c.args.round c.args.objects in
-    let none : refusal_of setup trail frame ≡ None = subst (λ (m : Monitored). refusal_of m.setup m.trail frame ≡ None) (sym c.self.view_is) c.requires in
+    let none : refusal_of setup trail frame ≡ None = subst (λ (m : MonitorView). refusal_of m.setup m.trail frame ≡ None) (sym c.self.view_is) c.requires in
     let passes = collect_passes setup trail c.args.round c.args.objects none in
     subst (λ (s : Standing). 0 < length s.members) (sym kept.standing) (legal_members setup trail kept.legal.each passes.after_assign)
 
@@ -33,21 +33,21 @@ pub values-answer-requires-clause-asked : goal.values-answer-requires-clause-ask
 values-answer-requires-clause-asked c k d below =
     let inside = c.self.inside in
     let kept = c.self.invariant in
-    let setup : MonitorSetup = record { number = inside.number.0; objects = inside.objects; parts = inside.parts.items; from = inside.from } in
+    let setup : MonitorSetup = record { number = inside.number.0; objects = inside.settings.objects; parts = inside.parts.items; from = inside.from } in
     let trail : List Entry = inside.log.entries in
     let frame = f.Collect c.args.round c.args.objects in
-    let none : refusal_of setup trail frame ≡ None = subst (λ (m : Monitored). refusal_of m.setup m.trail frame ≡ None) (sym c.self.view_is) c.requires in
+    let none : refusal_of setup trail frame ≡ None = subst (λ (m : MonitorView). refusal_of m.setup m.trail frame ≡ None) (sym c.self.view_is) c.requires in
     let passes = collect_passes setup trail c.args.round c.args.objects none in
     omega (arith, passes.within k d below, kept_size setup trail inside.board kept.standing)
 
-pub entries-sent : (c : goal.After-sent) → c.sent.new.self.entries ≡ after_take (record { number = c.self.inside.number.0; objects = c.self.inside.objects; parts = c.self.inside.parts.items; from = c.self.inside.from }) c.self.inside.log.entries (f.Collect c.args.round c.args.objects)
+pub entries-sent : (c : goal.After-sent) → c.sent.new.self.entries ≡ after_take (record { number = c.self.inside.number.0; objects = c.self.inside.settings.objects; parts = c.self.inside.parts.items; from = c.self.inside.from }) c.self.inside.log.entries (f.Collect c.args.round c.args.objects)
 entries-sent c =
     let inside = c.self.inside in
     let kept = c.self.invariant in
-    let setup : MonitorSetup = record { number = inside.number.0; objects = inside.objects; parts = inside.parts.items; from = inside.from } in
+    let setup : MonitorSetup = record { number = inside.number.0; objects = inside.settings.objects; parts = inside.parts.items; from = inside.from } in
     let trail : List Entry = inside.log.entries in
     let frame = f.Collect c.args.round c.args.objects in
-    let none : refusal_of setup trail frame ≡ None = subst (λ (m : Monitored). refusal_of m.setup m.trail frame ≡ None) (sym c.self.view_is) c.requires in
+    let none : refusal_of setup trail frame ≡ None = subst (λ (m : MonitorView). refusal_of m.setup m.trail frame ≡ None) (sym c.self.view_is) c.requires in
     let passes = collect_passes setup trail c.args.round c.args.objects none in
     let made : c.in-Ok-Ok.answer ≡ values_frame inside.board inside.phase.seq c.args.round c.args.objects = rw c.in-Ok-Ok.is-0 at c.values-answer.ensures in
     let answer : c.in-Ok-Ok.answer ≡ values_at setup (trail ++ e.Took frame ∷ []) c.args.round c.args.objects =
@@ -61,10 +61,10 @@ pub invariant_of-self-2 : goal.invariant_of-self-2
 invariant_of-self-2 c =
     let inside = c.self.inside in
     let kept = c.self.invariant in
-    let setup : MonitorSetup = record { number = inside.number.0; objects = inside.objects; parts = inside.parts.items; from = inside.from } in
+    let setup : MonitorSetup = record { number = inside.number.0; objects = inside.settings.objects; parts = inside.parts.items; from = inside.from } in
     let trail : List Entry = inside.log.entries in
     let frame = f.Collect c.args.round c.args.objects in
-    let none : refusal_of setup trail frame ≡ None = subst (λ (m : Monitored). refusal_of m.setup m.trail frame ≡ None) (sym c.self.view_is) c.requires in
+    let none : refusal_of setup trail frame ≡ None = subst (λ (m : MonitorView). refusal_of m.setup m.trail frame ≡ None) (sym c.self.view_is) c.requires in
     kept_collect setup inside.log c.sent.new.self inside.board inside.next.items inside.phase c.args.round c.args.objects kept none (entries-sent c)
     (ap (λ (l : Logged). l.raises) c.sent.ensures ∙ ap (λ (l : Logged). l.raises) c.took.ensures ∙ c.reserve.ensures.raises)
 
@@ -72,10 +72,10 @@ pub returns-clause-ok : goal.returns-clause-ok
 returns-clause-ok c =
     let inside = c.self.inside in
     let kept = c.self.invariant in
-    let setup : MonitorSetup = record { number = inside.number.0; objects = inside.objects; parts = inside.parts.items; from = inside.from } in
+    let setup : MonitorSetup = record { number = inside.number.0; objects = inside.settings.objects; parts = inside.parts.items; from = inside.from } in
     let trail : List Entry = inside.log.entries in
-    ap (λ (es : List Entry). record { setup = setup; trail = es }) (entries-sent c)
-    ∙ ap (λ (m : Monitored). record m { trail = after_take m.setup m.trail (f.Collect c.args.round c.args.objects) }) c.self.view_is
+    ap (λ (es : List Entry). record { settings = inside.settings; setup = setup; trail = es }) (entries-sent c)
+    ∙ ap (λ (m : MonitorView). record m { trail = after_take m.setup m.trail (f.Collect c.args.round c.args.objects) }) c.self.view_is
 
 pub returns-clause-legal : goal.returns-clause-legal
 returns-clause-legal c = (invariant_of-self-2 c).legal
@@ -84,9 +84,9 @@ pub values-answer-requires-clause-held : goal.values-answer-requires-clause-held
 values-answer-requires-clause-held c =
     let inside = c.self.inside in
     let kept = c.self.invariant in
-    let setup : MonitorSetup = record { number = inside.number.0; objects = inside.objects; parts = inside.parts.items; from = inside.from } in
+    let setup : MonitorSetup = record { number = inside.number.0; objects = inside.settings.objects; parts = inside.parts.items; from = inside.from } in
     let trail : List Entry = inside.log.entries in
     let frame = f.Collect c.args.round c.args.objects in
-    let none : refusal_of setup trail frame ≡ None = subst (λ (m : Monitored). refusal_of m.setup m.trail frame ≡ None) (sym c.self.view_is) c.requires in
+    let none : refusal_of setup trail frame ≡ None = subst (λ (m : MonitorView). refusal_of m.setup m.trail frame ≡ None) (sym c.self.view_is) c.requires in
     let passes = collect_passes setup trail c.args.round c.args.objects none in
     ap (λ (s : Standing). holds c.args.objects s.members) kept.standing ∙ passes.held

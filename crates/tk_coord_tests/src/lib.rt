@@ -1,0 +1,5 @@
+//! Tests of tk_coord over its public calls: which frames and retunes it refuses, and what rounds give.
+#![tactic(auto)]
+
+#[cfg(test)]
+mod tests;

@@ -1,0 +1,121 @@
+//! A full round that would give a factor past its limit, and the wide round in its place.
+
+ghost use Rattle.std.specs.Prelude.{◌≡◌, ◌≤ℤ◌, pos, [], ◌∷◌, length, IfOk};
+ghost use Rattle.tk_rows.specs.Factors.{factor_at};
+
+use super::{Said, factors, play, set};
+use std::alloc::Global;
+use std::test::Fail;
+use tk_base::{Mon, Obj, ObjSet, Pairs, Settings};
+use tk_coord::Coordinator;
+use tk_rows::{MonChange, Reallocation, Table};
+
+/// The greatest factor, 2^112.
+const FACTOR: i128 = 5_192_296_858_534_827_628_530_496_329_220_096;
+
+/// The factors of a and of b.
+fn both(alloc: Global, factor: i128) -> Result<Pairs, Fail>
+    ensures { IfOk result (λ p. p ≡ (1, factor) ∷ (2, factor) ∷ []) }
+{
+    let list = [(Obj(1), factor), (Obj(2), factor)].to_vec(alloc)?;
+    let pairs = Pairs::new(list)?;
+    Ok(pairs)
+}
+
+fn only_a(alloc: Global) -> Result<ObjSet, Fail>
+    ensures { IfOk result (λ s. s ≡ 1 ∷ []) }
+{
+    let set = ObjSet::new([Obj(1)].to_vec(alloc)?)?;
+    Ok(set)
+}
+
+/// These factors at the coordinator and at two monitors.
+fn reallocation(alloc: Global, own: Pairs, one: Pairs, two: Pairs) -> Result<Reallocation, Fail>
+    ensures own { IfOk result (λ r. r.own ≡ own) }
+    ensures at { IfOk result (λ r. r.at.items ≡ (record { mon = record { 0 = 1 }; changes = one }) ∷ (record { mon = record { 0 = 2 }; changes = two }) ∷ []) }
+{
+    let mut at = Vec::new(alloc);
+    at.push(MonChange {
+        mon: Mon(1),
+        changes: one,
+    })?;
+    at.push(MonChange {
+        mon: Mon(2),
+        changes: two,
+    })?;
+    let members = only_a(alloc)?;
+    Ok(Reallocation { members, own, at })
+}
+
+/// A table in which a and b have the factors 0, 2^112 and -2^112.
+fn far_table(alloc: Global) -> Result<Table, Fail>
+    ensures objects { IfOk result (λ t. length t.rows ≡ 2) }
+    ensures monitors { IfOk result (λ t. t.monitors ≡ 2) }
+    ensures first { IfOk result (λ t. factor_at t 0 1 ≡ pos 0) }
+    ensures second { IfOk result (λ t. factor_at t 0 2 ≡ pos 0) }
+{
+    let mut table = Table::new(alloc, 2, 2)?;
+    let zeros = both(alloc, 0)?;
+    let great = both(alloc, FACTOR)?;
+    let small = both(alloc, -FACTOR)?;
+    table.replace(&reallocation(alloc, zeros, great, small)?);
+    Ok(table)
+}
+
+fn settings(k: u64, epsilon: u128) -> Result<Settings, Fail>
+    ensures objects { IfOk result (λ s. s.objects ≡ 2) }
+    ensures monitors { IfOk result (λ s. s.monitors ≡ 2) }
+    ensures k { IfOk result (λ s. s.k ≡ k) }
+    ensures no_debt { IfOk result (λ s. pos 0 ≤ℤ s.epsilon) }
+{
+    let settings = Settings::new(k, epsilon, 1, 2, 2)?;
+    if settings.objects() == 2 && settings.monitors() == 2 && u64::from(settings.k()) == k {
+        Ok(settings)
+    } else {
+        Err("other settings")?
+    }
+}
+
+/// A coordinator with the member a and such a table.
+fn far(alloc: Global) -> Result<Coordinator, Fail> {
+    let settings = settings(1, 0)?;
+    let members = only_a(alloc)?;
+    let table = far_table(alloc)?;
+    let c = Coordinator::with_table(alloc, settings, members, table)?;
+    Ok(c)
+}
+
+/// The Report of monitor 1 that opens a full round, and the Values of monitor 2 that end it.
+const FULL: [(u32, Said<'static>); 2] = [
+    (1, Said::Report(1, FACTOR, &[2], &[(1, 0), (2, 1)])),
+    (2, Said::Values(1, 1, -FACTOR, &[(1, 0), (2, 30)])),
+];
+
+/// The Values of both monitors that end the wide round.
+const WIDE: [(u32, Said<'static>); 2] = [
+    (1, Said::Values(2, 1, FACTOR, &[(1, 0), (2, 1)])),
+    (2, Said::Values(2, 1, -FACTOR, &[(1, 0), (2, 30)])),
+];
+
+#[test]
+fn a_wide_round_opens(rt: HostRuntime) -> Result<(), Fail> {
+    let mut c = far(rt.alloc())?;
+    play(rt.alloc(), &mut c, &FULL)?;
+    assert_eq!(rt;
+        (c.idle(), factors(&c, 2)),
+        (false, Some((0, FACTOR, -FACTOR)))
+    );
+    Ok(())
+}
+
+#[test]
+fn the_wide_round_ends(rt: HostRuntime) -> Result<(), Fail> {
+    let mut c = far(rt.alloc())?;
+    play(rt.alloc(), &mut c, &FULL)?;
+    play(rt.alloc(), &mut c, &WIDE)?;
+    let wanted = (Some((0, 0, 0)), Some((11, 9, -20)));
+    assert_eq!(rt; (factors(&c, 1), factors(&c, 2)), wanted);
+    let members = set(rt.alloc(), &[2])?;
+    assert!(rt; *c.members() == members);
+    Ok(())
+}

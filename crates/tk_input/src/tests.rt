@@ -1,4 +1,0 @@
-mod files;
-mod limits;
-mod logs;
-mod reading;

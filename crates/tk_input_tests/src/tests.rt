@@ -1,0 +1,6 @@
+mod edges;
+mod files;
+mod limits;
+mod logs;
+mod orders;
+mod reading;

@@ -1,0 +1,89 @@
+//! Readers and writers that fail, or do less than they are asked for.
+
+use std::io;
+use std::io::{Read, Write};
+use std::test::Fail;
+use tk_input::{FileFault, PutFailed, put_all, take_all};
+
+/// A reader that fails at once.
+#[derive(Drop)]
+struct Broken {
+    kind: io::ErrorKind,
+}
+
+impl Read for Broken {
+    fn read(&mut self, _buf: &mut [u8]) -> io::Result<usize> {
+        Err(io::Error::from(self.kind))
+    }
+}
+
+/// A reader that gives one byte at a time, and so many of them.
+#[derive(Drop)]
+struct Trickle {
+    left: usize,
+}
+
+impl Read for Trickle {
+    fn read(&mut self, buf: &mut [u8]) -> io::Result<usize> {
+        if self.left == 0 || buf.is_empty() {
+            return Ok(0);
+        }
+        self.left -= 1;
+        buf[0] = b'a';
+        Ok(1)
+    }
+}
+
+#[test]
+fn a_read_error_is_no_end(rt: HostRuntime) {
+    let cases = [
+        (io::ErrorKind::Other, FileFault::Failed),
+        (io::ErrorKind::UnexpectedEof, FileFault::Failed),
+        (io::ErrorKind::OutOfMemory, FileFault::NoMemory),
+    ];
+    for (kind, fault) in cases {
+        let mut bytes = Vec::new(rt.alloc());
+        let front = b"a,1\n".as_slice();
+        let outcome = take_all(front.chain(Broken { kind }), &mut bytes);
+        assert_eq!(rt; outcome, Err(fault));
+    }
+}
+
+#[test]
+fn a_short_read_is_no_end(rt: HostRuntime) {
+    let mut bytes = Vec::new(rt.alloc());
+    let outcome = take_all(Trickle { left: 100 }, &mut bytes);
+    assert_eq!(rt; outcome, Ok(()));
+    assert_eq!(rt; bytes.len(), 100);
+}
+
+/// A writer that takes one byte at a time, until it has no room.
+#[derive(Drop)]
+struct Narrow {
+    room: usize,
+    taken: usize,
+}
+
+impl Write for Narrow {
+    fn write(&mut self, buf: &[u8]) -> io::Result<usize> {
+        if self.taken >= self.room || buf.is_empty() {
+            return Ok(0);
+        }
+        self.taken += 1;
+        Ok(1)
+    }
+
+    fn flush(&mut self) -> io::Result<()> {
+        Ok(())
+    }
+}
+
+#[test]
+fn a_short_write_is_gone_on_with(rt: HostRuntime) {
+    let cases = [(8, Ok(()), 5), (5, Ok(()), 5), (4, Err(PutFailed), 4)];
+    for (room, outcome, taken) in cases {
+        let mut to = Narrow { room, taken: 0 };
+        assert_eq!(rt; put_all(&mut to, b"set 1"), outcome);
+        assert_eq!(rt; to.taken, taken);
+    }
+}

@@ -1,0 +1,85 @@
+//! What catalogues and logs mean, and where they are refused.
+
+use std::test::Fail;
+use tk_base::Obj;
+use tk_input::{Catalog, CatalogFault, Change, Part, PartFault};
+
+#[test]
+fn a_catalogue_names_its_objects(rt: HostRuntime) -> Result<(), Fail> {
+    let names = Catalog::read(rt.alloc(), b"\xef\xbb\xbfa\r\n\n\"b,c\"\rd\"e")?;
+    assert_eq!(rt; names.len(), 3);
+    let text = b"b,c".as_slice();
+    assert_eq!(rt; names.find(text), Some(Obj(2)));
+    assert_eq!(rt; names.find(b"d\"e"), Some(Obj(3)));
+    assert_eq!(rt; names.find(b"d"), None);
+    Ok(())
+}
+
+#[test]
+fn a_catalogue_is_refused_at_its_first_fault(rt: HostRuntime) -> Result<(), Fail> {
+    let long = [b'a'; 256];
+    assert!(rt; Catalog::read(rt.alloc(), &long[..255]).is_ok());
+    let cases = [
+        (b"".as_slice(), CatalogFault::Empty),
+        (b"\n\r\n".as_slice(), CatalogFault::Empty),
+        (b"a\nb,c\na\n".as_slice(), CatalogFault::BadRow(2)),
+        (b"a\n\n\nb c\na\n".as_slice(), CatalogFault::BadName(2)),
+        (b"\"\"\n".as_slice(), CatalogFault::BadName(1)),
+        (b"a\n\x7f\n".as_slice(), CatalogFault::BadName(2)),
+        (b"a\nb\nc\xc3\xa4\n".as_slice(), CatalogFault::BadName(3)),
+        (long.as_slice(), CatalogFault::BadName(1)),
+        (b"a\nb\na\nb\n".as_slice(), CatalogFault::Repeated(3)),
+    ];
+    for (bytes, fault) in cases {
+        assert_eq!(rt; Catalog::read(rt.alloc(), bytes).err(), Some(fault));
+    }
+    Ok(())
+}
+
+#[test]
+fn a_log_is_its_changes(rt: HostRuntime) -> Result<(), Fail> {
+    let alloc = rt.alloc();
+    let names = Catalog::read(alloc, b"a\nb\n")?;
+    let part = Part::read(alloc, b"a,1\nb,-0002\r\n\"a\",+3\nb,0", &names)?;
+    let by = [(1, 1), (2, -2), (1, 3), (2, 0)];
+    assert_eq!(rt; part.len(), by.len());
+    for (change, (obj, by)) in part.changes().iter().zip(by.iter()) {
+        assert_eq!(rt;
+            *change,
+            Change {
+                obj: Obj(*obj),
+                by: *by
+            }
+        );
+    }
+    assert_eq!(rt; Part::read(alloc, b"", &names)?.len(), 0);
+    let most = b"a,-99999999999999999999999999999999999999".as_slice();
+    let part = Part::read(alloc, most, &names)?;
+    let by = -99_999_999_999_999_999_999_999_999_999_999_999_999;
+    assert!(rt; part.changes().iter().all(|change| change.by == by));
+    Ok(())
+}
+
+#[test]
+fn a_log_is_refused_at_its_first_fault(rt: HostRuntime) -> Result<(), Fail> {
+    let names = Catalog::read(rt.alloc(), b"a\nb\n")?;
+    let cases = [
+        (b"a,1\nb,2\nc,3\n".as_slice(), PartFault::UnknownName(3)),
+        (b"c,x\n".as_slice(), PartFault::UnknownName(1)),
+        (b"a,12x\nc,1\n".as_slice(), PartFault::BadNumber(1)),
+        (b"a,1\na\n".as_slice(), PartFault::BadRow(2)),
+        (b"c,1,2\n".as_slice(), PartFault::BadRow(1)),
+        (b"a,1\n\na,\n".as_slice(), PartFault::BadNumber(2)),
+        (b"a,-\n".as_slice(), PartFault::BadNumber(1)),
+        (b"a,+-1\n".as_slice(), PartFault::BadNumber(1)),
+        (b"a, 1\n".as_slice(), PartFault::BadNumber(1)),
+        (
+            b"a,100000000000000000000000000000000000000\n".as_slice(),
+            PartFault::BadNumber(1),
+        ),
+    ];
+    for (bytes, fault) in cases {
+        assert_eq!(rt; Part::read(rt.alloc(), bytes, &names).err(), Some(fault));
+    }
+    Ok(())
+}

@@ -1,0 +1,12 @@
+-- How many of some frames are of a kind.
+use Rattle.std.specs.Prelude.{ℕ, ◌+◌, Bool, List, [], ◌∷◌, if◌then◌else◌}
+use Rattle.tk_journal.specs.Links.{frames_to, frames_from}
+use Rattle.tk_journal.specs.declared.noted.Noted.{Noted}
+use Rattle.tk_frames.specs.Carried.{is_collect, is_values, tally}
+
+-- the Collects sent to a monitor, and the Values taken from it
+abbrev pub collects_to : ℕ → List Noted → ℕ
+collects_to mon j = tally is_collect (frames_to mon j)
+
+abbrev pub values_from : ℕ → List Noted → ℕ
+values_from mon j = tally is_values (frames_from mon j)
