@@ -1,0 +1,10 @@
+pub mod Buffered
+pub mod Joint
+pub mod Meanings
+pub mod Net
+pub mod Parse
+pub mod Pipe
+pub mod PipeInside
+pub mod PipeWire
+pub mod Ring
+pub mod Store

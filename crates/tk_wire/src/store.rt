@@ -1,0 +1,115 @@
+ghost use Rattle.std.specs.Prelude.{◌≡◌, ◌≤◌, ◌+◌, ◌-◌, [], true, OnOk, length, take, drop, slice_range};
+ghost use Rattle.tk_wire.specs.Meanings.{FitsSlice, Takes, counts_taken};
+ghost use Rattle.tk_wire.specs.Store.{Fills};
+
+use crate::wire::{Took, Wire};
+use std::alloc::Global;
+use std::marker::Model;
+use tk_base::NoMemory;
+
+/// The most bytes of one take.
+pub const PIECE: usize = 65_536;
+
+/// Bytes in their order, and room behind them.
+#[derive(Drop)]
+pub struct Store {
+    bytes: Vec<u8>,
+    start: usize,
+    end: usize,
+}
+
+impl Model for Store {
+    ghost use Rattle.std.specs.Prelude.{◌≤◌, ◌-◌, slice_range, vec_len};
+    ghost use Rattle.tk_wire.specs.Store.{Stored};
+
+    ghost Value = { Stored };
+
+    ghost view = { λ s. record { held = slice_range s.bytes.items s.start s.end; room = vec_len s.bytes - s.end } };
+
+    ghost invariant = { λ s. (s.start ≤ s.end) × (s.end ≤ vec_len s.bytes) };
+}
+
+/// Copies what stands between two places to the front, where what stands before is no shorter.
+pub fn move_to_front(bytes: &mut [u8], start: usize, end: usize)
+    requires within { (start ≤ end) × (end ≤ length bytes.old) }
+    requires apart { end ≤ start + start }
+    ensures { take (end - start) bytes.new ≡ slice_range bytes.old start end }
+{
+    let (front, back) = bytes.split_at_mut(start);
+    front[..end - start].copy_from_slice(&back[..end - start]);
+}
+
+// One take, to the places from `end` on.
+fn take_behind<W: Wire>(wire: &mut W, bytes: &mut [u8], end: usize) -> Took
+    requires { end + 65536 ≤ length bytes.old }
+    ensures front { take end bytes.new ≡ take end bytes.old }
+    ensures fits { FitsSlice result 65536 }
+    ensures told { W.tells ≡ true → Takes result (drop end bytes.new) (W.traffic wire.old) (W.traffic wire.new) }
+    ensures counted { W.counts wire.new ≡ counts_taken result (W.counts wire.old) }
+{
+    wire.take(&mut bytes[end..end + PIECE])
+}
+
+impl Store {
+    pub fn new(alloc: Global) -> Store
+        ensures { result.held ≡ [] }
+    {
+        Store {
+            bytes: Vec::new(alloc),
+            start: 0,
+            end: 0,
+        }
+    }
+
+    pub fn held(&self) -> &[u8]
+        ensures { result.now ≡ self.now.held }
+    {
+        &self.bytes[self.start..self.end]
+    }
+
+    /// Makes room for so many bytes. What stands before the bytes is only reclaimed where it is no shorter than
+    /// they are, so each byte that was removed pays for one that moves.
+    pub fn make_room(&mut self, room: usize) -> Result<(), NoMemory>
+        requires { room ≤ 65536 }
+        ensures room { OnOk result (room ≤ self.new.room) }
+        ensures kept { self.new.held ≡ self.old.held }
+    {
+        if self.bytes.len() - self.end >= room {
+            return Ok(());
+        }
+        if self.end - self.start <= self.start {
+            move_to_front(&mut self.bytes, self.start, self.end);
+            self.end -= self.start;
+            self.start = 0;
+        }
+        if self.bytes.len() - self.end < room {
+            self.bytes.resize(self.end + room, 0)?;
+        }
+        Ok(())
+    }
+
+    /// One take of at most 65,536 bytes.
+    pub fn fill<W: Wire>(&mut self, wire: &mut W) -> Took
+        requires { 65536 ≤ self.old.room }
+        ensures told { Fills result W.tells self.old.held self.new.held (W.traffic wire.old) (W.traffic wire.new) }
+        ensures counted { W.counts wire.new ≡ counts_taken result (W.counts wire.old) }
+    {
+        let took = take_behind(wire, &mut self.bytes, self.end);
+        if let Took::Bytes(count) = took {
+            self.end += count;
+        }
+        took
+    }
+
+    /// Removes bytes from the front.
+    pub fn remove(&mut self, count: usize)
+        requires { count ≤ length self.old.held }
+        ensures { self.new.held ≡ drop count self.old.held }
+    {
+        self.start += count;
+        if self.start == self.end {
+            self.start = 0;
+            self.end = 0;
+        }
+    }
+}

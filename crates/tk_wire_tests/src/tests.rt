@@ -1,0 +1,5 @@
+//! What no clause says, and each call once.
+
+mod buffers;
+mod nets;
+mod wires;
