@@ -1,0 +1,13 @@
+pub mod ContentLemmas
+pub mod CutLemmas
+pub mod DownLemmas
+pub mod FewLemmas
+pub mod JoinLemmas
+pub mod MomentLemmas
+pub mod OverLemmas
+pub mod PlaceLemmas
+pub mod PublishedLemmas
+pub mod QuietLemmas
+pub mod StillLemmas
+pub mod TotalLemmas
+pub mod UpLemmas

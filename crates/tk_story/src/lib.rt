@@ -1,8 +1,22 @@
-//! Histories joined: the logs, the settings, the events, the journal and one trail per monitor.
+//! Histories joined: the logs, the settings, the journal and one trail per monitor, with ordered links between them.
 //!
-//! It promises that it lends what it was made of. It stands on the coordinator and the monitors.
+//! It promises the laws that the product exists for, over finished stories alone, whatever machine made them: where
+//! nothing is under way and nothing is broken the members are valid, every published set is valid at its own cut, and
+//! no frame of a story is refused.
 #![tactic(auto)]
 
+mod joined;
+mod resting;
 mod story;
+mod validity;
 
+pub use joined::{
+    at_most_one_behind, links_hold_over_any_opening, the_next_frame_down_is_taken,
+    the_next_frame_up_is_taken,
+};
+pub use resting::{still_at_the_ends_is_over, still_at_the_ends_is_stopped, still_is_quiet};
 pub use story::Story;
+pub use validity::{
+    a_moment_is_a_story, empty_links_leave_no_round_open, published_is_valid, quiet_is_valid,
+    the_last_one_is_at_the_full_cut,
+};

@@ -1,16 +1,17 @@
 ghost use Rattle.std.specs.Prelude.{◌≡◌, ◌-◌, ◌<◌, ◌≤◌, length, map, Some, slice_get};
-ghost use Rattle.std.specs.List.{All};
-ghost use Rattle.tk_journal.specs.Entries.{IsEntryOf};
+ghost use Rattle.tk_journal.specs.Kinds.{turns_of};
+ghost use Rattle.tk_story.specs.Story.{IsStory};
 
 use std::marker::Model;
 use tk_base::{Cut, Mon, Settings};
 use tk_coord::Coordinator;
 use tk_input::{Event, Logs};
-use tk_journal::Noted;
+use tk_journal::{Noted, Turn};
 use tk_monitor::Monitor;
 use tk_trail::Entry;
 
-/// What happened in one run: what it was over, which events took place, and what each node kept of them.
+/// What happened in one run: what it was over, which events took place, and what each node kept of them. Contracts
+/// see the legal story, and the events beside it.
 #[derive(Drop)]
 pub struct Story {
     logs: Logs,
@@ -22,34 +23,34 @@ pub struct Story {
 }
 
 impl Model for Story {
-    ghost use Rattle.std.specs.Prelude.{map};
-    ghost use Rattle.tk_story.specs.Told.{Told, IsTold};
+    ghost use Rattle.std.specs.Prelude.{◌≡◌, map};
+    ghost use Rattle.tk_story.specs.Kept.{KeptStory};
+    ghost use Rattle.tk_story.specs.Story.{IsStory};
 
-    ghost Value = { Told };
+    ghost Value = { KeptStory };
 
     ghost view = { λ s. record {
-      settings = s.settings;
-      logs = s.logs;
-      from = s.from;
+      story = record {
+        settings = s.settings;
+        logs = s.logs;
+        from = s.from;
+        journal = s.coordinator.journal;
+        trails = map (λ m. m.trail) s.monitors.items;
+      };
       events = s.events.items;
-      journal = s.coordinator.journal;
-      trails = map (λ m. m.trail) s.monitors.items;
     } };
 
-    ghost invariant = { λ s. IsTold (record {
+    ghost invariant = { λ s. IsStory (record {
       settings = s.settings;
       logs = s.logs;
       from = s.from;
-      events = s.events.items;
       journal = s.coordinator.journal;
       trails = map (λ m. m.trail) s.monitors.items;
-    }) };
+    }) × (s.coordinator.settings ≡ s.settings) };
 }
 
 impl Story {
-    ghost use Rattle.tk_story.specs.Told.{IsTold};
-
-    /// Joins the ends of one run. The monitors are 1 to m in order.
+    /// Keeps nodes whose histories make a legal story over these logs and settings, from these starting places.
     pub fn of(
         coordinator: Coordinator,
         monitors: Vec<Monitor>,
@@ -59,18 +60,45 @@ impl Story {
         events: Vec<Event>,
     ) -> Story
         requires settings { coordinator.settings ≡ settings }
-        requires monitors { length monitors.items ≡ settings.monitors }
-        ensures { result ≡ record {
+        requires story { IsStory (record {
           settings = settings;
           logs = logs;
           from = from;
-          events = events.items;
+          journal = coordinator.journal;
+          trails = map (λ m. m.trail) monitors.items;
+        }) }
+        ensures story { result.story ≡ record {
+          settings = settings;
+          logs = logs;
+          from = from;
           journal = coordinator.journal;
           trails = map (λ m. m.trail) monitors.items;
         } }
+        ensures events { result.events ≡ events.items }
     {
-        // The journal is legal, and its entries speak of its coordinator's monitors and objects.
-        coordinator.journal();
+        Story {
+            logs,
+            settings,
+            from,
+            events,
+            coordinator,
+            monitors,
+        }
+    }
+
+    /// The same story with another list of events.
+    pub fn with_events(self, events: Vec<Event>) -> Story
+        ensures story { result.story ≡ self.story }
+        ensures events { result.events ≡ events.items }
+    {
+        let Story {
+            logs,
+            settings,
+            from,
+            coordinator,
+            monitors,
+            ..
+        } = self;
         Story {
             logs,
             settings,
@@ -82,20 +110,20 @@ impl Story {
     }
 
     pub fn logs(&self) -> &Logs
-        ensures { result.now ≡ self.now.logs }
+        ensures { result.now ≡ self.now.story.logs }
     {
         &self.logs
     }
 
     pub fn settings(&self) -> &Settings
-        ensures { result.now ≡ self.now.settings }
+        ensures { result.now ≡ self.now.story.settings }
     {
         &self.settings
     }
 
     /// The places at which the monitors started.
     pub fn from(&self) -> &Cut
-        ensures { result.now ≡ self.now.from }
+        ensures { result.now ≡ self.now.story.from }
     {
         &self.from
     }
@@ -107,16 +135,23 @@ impl Story {
     }
 
     pub fn journal(&self) -> &[Noted]
-        ensures value { result.now ≡ self.now.journal }
-        ensures told { IsTold self.now }
+        ensures value { result.now ≡ self.now.story.journal }
+        ensures legal { IsStory self.now.story }
     {
         self.coordinator.journal()
     }
 
+    /// The turns of the journal, in order: one for each frame taken and each retune.
+    pub fn turns(&self) -> &[Turn]
+        ensures { result.now ≡ turns_of self.now.story.settings self.now.story.journal }
+    {
+        self.coordinator.turns()
+    }
+
     pub fn trail(&self, mon: Mon) -> &[Entry]
         requires some { 0 < mon.0 }
-        requires monitor { mon.0 ≤ self.now.settings.monitors }
-        ensures { slice_get self.now.trails (mon.0 - 1) ≡ Some result.now }
+        requires monitor { mon.0 ≤ self.now.story.settings.monitors }
+        ensures { slice_get self.now.story.trails (mon.0 - 1) ≡ Some result.now }
     {
         self.monitors[mon.0 as usize - 1].trail()
     }
