@@ -1,1 +1,17 @@
-mod CheckedLemmas
+pub mod BeginLemmas
+pub mod EventLemmas
+pub mod IdleLemmas
+pub mod QuietLemmas
+pub mod RangeLemmas
+pub mod ReadLemmas
+pub mod RestLemmas
+pub mod SeatLemmas
+pub mod SerialLemmas
+pub mod SerializingLemmas
+pub mod StepLemmas
+pub mod TurnLemmas
+pub mod WalkLemmas
+pub mod WorkLemmas
+pub mod WorldLemmas
+pub mod WorkedOrder
+pub mod WorkedStory

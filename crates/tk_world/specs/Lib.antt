@@ -1,4 +1,11 @@
-pub mod Running
-pub use Rattle.tk_base.specs.Settings
-pub use Rattle.tk_input.specs.Logs
-pub use Rattle.tk_story.specs.Told
+pub mod Diary
+pub mod Events
+pub mod Order
+pub mod Runs
+pub mod Seats
+pub mod Work
+pub mod World
+pub mod Serializing
+pub use Rattle.tk_input.specs.Event
+pub use Rattle.tk_story.specs.Kept
+pub use Rattle.tk_story.specs.Moments

@@ -1,164 +1,287 @@
-ghost use Rattle.std.specs.Prelude.{◌≡◌, ◌-◌, ◌+◌, ◌<◌, ◌∷◌, ◌++◌, [], length, IfOk, OnErr};
-ghost use Rattle.std.specs.List.{All};
-ghost use Rattle.tk_base.specs.Objects.{objects};
-ghost use Rattle.tk_input.specs.Logs.{IsCut};
-ghost use Rattle.tk_world.specs.Running.{CanRun, IsIdle, IsSameRun};
+ghost use Rattle.std.specs.Prelude.{◌≡◌, ◌≤◌, ◌↔◌, [], true, false, None, IfOk, IfSome, OnOk, OnErr, is_ok};
+ghost use Rattle.tk_input.specs.declared.event.Event.TheVariants.{Raise, Check, Up, Down, Retune};
+ghost use Rattle.tk_journal.specs.Laws.{IsMonitor};
+ghost use Rattle.tk_journal.specs.Readings.{members_at};
+ghost use Rattle.tk_story.specs.Moments.{AreMembersValid, IsQuiet, cut_of};
+ghost use Rattle.tk_story.specs.Story.{IsStory};
+ghost use Rattle.tk_world.specs.Events.{CanOnlyChange, begin, next_of};
+ghost use Rattle.tk_world.specs.World.{AreAtRest, CanRun, IsAtRest, IsFeeder, Moves, is_raise};
 
+use crate::diary::Diary;
+use crate::left::left_after;
 use crate::moved::Moved;
-use crate::seats::Seats;
+use crate::seat::{Seat, new_seats};
+use crate::seats::{are_quiet, cut_at, into_monitors};
+use crate::work::Work;
 use std::alloc::Global;
 use std::marker::Model;
 use tk_base::{Cut, Feeder, Mon, NoMemory, ObjSet, Settings};
-use tk_coord::Coordinator;
-use tk_input::{Event, Logs};
+use tk_coord::{CoordRefusal, Coordinator, RetuneRefusal};
+use tk_input::{Event, Logs, Retuning};
+use tk_monitor::{Checked, Raised};
 use tk_story::Story;
+use tk_trail::MonitorRefusal;
 
-/// A coordinator and its monitors in memory, moved by events.
+/// A coordinator and its monitors in memory, moved by events. Contracts see the story so far, and the
+/// events that took place.
 #[derive(Drop)]
 pub struct World {
-    settings: Settings,
     logs: Logs,
     from: Cut,
     coordinator: Coordinator,
-    seats: Seats,
-    events: Vec<Event>,
-    /// How many raises are left.
-    left: usize,
-    /// Whether no check, delivery or answer is enabled, as a whole sweep found.
-    still: bool,
+    seats: Vec<Seat>,
+    diary: Diary,
+    /// The monitors at which a check or a delivery may be enabled.
+    work: Work,
 }
 
 impl Model for World {
-    ghost use Rattle.std.specs.Prelude.{◌≡◌, length};
-    ghost use Rattle.tk_world.specs.Running.{Running};
+    ghost use Rattle.tk_story.specs.Kept.{KeptStory};
+    ghost use Rattle.tk_world.specs.Seats.{Holds, story_in};
 
-    ghost Value = { Running };
+    ghost Value = { KeptStory };
 
     ghost view = { λ w. record {
-      story = record {
-        settings = w.settings;
-        logs = w.logs;
-        from = w.from;
-        events = w.events.items;
-        journal = w.coordinator.journal;
-        trails = w.seats;
-      };
-      members = w.coordinator.members;
+      story = story_in w.coordinator.settings w.logs w.from w.coordinator.journal w.seats.items;
+      events = w.diary.events;
     } };
 
-    ghost invariant = { λ w. (w.coordinator.settings ≡ w.settings) × (length w.seats ≡ w.settings.monitors) };
+    ghost invariant = { λ w.
+        Holds w.coordinator.settings w.logs w.from w.coordinator.journal w.seats.items w.diary.raises w.work };
 }
 
-/// How many changes a monitor has left from a cut on.
-fn left_at(logs: &Logs, from: &Cut, mon: Mon) -> usize
-    requires monitor { 0 < mon.0 }
-    requires within { mon.0 - 1 < length logs.now.logs }
-    requires cut { IsCut logs.now.logs from.now }
+/// Want of memory, the only refusal that a frame on a link meets at the coordinator.
+fn of_coordinator(refusal: CoordRefusal) -> NoMemory
+    requires { refusal ≡ CoordRefusal.NoMemory }
 {
-    let places = from.at(mon.0 as usize - 1);
-    let mut left = 0usize;
-    for f in 0..logs.feeders(mon) {
-        let length = logs.length(mon, Feeder(f + 1));
-        left = left.saturating_add(length.saturating_sub(places.at(f as usize)) as usize);
+    match refusal {
+        CoordRefusal::NoMemory => NoMemory,
+        _ => unreachable!(),
     }
-    left
 }
 
-/// How many changes the monitors have left from a cut on.
-fn left_after(logs: &Logs, from: &Cut) -> usize
-    requires { IsCut logs.now.logs from.now }
+/// Want of memory, the only refusal that a frame on a link meets at its monitor.
+fn of_monitor(refusal: MonitorRefusal) -> NoMemory
+    requires { refusal ≡ MonitorRefusal.NoMemory }
 {
-    let mut left = 0usize;
-    for j in 0..logs.monitors() {
-        left = left.saturating_add(left_at(logs, from, Mon(j + 1)));
+    match refusal {
+        MonitorRefusal::NoMemory => NoMemory,
+        _ => unreachable!(),
     }
-    left
+}
+
+/// Tells want of memory from the other reasons against a retune.
+fn unless_memory(refusal: RetuneRefusal) -> Result<(), NoMemory>
+    ensures { OnOk result (refusal ≡ RetuneRefusal.NoMemory → ⊥) }
+{
+    match refusal {
+        RetuneRefusal::NoMemory => Err(NoMemory),
+        _ => Ok(()),
+    }
 }
 
 impl World {
-    /// Takes the room for all raises, in the time of the logs up to the cut.
+    /// Takes the room for all raises. Costs the objects of each monitor and the changes in front of the
+    /// cut, times a logarithm of the objects.
     pub fn new(alloc: Global, settings: Settings, logs: Logs, from: Cut) -> Result<World, NoMemory>
         requires { CanRun settings logs from }
-        ensures settings { IfOk result (λ w. w.story.settings ≡ settings) }
-        ensures logs { IfOk result (λ w. w.story.logs ≡ logs) }
-        ensures from { IfOk result (λ w. w.story.from ≡ from) }
-        ensures events { IfOk result (λ w. w.story.events ≡ []) }
-        ensures members { IfOk result (λ w. w.members ≡ objects settings.k) }
-        ensures trails { IfOk result (λ w. All (λ trail. trail ≡ []) w.story.trails) }
+        ensures { IfOk result (λ w. w ≡ record { story = begin settings logs from; events = [] }) }
     {
-        let seats = Seats::new(alloc, &settings, &logs, &from)?;
-        let left = left_after(&logs, &from);
-        let events = Vec::with_capacity(alloc, left)?;
+        let seats = new_seats(alloc, &settings, &logs, &from)?;
+        let diary = Diary::new(alloc, left_after(&logs, &from))?;
         let coordinator = Coordinator::new(alloc, settings)?;
+        let mut work = Work::none();
+        work.insert_sent(coordinator.journal());
         Ok(World {
-            settings,
             logs,
             from,
             coordinator,
             seats,
-            events,
-            left,
-            still: false,
+            diary,
+            work,
         })
     }
 
-    /// Makes an event happen, or answers that it is not enabled.
+    /// Makes an event happen, or tells that it is not enabled. Costs what the node that it is for does.
     pub fn step(&mut self, event: Event) -> Result<Moved, NoMemory>
-        ensures yes { IfOk result (λ moved. (IsIdle moved → ⊥) → self.new.story.events ≡ self.old.story.events ++ event ∷ []) }
-        ensures idle { IfOk result (λ moved. IsIdle moved → self.new ≡ self.old) }
+        ensures ok { IfOk result (λ moved. Moves self.old event moved self.new) }
         ensures err { OnErr result (self.new ≡ self.old) }
-        ensures run { IsSameRun self.new self.old }
-    {
-        let more = self.room(event);
-        self.events.reserve(more)?;
-        let moved = match event {
-            Event::Raise(mon, f) => self.seats.raise(mon, f),
-            Event::Check(mon) => self.seats.check(mon)?,
-            Event::Up(mon) => self.seats.up(&mut self.coordinator, mon)?,
-            Event::Down(mon) => self.seats.down(&self.coordinator, mon)?,
-        };
-        if moved == Moved::Yes {
-            self.events.push_reserved(event);
-            self.still = false;
-            if let Event::Raise(_, _) = event {
-                self.left = self.left.saturating_sub(1);
-            }
-        }
-        Ok(moved)
-    }
-
-    /// Room for an event, and beside it for all the raises that are left: a raise takes no memory.
-    fn room(&self, event: Event) -> usize
-        ensures { 0 < result }
+        ensures raise { is_raise event ≡ true → is_ok result ≡ true }
+        ensures legal { IsStory self.new.story }
     {
         match event {
-            Event::Raise(_, _) => self.left.max(1),
-            _ => self.left.saturating_add(1),
+            Event::Raise(mon, f) => Ok(self.raise(mon, f)),
+            Event::Check(mon) => self.check(mon),
+            Event::Up(mon) => self.up(mon),
+            Event::Down(mon) => self.down(mon),
+            Event::Retune(retuning) => self.retune(retuning),
         }
     }
 
-    /// Whether every link is empty, no round is open and nothing is broken.
-    pub fn quiet(&self) -> bool {
-        self.coordinator.idle() && self.seats.are_quiet(&self.coordinator)
+    fn has_feeder(&self, mon: Mon, f: Feeder) -> bool
+        ensures yes { result ≡ true → IsFeeder self.now.story mon.0 f.0 }
+        ensures none { result ≡ false → next_of self.now.story (Raise mon f) ≡ None }
+    {
+        if mon.0 == 0 || mon.0 > self.coordinator.settings().monitors() {
+            return false;
+        }
+        0 < f.0 && f.0 <= self.logs.feeders(mon)
+    }
+
+    fn raise(&mut self, mon: Mon, f: Feeder) -> Moved
+        ensures moves { Moves self.old (Raise mon f) result self.new }
+        ensures legal { IsStory self.new.story }
+    {
+        if !self.has_feeder(mon, f) {
+            return Moved::Idle;
+        }
+        let seat = &mut self.seats[mon.0 as usize - 1];
+        match seat.monitor.raise(f) {
+            Raised::Ended => Moved::Idle,
+            Raised::Done { broken } => {
+                let ended = seat.monitor.ended();
+                self.work.insert_if(mon, broken || ended);
+                self.diary.raised(mon, f);
+                Moved::Yes
+            }
+        }
+    }
+
+    fn check(&mut self, mon: Mon) -> Result<Moved, NoMemory>
+        ensures ok { IfOk result (λ moved. Moves self.old (Check mon) moved self.new) }
+        ensures err { OnErr result (self.new ≡ self.old) }
+        ensures legal { IsStory self.new.story }
+    {
+        if !self.work.contains(mon) {
+            return Ok(Moved::Idle);
+        }
+        self.diary.reserve()?;
+        let seat = &mut self.seats[mon.0 as usize - 1];
+        let checked = seat.monitor.check()?;
+        if let Checked::Nothing = checked {
+            let is_empty = seat.has_empty_links(self.coordinator.sent(mon));
+            self.work.remove_if(mon, is_empty);
+            return Ok(Moved::Idle);
+        }
+        self.diary.note(Event::Check(mon));
+        Ok(Moved::Yes)
+    }
+
+    /// The coordinator takes the next frame of a monitor.
+    fn up(&mut self, mon: Mon) -> Result<Moved, NoMemory>
+        ensures ok { IfOk result (λ moved. Moves self.old (Up mon) moved self.new) }
+        ensures err { OnErr result (self.new ≡ self.old) }
+        ensures legal { IsStory self.new.story }
+    {
+        if !self.work.contains(mon) {
+            return Ok(Moved::Idle);
+        }
+        let seat = &mut self.seats[mon.0 as usize - 1];
+        if seat.got >= seat.monitor.sent() {
+            return Ok(Moved::Idle);
+        }
+        let frame = seat.monitor.sent_at(seat.got).try_clone()?;
+        self.diary.reserve()?;
+        let before = self.coordinator.journal().len();
+        match self.coordinator.take(mon, frame) {
+            Ok(()) => {}
+            Err((refusal, _)) => return Err(of_coordinator(refusal)),
+        }
+        seat.got += 1;
+        self.work.insert_sent(&self.coordinator.journal()[before..]);
+        self.diary.note(Event::Up(mon));
+        Ok(Moved::Yes)
+    }
+
+    /// A monitor takes the next frame of the coordinator.
+    fn down(&mut self, mon: Mon) -> Result<Moved, NoMemory>
+        ensures ok { IfOk result (λ moved. Moves self.old (Down mon) moved self.new) }
+        ensures err { OnErr result (self.new ≡ self.old) }
+        ensures legal { IsStory self.new.story }
+    {
+        if !self.work.contains(mon) {
+            return Ok(Moved::Idle);
+        }
+        let seat = &mut self.seats[mon.0 as usize - 1];
+        if seat.taken >= self.coordinator.sent(mon) {
+            return Ok(Moved::Idle);
+        }
+        let frame = self.coordinator.sent_at(mon, seat.taken).try_clone()?;
+        self.diary.reserve()?;
+        match seat.monitor.take(frame) {
+            Ok(()) => {}
+            Err((refusal, _)) => return Err(of_monitor(refusal)),
+        }
+        seat.taken += 1;
+        self.diary.note(Event::Down(mon));
+        Ok(Moved::Yes)
+    }
+
+    fn retune(&mut self, retuning: Retuning) -> Result<Moved, NoMemory>
+        ensures ok { IfOk result (λ moved. Moves self.old (Retune retuning) moved self.new) }
+        ensures err { OnErr result (self.new ≡ self.old) }
+        ensures legal { IsStory self.new.story }
+    {
+        self.diary.reserve()?;
+        let before = self.coordinator.journal().len();
+        match self.coordinator.retune(retuning.k(), retuning.epsilon()) {
+            Ok(()) => {}
+            Err(refusal) => {
+                unless_memory(refusal)?;
+                return Ok(Moved::Idle);
+            }
+        }
+        self.work.insert_sent(&self.coordinator.journal()[before..]);
+        self.diary.note(Event::Retune(retuning));
+        Ok(Moved::Yes)
+    }
+
+    /// Whether it is known, in a constant, that nothing but a raise or a retune is enabled.
+    pub fn is_settled(&self) -> bool
+        ensures settled { result ≡ true → CanOnlyChange self.now.story }
+        ensures legal { IsStory self.now.story }
+    {
+        let _ = &self.seats;
+        self.work.is_empty()
+    }
+
+    /// The next monitor at or above a number at which a check or a delivery may be enabled. It is found in a
+    /// constant.
+    pub fn next_busy(&self, from: Mon) -> Option<Mon>
+        ensures found { IfSome result (λ mon. (from.0 ≤ mon.0) × IsMonitor self.now.story.settings mon.0) }
+        ensures skipped { AreAtRest self.now.story from.0 result }
+    {
+        let _ = &self.seats;
+        self.work.next(from)
+    }
+
+    /// Whether every link is empty and nothing is broken. Takes no memory.
+    pub fn quiet(&self) -> bool
+        ensures value { (result ≡ true) ↔ IsQuiet self.now.story }
+        ensures valid { result ≡ true → AreMembersValid self.now.story }
+    {
+        are_quiet(self.seats.as_slice(), &self.coordinator)
     }
 
     /// How far each feeder of each monitor is.
     pub fn cut(&self) -> Result<Cut, NoMemory>
-        ensures { IfOk result (λ cut. length cut ≡ self.now.story.settings.monitors) }
+        ensures { IfOk result (λ cut. cut ≡ cut_of self.now.story) }
     {
-        self.seats.cut(*self.events.allocator())
+        cut_at(self.diary.alloc(), self.seats.as_slice())
     }
 
     pub fn members(&self) -> &ObjSet
-        ensures { result.now ≡ self.now.members }
+        ensures value { result.now ≡ members_at self.now.story.journal }
+        ensures legal { IsStory self.now.story }
     {
         self.coordinator.members()
     }
 
     pub fn settings(&self) -> &Settings
-        ensures { result.now ≡ self.now.story.settings }
+        ensures value { result.now ≡ self.now.story.settings }
+        ensures legal { IsStory self.now.story }
     {
-        &self.settings
+        self.coordinator.settings()
     }
 
     pub fn logs(&self) -> &Logs
@@ -167,44 +290,27 @@ impl World {
         &self.logs
     }
 
-    /// Checks each monitor, then delivers one frame up of each, then one frame down of each, and tells
-    /// whether anything moved. After a sweep that moved nothing the next one costs a constant, until
-    /// something else moves.
-    pub fn sweep(&mut self) -> Result<Moved, NoMemory>
-        ensures run { IsSameRun self.new self.old }
-    {
-        if self.still {
-            return Ok(Moved::Idle);
-        }
-        let mut moved = Moved::Idle;
-        for j in 0..self.settings.monitors() {
-            moved = moved.or(self.step(Event::Check(Mon(j + 1)))?);
-        }
-        for j in 0..self.settings.monitors() {
-            moved = moved.or(self.step(Event::Up(Mon(j + 1)))?);
-        }
-        for j in 0..self.settings.monitors() {
-            moved = moved.or(self.step(Event::Down(Mon(j + 1)))?);
-        }
-        self.still = moved == Moved::Idle;
-        Ok(moved)
-    }
-
     /// What the world did, for good.
     pub fn into_story(self) -> Result<Story, NoMemory>
-        ensures { IfOk result (λ story. story ≡ self.story) }
+        ensures { IfOk result (λ story. story ≡ self) }
     {
-        let alloc = *self.events.allocator();
         let World {
-            settings,
             logs,
             from,
             coordinator,
             seats,
-            events,
+            diary,
             ..
         } = self;
-        let monitors = seats.into_monitors(alloc)?;
-        Ok(Story::of(coordinator, monitors, logs, settings, from, events))
+        let monitors = into_monitors(diary.alloc(), seats)?;
+        let settings = *coordinator.settings();
+        Ok(Story::of(
+            coordinator,
+            monitors,
+            logs,
+            settings,
+            from,
+            diary.into_events(),
+        ))
     }
 }

@@ -1,0 +1,8 @@
+use Rattle.std.proofs.Common.{◌≡◌, map}
+use Rattle.std.specs.List.{range_with_len}
+use Rattle.tk_world.specs.Seats.{fresh_seat}
+use Rattle.tk_world.proofs.seat.new_seats.Given as goal
+
+-- the seats of the monitors passed
+abbrev pub invariant-loop-j : goal.invariant-loop-j
+invariant-loop-j l = l.seats.items ≡ map (fresh_seat l.settings l.logs l.from) (range_with_len 1 l.j)

@@ -1,0 +1,47 @@
+// Laws of stories and their events. Each function is there for its clause alone.
+ghost use Rattle.std.specs.Prelude.{ℕ, ◌≡◌, List, Some, length};
+ghost use Rattle.tk_base.specs.Settings.{Setup, IsWithinLimits};
+ghost use Rattle.tk_input.specs.Logs.{AreLogs, IsCut, LogSet};
+ghost use Rattle.tk_input.specs.declared.event.Event.{Event};
+ghost use Rattle.tk_world.specs.Events.{CanOnlyChange, after, begin, next_of};
+ghost use Rattle.tk_story.specs.Story.{IsStory, StoryView};
+ghost use Rattle.tk_story.specs.Moments.{AreMembersValid, IsStill};
+ghost use Rattle.tk_world.specs.Order.{events_of};
+ghost use Rattle.tk_world.specs.Runs.{RunsBy};
+
+/// The opening alone is a story.
+pub fn a_beginning_is_a_story()
+    ensures { (settings : Setup) (logs : LogSet) (from : List (List ℕ)) → IsWithinLimits settings → AreLogs logs → logs.objects ≡ settings.objects → length logs.logs ≡ settings.monitors → IsCut logs.logs from
+        → IsStory (begin settings logs from) }
+{}
+
+/// What happens next in a story leaves a story.
+pub fn each_event_leaves_a_story()
+    ensures { (s t : StoryView) (e : Event) → IsStory s → next_of s e ≡ Some t → IsStory t }
+{}
+
+/// So does any list of events.
+pub fn a_run_leaves_a_story()
+    ensures { (s t : StoryView) (events : List Event) → IsStory s → after (Some s) events ≡ Some t → IsStory t }
+{}
+
+/// Where nothing but a raise or a retune can happen, the story is still, and its members hold at the ends of its trails.
+pub fn where_nothing_moves_the_members_are_valid()
+    ensures still { (s : StoryView) → IsStory s → CanOnlyChange s → IsStill s }
+    ensures holds { (s : StoryView) → IsStory s → CanOnlyChange s → AreMembersValid s }
+{}
+
+/// Two stories that the same events lead to from the same beginning are one; a story that runs by the reader's form is
+/// where its events lead; so two stories that begin alike and run by the same events are one.
+pub fn one_story()
+    ensures reached { (b s t : StoryView) (events : List Event) → after (Some b) events ≡ Some s → after (Some b) events ≡ Some t → s ≡ t }
+    ensures runs { (s : StoryView) (events : List Event) → IsStory s → RunsBy s events → after (Some (begin s.settings s.logs s.from)) events ≡ Some s }
+    ensures reads { (s : StoryView) (events : List Event) → IsStory s → after (Some (begin s.settings s.logs s.from)) events ≡ Some s → RunsBy s events }
+    ensures alone { (s t : StoryView) (events : List Event) → IsStory s → IsStory t → s.settings ≡ t.settings → s.logs ≡ t.logs → s.from ≡ t.from → RunsBy s events → RunsBy t events → s ≡ t }
+{}
+
+/// Each story is reached: the events of its order lead there from its beginning, by the reader's form and by `after`.
+pub fn each_story_has_its_events()
+    ensures runs { (s : StoryView) → IsStory s → RunsBy s (events_of s) }
+    ensures reached { (s : StoryView) → IsStory s → after (Some (begin s.settings s.logs s.from)) (events_of s) ≡ Some s }
+{}
