@@ -1,1 +1,10 @@
-pub use Rattle.tk_world.specs.Running
+pub mod Drive
+pub mod Energy
+pub mod Moves
+pub mod Fits
+pub mod Reads
+pub mod Settling
+pub use Rattle.tk_world.specs.Events
+pub mod Phases
+pub mod Resting
+pub mod Passing

@@ -1,0 +1,78 @@
+ghost use Rattle.std.specs.Prelude.{◌≡◌, IfOk, OnErr, OnOk};
+ghost use Rattle.tk_story.specs.Moments.{IsOver};
+ghost use Rattle.tk_story.specs.Story.{IsStory};
+ghost use Rattle.tk_world.specs.Events.{raise_at};
+ghost use Rattle.tk_drain.specs.Drive.{Drives, IsFinished, IsReached};
+ghost use Rattle.tk_drain.specs.Passing.{MayRaise, Passes, raises};
+
+use crate::parts::{longest_of, parts_of};
+use crate::sweeps::settle;
+use std::alloc::Global;
+use tk_base::{Feeder, Mon, NoMemory};
+use tk_input::{Event, Order};
+use tk_world::{Moved, World};
+
+/// Raises the next change of a part and settles, unless the part is at its end.
+fn raise_one(world: &mut World, mon: Mon, f: Feeder) -> Result<Moved, NoMemory>
+    ensures ok { IfOk result (λ moved. MayRaise (raise_at mon.0 f.0) moved world.old world.new) }
+    ensures err { OnErr result (IsReached world.old world.new) }
+    ensures legal { IsStory world.new.story }
+{
+    match world.step(Event::Raise(mon, f))? {
+        Moved::Yes => {
+            settle(world)?;
+            Ok(Moved::Yes)
+        }
+        Moved::Idle => Ok(Moved::Idle),
+    }
+}
+
+/// Raises one change of each of the parts, each followed by settling, and answers the parts that had one.
+fn raise_each(
+    alloc: Global,
+    world: &mut World,
+    parts: &[(Mon, Feeder)],
+) -> Result<Vec<(Mon, Feeder)>, NoMemory>
+    requires { IsStory world.old.story }
+    ensures ok { IfOk result (λ left. Passes (raises parts.now) (raises left.items) world.old world.new) }
+    ensures err { OnErr result (IsReached world.old world.new) }
+    ensures legal { IsStory world.new.story }
+{
+    let mut left = Vec::with_capacity(alloc, parts.len())?;
+    for part in parts {
+        match raise_one(world, part.0, part.1)? {
+            Moved::Yes => left.push(*part)?,
+            Moved::Idle => {}
+        }
+    }
+    Ok(left)
+}
+
+/// Settles, then in passes raises one change of each part that has changes left, monitors and feeders ascending, and
+/// settles after each. A part that is at its end costs nothing in later passes.
+pub fn finish(alloc: Global, world: &mut World) -> Result<(), NoMemory>
+    ensures finished { OnOk result (IsFinished world.old world.new) }
+    ensures over { OnOk result (IsOver world.new.story) }
+    ensures err { OnErr result (IsReached world.old world.new) }
+    ensures legal { IsStory world.new.story }
+{
+    settle(world)?;
+    let mut parts = parts_of(alloc, world.logs())?;
+    for pass in 0..longest_of(world.logs()) {
+        parts = raise_each(alloc, world, parts.as_slice())?;
+    }
+    Ok(())
+}
+
+/// Lets the events of an order happen, passing over those that are not enabled where they stand, and then finishes.
+pub fn drive(alloc: Global, world: &mut World, order: &Order) -> Result<(), NoMemory>
+    ensures driven { OnOk result (Drives order.now.events world.old world.new) }
+    ensures over { OnOk result (IsOver world.new.story) }
+    ensures err { OnErr result (IsReached world.old world.new) }
+    ensures legal { OnOk result (IsStory world.new.story) }
+{
+    for i in 0..order.len() {
+        world.step(order.at(i).try_clone()?)?;
+    }
+    finish(alloc, world)
+}

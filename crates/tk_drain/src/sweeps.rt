@@ -1,0 +1,51 @@
+ghost use Rattle.std.specs.Prelude.{◌≡◌, ◌↔◌, ◌+◌, ◌*◌, ◌≤◌, IfOk, OnErr, OnOk};
+ghost use Rattle.tk_story.specs.Story.{IsStory};
+ghost use Rattle.tk_world.specs.Events.{CanOnlyChange};
+ghost use Rattle.tk_world.specs.declared.moved.Moved.TheVariants.{Idle};
+ghost use Rattle.tk_drain.specs.Drive.{BeginsSettling, KeepsFront, Settles, sweep_events, swept};
+ghost use Rattle.tk_drain.specs.Resting.{ComesToRest};
+
+use crate::phase::{Phase, either, run};
+use tk_base::NoMemory;
+use tk_world::{Moved, World};
+
+/// How many sweeps a settling made, the last one included, which moved nothing.
+#[derive(Clone, Copy, Debug, PartialEq, Eq)]
+pub struct Sweeps {
+    pub count: u64,
+}
+
+/// Checks each monitor, then takes one frame of each up, then gives one frame to each, monitors ascending. A settled
+/// world answers in a constant, and any other looks only at monitors that may have something to do.
+pub fn sweep(world: &mut World) -> Result<Moved, NoMemory>
+    ensures ok { IfOk result (λ _. world.new ≡ swept world.old) }
+    ensures idle { IfOk result (λ moved. (moved ≡ Idle) ↔ CanOnlyChange world.old.story) }
+    ensures err { OnErr result (KeepsFront (sweep_events world.old.story.settings) world.old world.new) }
+    ensures legal { IsStory world.new.story }
+{
+    if world.is_settled() {
+        return Ok(Moved::Idle);
+    }
+    let checks = run(world, Phase::Check)?;
+    let ups = run(world, Phase::Up)?;
+    let downs = run(world, Phase::Down)?;
+    Ok(either(either(checks, ups), downs))
+}
+
+/// Sweeps until one moves nothing.
+pub fn settle(world: &mut World) -> Result<Sweeps, NoMemory>
+    ensures settles { IfOk result (λ sweeps. Settles world.old world.new sweeps.count) }
+    ensures most { IfOk result (λ sweeps. sweeps.count ≤ 200 * (world.old.story.settings.monitors + 1)) }
+    ensures rests { OnOk result (ComesToRest world.old.story world.new.story) }
+    ensures err { OnErr result (BeginsSettling world.old world.new) }
+    ensures legal { IsStory world.new.story }
+{
+    let most = 200 * (u64::from(world.settings().monitors()) + 1);
+    for moved in 0..most {
+        match sweep(world)? {
+            Moved::Yes => {}
+            Moved::Idle => return Ok(Sweeps { count: moved + 1 }),
+        }
+    }
+    unreachable!()
+}
