@@ -1,1 +1,4 @@
-pub use Rattle.tk_story.specs.Told
+pub mod Counting
+pub mod Ledger
+pub mod Printing
+pub mod Text

@@ -1,4 +1,6 @@
-use tk_frames::Kind;
+ghost use Rattle.std.specs.Prelude.{◌≡◌, ◌<◌, length, Some, slice_get};
+
+use std::marker::Model;
 
 /// How many frames of each kind went over some links.
 #[derive(Clone, Copy, Debug, Default, PartialEq, Eq)]
@@ -11,18 +13,44 @@ pub struct Counts {
     pub stop: u64,
 }
 
-impl Counts {
-    /// Counts one frame. A Hello is in no journal.
-    pub fn add(&mut self, kind: Kind) {
-        let count = match kind {
-            Kind::Assign => &mut self.assign,
-            Kind::Report => &mut self.report,
-            Kind::Collect => &mut self.collect,
-            Kind::Values => &mut self.values,
-            Kind::Settled => &mut self.settled,
-            Kind::Stop => &mut self.stop,
-            Kind::Hello => return,
-        };
-        *count = count.saturating_add(1);
+/// The counts of each monitor, monitors ascending. Contracts see the list.
+#[derive(Debug, Drop)]
+pub struct PerMonitor {
+    list: Vec<Counts>,
+}
+
+impl Model for PerMonitor {
+    ghost use Rattle.std.specs.Prelude.{List};
+    ghost use Rattle.tk_ledger.specs.declared.counts.Counts.{Counts};
+
+    ghost Value = { List Counts };
+
+    ghost view = { λ p. p.list.items };
+}
+
+impl PerMonitor {
+    pub fn new(list: Vec<Counts>) -> PerMonitor
+        ensures { result ≡ list.items }
+    {
+        PerMonitor { list }
+    }
+
+    pub fn len(&self) -> usize
+        ensures { result ≡ length self.now }
+    {
+        self.list.len()
+    }
+
+    pub fn at(&self, i: usize) -> &Counts
+        requires { i < length self.now }
+        ensures { slice_get self.now i ≡ Some result.now }
+    {
+        &self.list[i]
+    }
+
+    pub fn as_slice(&self) -> &[Counts]
+        ensures { result.now ≡ self.now }
+    {
+        self.list.as_slice()
     }
 }

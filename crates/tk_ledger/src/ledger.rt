@@ -1,5 +1,9 @@
-use crate::counts::Counts;
-use crate::reading::Reading;
+ghost use Rattle.std.specs.Prelude.{◌≡◌, IfOk};
+ghost use Rattle.tk_ledger.specs.Ledger.{ledger_of};
+
+use crate::counts::PerMonitor;
+use crate::frames::count_frames;
+use crate::rounds::count_turns;
 use std::alloc::Global;
 use tk_base::NoMemory;
 use tk_story::Story;
@@ -8,7 +12,7 @@ use tk_story::Story;
 #[derive(Debug, Drop)]
 pub struct Ledger {
     /// The frames of each monitor, in both directions, monitors ascending.
-    pub per: Vec<Counts>,
+    pub per: PerMonitor,
     /// Short rounds that ended in an Assign.
     pub short: u64,
     /// Full rounds opened.
@@ -22,40 +26,21 @@ pub struct Ledger {
 }
 
 impl Ledger {
-    /// Counts a story's journal, in one pass over it.
-    pub fn of(alloc: Global, story: &Story) -> Result<Ledger, NoMemory> {
+    /// Counts a story's journal and its turns, in one pass over each.
+    #[tactic(auto, unfolding(crate::specs::Ledger::ledger_of))]
+    pub fn of(alloc: Global, story: &Story) -> Result<Ledger, NoMemory>
+        ensures { IfOk result (λ ledger. ledger ≡ ledger_of story.now.story.settings story.now.story.journal) }
+    {
         let monitors = story.settings().monitors() as usize;
-        let mut reading = Reading {
-            ledger: Ledger {
-                per: vec![in alloc; Counts::default(); monitors]?,
-                short: 0,
-                full: 0,
-                wide: 0,
-                stale: 0,
-                bytes: 0,
-            },
-            assigns: vec![in alloc; 0u64; monitors]?,
-            members: None,
-            rounds: 0,
-            reporter: None,
-        };
-        for entry in story.journal() {
-            reading.read(entry);
-        }
-        Ok(reading.ledger)
-    }
-
-    /// The frames over all monitors.
-    pub fn whole(&self) -> Counts {
-        let mut whole = Counts::default();
-        for counts in &self.per {
-            whole.assign = whole.assign.saturating_add(counts.assign);
-            whole.report = whole.report.saturating_add(counts.report);
-            whole.collect = whole.collect.saturating_add(counts.collect);
-            whole.values = whole.values.saturating_add(counts.values);
-            whole.settled = whole.settled.saturating_add(counts.settled);
-            whole.stop = whole.stop.saturating_add(counts.stop);
-        }
-        whole
+        let (per, bytes) = count_frames(alloc, monitors, story.journal())?;
+        let rounds = count_turns(story.turns());
+        Ok(Ledger {
+            per,
+            short: rounds.short,
+            full: rounds.full,
+            wide: rounds.wide,
+            stale: rounds.stale,
+            bytes,
+        })
     }
 }

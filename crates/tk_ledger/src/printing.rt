@@ -1,9 +1,15 @@
-ghost use Rattle.std.specs.Prelude.{◌≡◌, length, IsErrOf};
+ghost use Rattle.std.specs.Prelude.{◌≡◌, [], length, option_map, unwrap_or, IfOk, OnOk, OnErr, IsErrOf};
+ghost use Rattle.std.specs.List.{concat, All};
+ghost use Rattle.tk_base.specs.History.{last_of};
 ghost use Rattle.tk_input.specs.Files.{HasRisen};
+ghost use Rattle.tk_input.specs.Sink.{Grows, GrowsByFront};
+ghost use Rattle.tk_ledger.specs.Printing.{AreNamed, print_faults};
+ghost use Rattle.tk_ledger.specs.Text.{is_tuned, ledger_text, line_at, lines_of, monitors_text, summary_of, text_of, totals_text};
 ghost use Rattle.tk_ledger.specs.declared.printing.PrintFault.TheVariants.{NoMemory as OutOfMemory, WriteFailed as NotWritten};
 
+use crate::counts::PerMonitor;
 use crate::ledger::Ledger;
-use crate::text::{bytes_line, frames_line, monitor_line, rounds_line};
+use crate::text::{bytes_line, frames_line, monitor_line, publications_line, rounds_line};
 use std::alloc::{AllocError, Global};
 use std::error::Error;
 use std::fmt;
@@ -54,17 +60,105 @@ impl From<PutFailed> for PrintFault {
     }
 }
 
-/// Writes the ledger's lines, each by one put.
-pub fn print_ledger<O: Sink>(alloc: Global, ledger: &Ledger, out: &mut O) -> Result<(), PrintFault>
+/// Writes the three lines over all monitors.
+fn print_totals<O: Sink>(alloc: Global, ledger: &Ledger, out: &mut O) -> Result<(), PrintFault>
+    ensures ok { OnOk result (Grows (O.written out.old) (O.written out.new) (totals_text ledger.now)) }
+    ensures err { OnErr result (GrowsByFront (O.written out.old) (O.written out.new) (totals_text ledger.now)) }
     ensures failed { IsErrOf result PrintFault.WriteFailed → HasRisen (O.fault_count out.old) (O.fault_count out.new) }
+    ensures counted { O.fault_count out.new ≡ print_faults result (O.fault_count out.old) }
 {
     out.put(&frames_line(alloc, ledger)?)?;
     out.put(&rounds_line(alloc, ledger)?)?;
     out.put(&bytes_line(alloc, ledger)?)?;
-    for (place, counts) in ledger.per.iter().enumerate() {
-        out.put(&monitor_line(alloc, place as u64 + 1, counts)?)?;
+    Ok(())
+}
+
+/// Writes a line for each monitor.
+fn print_monitors<O: Sink>(alloc: Global, per: &PerMonitor, out: &mut O) -> Result<(), PrintFault>
+    ensures ok { OnOk result (Grows (O.written out.old) (O.written out.new) (monitors_text per.now)) }
+    ensures err { OnErr result (GrowsByFront (O.written out.old) (O.written out.new) (monitors_text per.now)) }
+    ensures failed { IsErrOf result PrintFault.WriteFailed → HasRisen (O.fault_count out.old) (O.fault_count out.new) }
+    ensures counted { O.fault_count out.new ≡ print_faults result (O.fault_count out.old) }
+{
+    for i in 0..per.len() {
+        out.put(&monitor_line(alloc, i as u64 + 1, per.at(i))?)?;
     }
     Ok(())
+}
+
+/// Writes the ledger's lines, each by one put.
+pub fn print_ledger<O: Sink>(alloc: Global, ledger: &Ledger, out: &mut O) -> Result<(), PrintFault>
+    ensures ok { OnOk result (Grows (O.written out.old) (O.written out.new) (ledger_text ledger.now)) }
+    ensures err { OnErr result (GrowsByFront (O.written out.old) (O.written out.new) (ledger_text ledger.now)) }
+    ensures failed { IsErrOf result PrintFault.WriteFailed → HasRisen (O.fault_count out.old) (O.fault_count out.new) }
+    ensures counted { O.fault_count out.new ≡ print_faults result (O.fault_count out.old) }
+{
+    print_totals(alloc, ledger, out)?;
+    print_monitors(alloc, &ledger.per, out)
+}
+
+fn is_retune(entry: &Noted) -> bool
+    ensures { result ≡ is_tuned entry.now }
+{
+    matches!(entry, Noted::Tuned(..))
+}
+
+/// The line of an entry that is a publication.
+fn line_in(
+    alloc: Global,
+    entry: &Noted,
+    names: &Catalog,
+    tuned: bool,
+) -> Result<Option<Vec<u8>>, NoMemory>
+    requires { AreNamed (length names.now) entry.now }
+    ensures { IfOk result (λ line. option_map (λ l. l.items) line ≡ line_at names.now tuned entry.now) }
+{
+    match entry {
+        Noted::Published(publication) => Ok(Some(publication.get().line(alloc, names, tuned)?)),
+        Noted::Got(..) | Noted::Sent(..) | Noted::Tuned(..) => Ok(None),
+    }
+}
+
+/// Writes the lines of the publications.
+fn print_publications<O: Sink>(
+    alloc: Global,
+    journal: &[Noted],
+    names: &Catalog,
+    out: &mut O,
+) -> Result<(), PrintFault>
+    requires { All (AreNamed (length names.now)) journal.now }
+    ensures ok { OnOk result (Grows (O.written out.old) (O.written out.new) (concat (lines_of names.now journal.now))) }
+    ensures err { OnErr result (GrowsByFront (O.written out.old) (O.written out.new) (concat (lines_of names.now journal.now))) }
+    ensures failed { IsErrOf result PrintFault.WriteFailed → HasRisen (O.fault_count out.old) (O.fault_count out.new) }
+    ensures counted { O.fault_count out.new ≡ print_faults result (O.fault_count out.old) }
+{
+    let mut tuned = false;
+    for entry in journal {
+        if let Some(line) = line_in(alloc, entry, names, tuned)? {
+            out.put(&line)?;
+        }
+        tuned |= is_retune(entry);
+    }
+    Ok(())
+}
+
+/// How many publications there are, and the line of the last of them, empty where there is none.
+fn last_line(alloc: Global, journal: &[Noted], names: &Catalog) -> Result<(u64, Vec<u8>), NoMemory>
+    requires { All (AreNamed (length names.now)) journal.now }
+    ensures count { IfOk result (λ r. r.0 ≡ length (lines_of names.now journal.now)) }
+    ensures line { IfOk result (λ r. r.1.items ≡ unwrap_or (last_of (lines_of names.now journal.now)) []) }
+{
+    let mut count = 0;
+    let mut line = Vec::new(alloc);
+    let mut tuned = false;
+    for entry in journal {
+        if let Some(next) = line_in(alloc, entry, names, tuned)? {
+            line = next;
+            count += 1;
+        }
+        tuned |= is_retune(entry);
+    }
+    Ok((count, line))
 }
 
 /// Writes the text of a story: the lines of its publications, then those of its ledger, each by one put. From
@@ -75,18 +169,32 @@ pub fn print<O: Sink>(
     names: &Catalog,
     out: &mut O,
 ) -> Result<(), PrintFault>
-    requires names { length names.now ≡ story.now.settings.objects }
+    requires names { length names.now ≡ story.now.story.settings.objects }
+    ensures ok { OnOk result (Grows (O.written out.old) (O.written out.new) (text_of names.now story.now.story)) }
+    ensures err { OnErr result (GrowsByFront (O.written out.old) (O.written out.new) (text_of names.now story.now.story)) }
     ensures failed { IsErrOf result PrintFault.WriteFailed → HasRisen (O.fault_count out.old) (O.fault_count out.new) }
+    ensures counted { O.fault_count out.new ≡ print_faults result (O.fault_count out.old) }
 {
-    let mut tuned = false;
-    for entry in story.journal() {
-        match entry {
-            Noted::Tuned(..) => tuned = true,
-            Noted::Published(publication) => {
-                out.put(&publication.get().line(alloc, names, tuned)?)?;
-            }
-            Noted::Got(..) | Noted::Sent(..) => {}
-        }
-    }
+    print_publications(alloc, story.journal(), names, out)?;
     print_ledger(alloc, &Ledger::of(alloc, story)?, out)
+}
+
+/// Writes the summary of a story: how many publications there are, the line of the last, and the ledger's lines
+/// over all monitors, each by one put.
+pub fn print_summary<O: Sink>(
+    alloc: Global,
+    story: &Story,
+    names: &Catalog,
+    out: &mut O,
+) -> Result<(), PrintFault>
+    requires names { length names.now ≡ story.now.story.settings.objects }
+    ensures ok { OnOk result (Grows (O.written out.old) (O.written out.new) (summary_of names.now story.now.story)) }
+    ensures err { OnErr result (GrowsByFront (O.written out.old) (O.written out.new) (summary_of names.now story.now.story)) }
+    ensures failed { IsErrOf result PrintFault.WriteFailed → HasRisen (O.fault_count out.old) (O.fault_count out.new) }
+    ensures counted { O.fault_count out.new ≡ print_faults result (O.fault_count out.old) }
+{
+    let (count, line) = last_line(alloc, story.journal(), names)?;
+    out.put(&publications_line(alloc, count)?)?;
+    out.put(&line)?;
+    print_totals(alloc, &Ledger::of(alloc, story)?, out)
 }
