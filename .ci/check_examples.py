@@ -2,7 +2,8 @@
 program is built, that it prints these texts.
 
 It knows nothing of the protocol: a printed set is right where each member's total over the printed
-prefixes, plus epsilon, is at least that of every object outside.
+prefixes, plus epsilon, is at least that of every object outside. An example with a status is refused with it, and its
+fault stands in the file `fault`; of a run that is made from a seed the text alone is compared.
 """
 import csv
 import pathlib
@@ -51,18 +52,31 @@ def cut_of(fields):
     return cut
 
 
+def asked(fields, options):
+    """The k and epsilon of a line, which says them once they were retuned."""
+    if "epsilon" in fields:
+        return int(fields[3]), int(fields[5])
+    return int(options["k"]), int(options["epsilon"])
+
+
+def is_refused(folder):
+    return (folder / "status").exists()
+
+
 def check(folder):
+    if is_refused(folder) or (folder / "words").read_text().startswith("gen"):
+        return None
     options, files = words_of(folder)
     names = [row[0] for row in csv.reader((folder / options["objects"]).open(newline=""))]
     logs = {m: [changes_of(folder / file) for file in some] for m, some in files.items()}
-    epsilon, count = int(options["epsilon"]), int(options["k"])
     final = None
     for line in (folder / "expected.txt").read_text().splitlines():
         fields = line.split()
         if fields[0] not in ("set", "final"):
             continue
-        middle = fields.index("members")
-        cut, members = cut_of(fields[3:middle]), fields[middle + 1:]
+        count, epsilon = asked(fields, options)
+        begin, middle = fields.index("cut") + 1, fields.index("members")
+        cut, members = cut_of(fields[begin:middle]), fields[middle + 1:]
         totals = totals_at(names, logs, cut)
         least = min(totals[name] for name in members)
         greatest = max((totals[name] for name in names if name not in members), default=least)
@@ -76,8 +90,12 @@ def check(folder):
 def run(folder):
     words = [word for word in (folder / "words").read_text().split("\n") if word]
     done = subprocess.run([PROGRAM, *words], cwd=folder, capture_output=True, text=True, timeout=60)
-    if done.returncode or done.stdout != (folder / "expected.txt").read_text():
-        return f"{folder.name}: the program prints another text, status {done.returncode}"
+    status = int((folder / "status").read_text()) if is_refused(folder) else 0
+    fault = (folder / "fault").read_text() if is_refused(folder) else ""
+    if done.returncode != status or done.stderr != fault:
+        return f"{folder.name}: the program ends in another way, status {done.returncode}"
+    if done.stdout != (folder / "expected.txt").read_text():
+        return f"{folder.name}: the program prints another text"
     return None
 
 

@@ -1,32 +1,20 @@
 //! `topk`: replays change logs through the top-k protocol, and prints each published set with the log
 //! prefixes of which it speaks, then a ledger of messages.
 //!
-//! It promises that nothing is written before the whole input stands. It stands on the drive of a world
-//! and on the ledger's text; words are read by clap.
+//! It makes the true files and the output, and calls the library of runs, which promises the rest.
 #![tactic(auto)]
 
 use std::env;
 use std::io::Write;
 use std::process::ExitCode;
 use tk_input::{StdSink, TrueFiles};
-
-mod fault_line;
-mod forms;
-mod input;
-mod outcome;
-mod replay;
-mod status;
-mod words;
-
-use fault_line::fault_line;
-use replay::run;
-use status::Status;
+use tk_run::{Status, fault_line, run};
 
 /// Runs the words on the real files and the standard output, and answers the status.
 fn run_words(rt: &HostRuntime) -> Status {
     let alloc = rt.alloc();
     let Ok(args) = env::args(rt) else {
-        return Status::Usage;
+        return Status::NoMemory;
     };
     let mut words = Vec::new(alloc);
     for word in args.skip(1) {

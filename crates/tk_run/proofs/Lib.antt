@@ -1,0 +1,5 @@
+mod NamedLemmas
+mod CauseLemmas
+mod MakingLemmas
+mod OverLemmas
+mod StartLemmas

@@ -1,0 +1,5 @@
+pub mod Causes
+pub mod Generated
+pub mod Headline
+pub mod Status
+pub mod Whole

@@ -1,0 +1,51 @@
+ghost use Rattle.std.specs.Prelude.{◌≡◌, IfOk, OnOk, length};
+ghost use Rattle.tk_drain.specs.Drive.{IsReached};
+ghost use Rattle.tk_story.specs.Moments.{IsOver};
+ghost use Rattle.tk_story.specs.Story.{IsStory};
+ghost use Rattle.tk_run.specs.Headline.{IsRunOf, IsSound};
+ghost use Rattle.tk_run.specs.Whole.{AreAgreed};
+
+use crate::headline::a_finished_run_is_sound;
+use crate::input::Input;
+use crate::start::start_of;
+use std::alloc::Global;
+use tk_base::NoMemory;
+use tk_drain::{a_drive_is_reached, drive, finish, what_is_reached_runs};
+use tk_input::{Catalog, Order};
+use tk_story::Story;
+use tk_world::World;
+
+/// Lets the events of an order happen, if there is one, and then finishes.
+fn play(alloc: Global, world: &mut World, order: &Option<Order>) -> Result<(), NoMemory>
+    ensures over { OnOk result (IsOver world.new.story) }
+    ensures legal { OnOk result (IsStory world.new.story) }
+    ensures reached { OnOk result (IsReached world.old world.new) }
+{
+    a_drive_is_reached();
+    match order {
+        Some(order) => drive(alloc, world, order),
+        None => finish(alloc, world),
+    }
+}
+
+/// The story of an input: the events of its order, then the drive to the ends of the logs.
+pub fn story_of(alloc: Global, input: Input) -> Result<(Story, Catalog), NoMemory>
+    requires { AreAgreed input.names input.settings input.logs }
+    ensures names { IfOk result (λ r. length r.1 ≡ r.0.story.settings.objects) }
+    ensures same { IfOk result (λ r. r.1 ≡ input.names) }
+    ensures sound { IfOk result (λ r. IsSound r.0.story) }
+    ensures runs { IfOk result (λ r. IsRunOf input.settings input.logs r.0) }
+{
+    let Input {
+        names,
+        settings,
+        logs,
+        order,
+    } = input;
+    let from = start_of(alloc, &logs)?;
+    let mut world = World::new(alloc, settings, logs, from)?;
+    play(alloc, &mut world, &order)?;
+    a_finished_run_is_sound();
+    what_is_reached_runs();
+    Ok((world.into_story()?, names))
+}

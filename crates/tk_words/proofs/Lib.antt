@@ -1,0 +1,3 @@
+mod DigitsLemmas
+mod FoundLemmas
+mod LogsLemmas

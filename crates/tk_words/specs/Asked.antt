@@ -1,0 +1,47 @@
+-- What the values of the code ask for.
+use Rattle.std.specs.Prelude.{ℕ, ◌≤◌, All, List, map, option_map}
+use Rattle.std.specs.Borrow.{Bor}
+use Rattle.tk_base.specs.declared.ids.Mon.{Mon}
+use Rattle.tk_words.specs.Words.{Asked, ReplayWords, GenerateWords}
+use Rattle.tk_words.specs.Words.Asked.{Replays, Generates}
+use Rattle.tk_words.specs.declared.command.Command.{Command}
+use Rattle.tk_words.specs.declared.command.Command.TheVariants.{Replay as Replayed, Generate as Generated}
+use Rattle.tk_words.specs.declared.replay.Replay.{Replay}
+use Rattle.tk_words.specs.declared.generate.Generate.{Generate}
+
+-- logs as numbers and bytes
+abbrev pub asked_logs : List (Mon × Bor (List ℕ)) → List (ℕ × List ℕ)
+asked_logs logs = map (λ log. (log.0.0, log.1.now)) logs
+
+abbrev pub asked_replay : Replay → ReplayWords
+asked_replay r = record {
+  k = r.k;
+  epsilon = r.epsilon;
+  own_weight = r.own_weight;
+  objects = r.objects.now;
+  order = option_map (λ s. s.now) r.order;
+  logs = asked_logs r.logs.items;
+}
+
+abbrev pub asked_generate : Generate → GenerateWords
+asked_generate g = record {
+  seed = g.seed;
+  monitors = g.monitors;
+  objects = g.objects;
+  updates = g.updates;
+  k = g.k;
+  epsilon = g.epsilon;
+}
+
+abbrev pub asked_by : Command → Asked
+asked_by (Replayed r) = Replays (asked_replay r)
+asked_by (Generated g) = Generates (asked_generate g)
+
+-- each log is that of a monitor from 1 to 64
+abbrev pub AreOfMonitors : List (Mon × Bor (List ℕ)) → Type 0
+AreOfMonitors logs = All (λ log. (1 ≤ log.0.0) × (log.0.0 ≤ 64)) logs
+
+-- so are the logs of a command
+abbrev pub HasMonitors : Command → Type 0
+HasMonitors (Replayed r) = AreOfMonitors r.logs.items
+HasMonitors (Generated g) = Unit

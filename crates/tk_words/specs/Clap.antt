@@ -1,0 +1,42 @@
+-- The commands as clap reads them, and what it finds in words.
+use Rattle.std.specs.Prelude.{ℕ, Bool, true, false, List, [], ◌∷◌, Option, Some, None, codes}
+use Rattle.clap.specs.Words.{App, Row, Rule, fault_of, matches_of, new_app, new_rule, with_rule}
+use Rattle.clap.specs.declared.builder.action.ArgAction.TheVariants.{Append, Set}
+
+-- an option that takes one value
+abbrev pub option_rule : List ℕ → Bool → Rule
+option_rule name required = record (new_rule name) { long = Some name; required = required; action = Some Set }
+
+-- the further words, at least one
+abbrev pub logs_rule : Rule
+logs_rule = record (new_rule (codes "log")) { required = true; action = Some Append }
+
+-- `replay`
+abbrev pub replay_app : App
+replay_app =
+    with_rule (with_rule (with_rule (with_rule (with_rule (with_rule (new_app (codes "replay"))
+    (option_rule (codes "k") true))
+    (option_rule (codes "epsilon") true))
+    (option_rule (codes "objects") true))
+    (option_rule (codes "own-weight") false))
+    (option_rule (codes "order") false))
+    logs_rule
+
+-- `gen`
+abbrev pub gen_app : App
+gen_app =
+    with_rule (with_rule (with_rule (with_rule (with_rule (with_rule (new_app (codes "gen"))
+    (option_rule (codes "seed") true))
+    (option_rule (codes "monitors") true))
+    (option_rule (codes "objects") true))
+    (option_rule (codes "updates") true))
+    (option_rule (codes "k") true))
+    (option_rule (codes "epsilon") true)
+
+-- what clap finds in the words of a command, where it does not refuse them
+abbrev pub unless_any : {A X : Type 0} → List X → A → Option A
+unless_any [] found = Some found
+unless_any (fault ∷ faults) found = None
+
+abbrev pub found_in : App → List (List ℕ) → Option (List Row)
+found_in app words = unless_any (fault_of app words) (matches_of app words)

@@ -1,0 +1,39 @@
+-- The forms of the values of words.
+use Rattle.std.specs.Prelude.{ℕ, ◌&&◌, ◌==◌, nat_lt, nat_le, if◌then◌else◌, List, [], ◌∷◌, length, Option, Some, None, option_map, option_and_then}
+use Rattle.std.specs.List.{after_first, before_first, position_or_len}
+use Rattle.std.specs.Str.{all_ascii_digits}
+use Rattle.std.specs.Str.Parse.{digits_value}
+
+-- the number that 1 to 38 decimal digits write
+abbrev pub digits_in : List ℕ → Option ℕ
+digits_in text = if nat_lt 0 (length text) && nat_le (length text) 38 && all_ascii_digits text then Some (digits_value 10 text) else None
+
+-- the number that 1 to 18 decimal digits write
+abbrev pub short_in : List ℕ → Option ℕ
+short_in text = if nat_le (length text) 18 then digits_in text else None
+
+-- the number of a monitor that is written: 1 to 64, without a leading zero
+abbrev pub monitor_from : Option ℕ → Option ℕ
+monitor_from None = None
+monitor_from (Some n) = if nat_lt 0 n && nat_le n 64 then Some n else None
+
+abbrev pub monitor_in : List ℕ → Option ℕ
+monitor_in [] = None
+monitor_in (c ∷ rest) = if c == 48 then None else (if nat_le (length rest) 1 then monitor_from (digits_in (c ∷ rest)) else None)
+
+-- a file has one byte or more
+abbrev pub file_in : List ℕ → Option (List ℕ)
+file_in [] = None
+file_in (c ∷ rest) = Some (c ∷ rest)
+
+-- the monitor and the file on the two sides of the first equals sign
+abbrev pub log_in : List ℕ → Option (ℕ × List ℕ)
+log_in word =
+    if nat_lt (position_or_len (λ b. b == 61) word) (length word)
+    then option_and_then (λ mon. option_map (λ file. (mon, file)) (file_in (after_first (λ b. b == 61) word))) (monitor_in (before_first (λ b. b == 61) word))
+    else None
+
+-- the monitors and files of all of these words, where each has that form
+abbrev pub logs_in : List (List ℕ) → Option (List (ℕ × List ℕ))
+logs_in [] = Some []
+logs_in (word ∷ rest) = option_and_then (λ log. option_map (λ logs. log ∷ logs) (logs_in rest)) (log_in word)

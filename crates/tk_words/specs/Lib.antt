@@ -1,0 +1,4 @@
+pub mod Asked
+pub mod Clap
+pub mod Forms
+pub mod Words

@@ -1,0 +1,94 @@
+-- What the words of the program ask for.
+use Rattle.std.specs.Prelude.{ℕ, List, [], ◌∷◌, Option, Some, None, option_map, option_and_then, bytes_eq, codes, if◌then◌else◌}
+use Rattle.std.specs.Option.{option_map_or}
+use Rattle.clap.specs.Words.{Row, all_of, first_of}
+use Rattle.tk_words.specs.declared.verb.Verb.{Verb}
+use Rattle.tk_words.specs.declared.verb.Verb.TheVariants.{Replay, Generate}
+use Rattle.tk_words.specs.Clap.{found_in, gen_app, replay_app}
+use Rattle.tk_words.specs.Forms.{digits_in, file_in, logs_in, short_in}
+
+-- what a replay asks for: the numbers of the settings, and the files with their logs' monitors
+pub record ReplayWords : Type 0 where
+  pub k : ℕ
+  pub epsilon : ℕ
+  pub own_weight : ℕ
+  pub objects : List ℕ
+  pub order : Option (List ℕ)
+  pub logs : List (ℕ × List ℕ)
+
+-- what a generated run asks for
+pub record GenerateWords : Type 0 where
+  pub seed : ℕ
+  pub monitors : ℕ
+  pub objects : ℕ
+  pub updates : ℕ
+  pub k : ℕ
+  pub epsilon : ℕ
+
+-- what words ask for
+pub data Asked : Type 0 where
+  Replays : ReplayWords → Asked
+  Generates : GenerateWords → Asked
+
+-- the value of a required option, in its form
+abbrev pub required : {A : Type 0} → (List ℕ → Option A) → List ℕ → List Row → Option A
+required form name rows = option_and_then form (first_of name rows)
+
+-- that of an option that may be left out, and stands for something then
+abbrev pub optional : {A : Type 0} → (List ℕ → Option A) → List ℕ → A → List Row → Option A
+optional form name absent rows = option_map_or form (first_of name rows) (Some absent)
+
+-- the further words, each the log of a monitor
+abbrev pub logs_of : List Row → Option (List (ℕ × List ℕ))
+logs_of rows = option_and_then logs_in (all_of (codes "log") rows)
+
+-- the values of a replay
+abbrev pub replay_of : List Row → Option ReplayWords
+replay_of rows =
+    option_and_then (λ k. option_and_then (λ epsilon. option_and_then (λ own_weight. option_and_then (λ objects. option_and_then (λ order.
+    option_map (λ logs. record { k = k; epsilon = epsilon; own_weight = own_weight; objects = objects; order = order; logs = logs })
+    (logs_of rows))
+    (optional (λ text. option_map Some (file_in text)) (codes "order") None rows))
+    (required file_in (codes "objects") rows))
+    (optional short_in (codes "own-weight") 1 rows))
+    (required digits_in (codes "epsilon") rows))
+    (required short_in (codes "k") rows)
+
+-- the values of a generated run
+abbrev pub generate_of : List Row → Option GenerateWords
+generate_of rows =
+    option_and_then (λ seed. option_and_then (λ monitors. option_and_then (λ objects. option_and_then (λ updates. option_and_then (λ k.
+    option_map (λ epsilon. record { seed = seed; monitors = monitors; objects = objects; updates = updates; k = k; epsilon = epsilon })
+    (required digits_in (codes "epsilon") rows))
+    (required short_in (codes "k") rows))
+    (required short_in (codes "updates") rows))
+    (required short_in (codes "objects") rows))
+    (required short_in (codes "monitors") rows))
+    (required short_in (codes "seed") rows)
+
+-- what the words of a replay ask for, where clap takes them and each value is in its form
+abbrev pub replay_in : List (List ℕ) → Option ReplayWords
+replay_in words = option_and_then replay_of (found_in replay_app words)
+
+-- what those of a generated run ask for
+abbrev pub generate_in : List (List ℕ) → Option GenerateWords
+generate_in words = option_and_then generate_of (found_in gen_app words)
+
+-- the command that a word names
+abbrev pub verb_named : List ℕ → Option Verb
+verb_named word = if bytes_eq word (codes "replay") then Some Replay else (if bytes_eq word (codes "gen") then Some Generate else None)
+
+-- the command of some words, which the first of them names
+abbrev pub verb_of : List (List ℕ) → Option Verb
+verb_of [] = None
+verb_of (word ∷ rest) = verb_named word
+
+-- what the words of a command ask for
+abbrev pub asked_under : Option Verb → List (List ℕ) → Option Asked
+asked_under None words = None
+asked_under (Some Replay) words = option_map Replays (replay_in words)
+asked_under (Some Generate) words = option_map Generates (generate_in words)
+
+-- what words ask for, where they are understood
+abbrev pub words_of : List (List ℕ) → Option Asked
+words_of words = asked_under (verb_of words) words

@@ -1,0 +1,38 @@
+ghost use Rattle.std.specs.Prelude.{◌≡◌, Some, None, IfOk, IsErrOf, map, string_bytes};
+ghost use Rattle.tk_words.specs.Asked.{HasMonitors, asked_by};
+ghost use Rattle.tk_words.specs.Words.{words_of};
+
+use crate::fault::WordsFault;
+use crate::generate::{Generate, read_generate};
+use crate::replay::{Replay, read_replay};
+use crate::verb::{Verb, verb_of};
+use std::alloc::Global;
+
+/// What the words of the program ask for.
+#[derive(Drop)]
+pub enum Command<'a> {
+    /// A replay of logs from files.
+    Replay(Replay<'a>),
+    /// A replay of logs that are made.
+    Generate(Generate),
+}
+
+/// Reads the words, which come without the program's name. The first is the command.
+pub fn read<'a>(alloc: Global, words: &'a [String]) -> Result<Command<'a>, WordsFault>
+    ensures ok { IfOk result (λ c. words_of (map string_bytes words.entry.now) ≡ Some (asked_by c)) }
+    // Where the first names no command, clap refuses the rest, or a value is not in its form.
+    ensures usage { IsErrOf result WordsFault.Usage → words_of (map string_bytes words.entry.now) ≡ None }
+    ensures monitors { IfOk result HasMonitors }
+{
+    match verb_of(words) {
+        None => Err(WordsFault::Usage),
+        Some(Verb::Replay) => match read_replay(alloc, words) {
+            Ok(replay) => Ok(Command::Replay(replay)),
+            Err(fault) => Err(fault),
+        },
+        Some(Verb::Generate) => match read_generate(alloc, words) {
+            Ok(generate) => Ok(Command::Generate(generate)),
+            Err(fault) => Err(fault),
+        },
+    }
+}

@@ -1,0 +1,64 @@
+ghost use Rattle.std.specs.Prelude.{◌≡◌, ◌≤◌, IfSome, option_map};
+ghost use Rattle.tk_words.specs.Forms.{digits_in, file_in, log_in, monitor_in, short_in};
+
+use crate::digits::digits_of;
+use tk_base::Mon;
+
+const MAX_MONITOR: u128 = 64;
+
+const SHORT_DIGITS: usize = 18;
+
+/// A number of 1 to 38 decimal digits.
+pub fn long_number(text: &str) -> Option<u128>
+    ensures { result ≡ digits_in text.now }
+{
+    digits_of(text.as_bytes())
+}
+
+/// A number of 1 to 18 decimal digits.
+pub fn short_number(text: &str) -> Option<u64>
+    ensures { result ≡ short_in text.now }
+{
+    if text.len() > SHORT_DIGITS {
+        return None;
+    }
+    Some(digits_of(text.as_bytes())? as u64)
+}
+
+/// The number of a monitor: 1 to 64, without a leading zero.
+fn monitor(text: &[u8]) -> Option<Mon>
+    ensures value { option_map (λ m. m.0) result ≡ monitor_in text.now }
+    ensures range { IfSome result (λ m. (1 ≤ m.0) × (m.0 ≤ 64)) }
+{
+    match text {
+        [] | [b'0', ..] => None,
+        [_, rest @ ..] => {
+            if rest.len() > 1 {
+                return None;
+            }
+            let number = digits_of(text)?;
+            if 0 < number && number <= MAX_MONITOR {
+                Some(Mon(number as u32))
+            } else {
+                None
+            }
+        }
+    }
+}
+
+/// The word of a file, which has at least one byte.
+pub fn file(word: &str) -> Option<&str>
+    ensures { option_map (λ s. s.now) result ≡ file_in word.now }
+{
+    if word.is_empty() { None } else { Some(word) }
+}
+
+/// The monitor and the file of a word MON=FILE, where the file may hold further equals signs.
+pub fn log_word(word: &str) -> Option<(Mon, &str)>
+    ensures value { option_map (λ log. (log.0.0, log.1.now)) result ≡ log_in word.now }
+    ensures monitor { IfSome result (λ log. (1 ≤ log.0.0) × (log.0.0 ≤ 64)) }
+{
+    let (before, after) = word.split_once('=')?;
+    let mon = monitor(before.as_bytes())?;
+    Some((mon, file(after)?))
+}

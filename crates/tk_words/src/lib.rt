@@ -1,0 +1,22 @@
+//! The words of the program: which command they ask for, and with which values.
+//!
+//! It promises that words are refused exactly where the first names no command, where clap refuses the rest,
+//! or where a value is not in its form. It is the only crate that calls clap. It reads no file.
+//! A new command has a file of its own, a variant of `Command`, and an arm in `read`.
+#![tactic(auto)]
+
+mod command;
+mod digits;
+mod fault;
+mod forms;
+mod generate;
+mod options;
+mod parsing;
+mod replay;
+mod verb;
+
+pub use command::{Command, read};
+pub use fault::WordsFault;
+pub use generate::Generate;
+pub use replay::Replay;
+pub use verb::Verb;

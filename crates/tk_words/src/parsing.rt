@@ -1,0 +1,66 @@
+ghost use Rattle.std.specs.Prelude.{◌≡◌, ◌≢◌, true, Some, None, IfOk, IsErrOf, map, codes, string_bytes, option_map};
+ghost use Rattle.clap.specs.Words.{all_of, app_of, first_of, found_of, is_simple_and_free, kind_of, rows_of};
+ghost use Rattle.tk_words.specs.Clap.{found_in};
+ghost use Rattle.tk_words.specs.Forms.{digits_in, file_in, short_in};
+ghost use Rattle.tk_words.specs.Words.{required};
+
+use crate::fault::WordsFault;
+use crate::forms::{file, long_number, short_number};
+use clap::error::ErrorKind;
+use clap::{ArgMatches, Command, Error};
+
+fn fault_of(error: Error) -> WordsFault
+    ensures { result ≡ WordsFault.Usage → kind_of error ≢ ErrorKind.OutOfMemory }
+{
+    match error.kind() {
+        ErrorKind::OutOfMemory => WordsFault::NoMemory,
+        _ => WordsFault::Usage,
+    }
+}
+
+/// What clap finds in the words of a command, the first of them included.
+pub fn parse<'a>(command: Command<'a>, words: &'a [String]) -> Result<ArgMatches<'a>, WordsFault>
+    requires { is_simple_and_free (app_of command) ≡ true }
+    ensures ok { IfOk result (λ m. found_in (app_of command.entry) (map string_bytes words.entry.now) ≡ Some (rows_of (found_of m))) }
+    ensures usage { IsErrOf result WordsFault.Usage → found_in (app_of command.entry) (map string_bytes words.entry.now) ≡ None }
+{
+    match command.try_get_matches_from(words) {
+        Ok(matches) => Ok(matches),
+        Err(error) => Err(fault_of(error)),
+    }
+}
+
+/// The value of an option.
+pub fn value<'a>(matches: &ArgMatches<'a>, name: &str) -> Option<&'a str>
+    ensures { option_map (λ s. s.now) result ≡ first_of name.now (rows_of (found_of matches.now)) }
+{
+    matches.get_str(name)
+}
+
+/// The further words.
+pub fn further<'m, 'a>(matches: &'m ArgMatches<'a>) -> Option<&'m [&'a str]>
+    ensures { option_map (λ words. map (λ s. s.now) words.now) result ≡ all_of (codes "log") (rows_of (found_of matches.now)) }
+{
+    matches.get_strs("log")
+}
+
+/// The value of a required option, a number of at most 18 digits.
+pub fn short(matches: &ArgMatches<'_>, name: &str) -> Option<u64>
+    ensures { result ≡ required short_in name.now (rows_of (found_of matches.now)) }
+{
+    short_number(value(matches, name)?)
+}
+
+/// The value of a required option, a number of at most 38 digits.
+pub fn long(matches: &ArgMatches<'_>, name: &str) -> Option<u128>
+    ensures { result ≡ required digits_in name.now (rows_of (found_of matches.now)) }
+{
+    long_number(value(matches, name)?)
+}
+
+/// The value of a required option, a file.
+pub fn named_file<'a>(matches: &ArgMatches<'a>, name: &str) -> Option<&'a str>
+    ensures { option_map (λ s. s.now) result ≡ required file_in name.now (rows_of (found_of matches.now)) }
+{
+    file(value(matches, name)?)
+}

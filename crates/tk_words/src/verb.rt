@@ -1,0 +1,31 @@
+ghost use Rattle.std.specs.Prelude.{◌≡◌, map, string_bytes};
+ghost use Rattle.tk_words.specs.Words.{verb_named, verb_of as verb_of_words};
+
+/// The command that the first word names.
+#[derive(Clone, Copy, Debug, PartialEq, Eq)]
+pub enum Verb {
+    Replay,
+    Generate,
+}
+
+fn verb_in(word: &str) -> Option<Verb>
+    ensures { result ≡ verb_named word.now }
+{
+    if word == "replay" {
+        Some(Verb::Replay)
+    } else if word == "gen" {
+        Some(Verb::Generate)
+    } else {
+        None
+    }
+}
+
+/// The command of some words.
+pub fn verb_of(words: &[String]) -> Option<Verb>
+    ensures { result ≡ verb_of_words (map string_bytes words.now) }
+{
+    match words {
+        [] => None,
+        [word, ..] => verb_in(word.as_str()),
+    }
+}
