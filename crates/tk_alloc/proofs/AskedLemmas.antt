@@ -10,10 +10,11 @@ use Rattle.tk_base.specs.Settings.{Setup, IsWithinLimits}
 use Rattle.tk_rows.specs.declared.reallocation.Reallocation.{Reallocation}
 use Rattle.tk_rows.specs.Factors.{Grid, AreBalanced, factor_at}
 use Rattle.tk_alloc.specs.declared.alloc_fault.AllocFault.{AllocFault}
+use Rattle.tk_alloc.specs.declared.alloc_fault.AllocFault.TheVariants.{PastLimit, NoMemory}
 use Rattle.tk_alloc.specs.declared.reported.Reported.{Reported}
 use Rattle.tk_alloc.specs.declared.terms.Borders.TheVariants.{AsReported}
 use Rattle.tk_alloc.specs.declared.terms.Terms.{Terms}
-use Rattle.tk_alloc.specs.Limit.{AreAllWithin, TellsFault}
+use Rattle.tk_alloc.specs.Limit.{AreAllWithin, IsFirstPast, IsPastLimit, TellsFault}
 use Rattle.tk_alloc.specs.Parts.{IsReallocation, value_of}
 use Rattle.tk_alloc.specs.Resolving.{CanTakePart, IsReady, IsRound, round_border}
 use Rattle.tk_alloc.specs.Search.{AreWithin, IsEven, by_node}
@@ -99,5 +100,8 @@ pub ok_given : (r : Result Reallocation AllocFault) (change : Reallocation) (nod
     → IfOk r (λ x. (i : ℕ) → i < length x.own → AreWithin (by_node x) i) → IfOk r (λ _. AreAllWithin nodes)
 ok_given r change nodes even is same within = ok_within r change (λ _. AreAllWithin nodes) same within (λ small. subst AreAllWithin is (all_given change even small))
 
-pub err_so : (r : Result Reallocation AllocFault) (change : Reallocation) (nodes : List (ℕ × List (ℕ × ℤ))) → by_node change ≡ nodes → IfErr r (TellsFault (by_node change)) → IfErr r (TellsFault nodes)
-err_so r change nodes is past = subst (λ ns. IfErr r (TellsFault ns)) is past
+-- a fault past the limit is what a round tells of these factors
+pub err_so : (r : Result Reallocation AllocFault) (change : Reallocation) (nodes : List (ℕ × List (ℕ × ℤ))) → by_node change ≡ nodes → IfErr r (IsPastLimit (by_node change)) → IfErr r (TellsFault nodes)
+err_so (Ok x) change nodes is past = tt
+err_so (Err (PastLimit o node factor)) change nodes is past = subst (λ ns. IsFirstPast ns o.0 node factor) is past
+err_so (Err NoMemory) change nodes is past = tt

@@ -20,3 +20,4 @@ pub mod WideLemmas
 pub mod TestLemmas
 pub mod CalmLemmas
 pub mod MendLemmas
+mod Examples

@@ -28,6 +28,11 @@ pub record IsFirstPast (nodes : List (ℕ × List (ℕ × ℤ))) (o node : ℕ) 
   pub least_object : (q n : ℕ) (z : ℤ) → Gives nodes q n z → q < o → IsFactor z
   pub least_node : (n : ℕ) (z : ℤ) → Gives nodes o n z → n < node → IsFactor z
 
+-- a fault is that of the first of these factors past the limit, and never want of memory
+abbrev pub IsPastLimit : List (ℕ × List (ℕ × ℤ)) → AllocFault → Type 0
+IsPastLimit nodes (PastLimit o node factor) = IsFirstPast nodes o.0 node factor
+IsPastLimit nodes NoMemory = ⊥
+
 -- what the fault of a round tells of its factors: the first that is past the limit, or want of memory
 abbrev pub TellsFault : List (ℕ × List (ℕ × ℤ)) → AllocFault → Type 0
 TellsFault nodes (PastLimit o node factor) = IsFirstPast nodes o.0 node factor

@@ -1,6 +1,6 @@
 ghost use Rattle.std.specs.Prelude.{◌≡◌, ◌^◌, ◌<◌, ℕ, nat_lt, unsigned_abs, length, IfSome, IfNone, IfOk, IfErr};
 ghost use Rattle.std.specs.List.{All};
-ghost use Rattle.tk_alloc.specs.Limit.{TellsFault};
+ghost use Rattle.tk_alloc.specs.Limit.{IsPastLimit};
 ghost use Rattle.tk_alloc.specs.Search.{AreWithin, IsEven, IsFirstNode, by_node};
 
 use crate::alloc_fault::AllocFault;
@@ -48,7 +48,7 @@ pub fn within_limit(change: Reallocation) -> Result<Reallocation, AllocFault>
     requires { IsEven change }
     ensures same { IfOk result (λ r. r ≡ change) }
     ensures within { IfOk result (λ r. (i : ℕ) → i < length r.own → AreWithin (by_node r) i) }
-    ensures past { IfErr result (TellsFault (by_node change)) }
+    ensures past { IfErr result (IsPastLimit (by_node change)) }
 {
     for place in 0..change.own.len() {
         if let Some(past) = past_at(&change, place) {

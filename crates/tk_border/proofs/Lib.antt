@@ -3,3 +3,4 @@ pub mod MembershipLemmas
 pub mod PassedLemmas
 pub mod RisingLemmas
 mod UnionLemmas
+mod Examples
