@@ -57,14 +57,19 @@ neither : (a b : Bool) → (a || b) ≡ false → (a ≡ false) × (b ≡ false)
 neither true b e = cc
 neither false b e = (refl, e)
 
+-- changes of which none is bad
+pub good_changes : (setup : MonitorSetup) (changes : List (ℕ × ℤ)) → option_map (λ (change : ℕ × ℤ). BadChange (record { 0 = change.0 })) (find (is_bad_change setup.objects) changes) ≡ None → AreWithinLimits setup changes
+good_changes setup changes none c in' =
+    let good = none_bad (is_bad_change setup.objects) changes (mapped_none (λ (change : ℕ × ℤ). BadChange (record { 0 = change.0 })) (find (is_bad_change setup.objects) changes) none) c in' in
+    let both = neither (nat_lt setup.objects c.0) (nat_lt (2 ^ 112) (unsigned_abs c.1)) good in
+    (ltb-false setup.objects c.0 both.0, ltb-false (2 ^ 112) (unsigned_abs c.1) both.1)
+
 pub taken_within : (setup : MonitorSetup) (before after : List Entry) (seq : ℕ) (members : List ℕ) (changes : List (ℕ × ℤ)) → IsLegal setup (before ++ Took (f.Assign seq members changes) ∷ after) → AreWithinLimits setup changes
-taken_within setup before after seq members changes legal c in' =
+taken_within setup before after seq members changes legal =
     let none = (allowed_at setup before after (Took (f.Assign seq members changes)) legal).1 in
     let first = if_none (not (seq == seq_of before + 1)) (WrongSequence (seq_of before) seq) _ (not_refused setup before (f.Assign seq members changes) none).1 in
     let second = if_none (not (are_members setup.objects members)) BadMembers (option_map (λ (change : ℕ × ℤ). BadChange (record { 0 = change.0 })) (find (is_bad_change setup.objects) changes)) first.1 in
-    let good = none_bad (is_bad_change setup.objects) changes (mapped_none (λ (change : ℕ × ℤ). BadChange (record { 0 = change.0 })) (find (is_bad_change setup.objects) changes) second.1) c in' in
-    let both = neither (nat_lt setup.objects c.0) (nat_lt (2 ^ 112) (unsigned_abs c.1)) good in
-    (ltb-false setup.objects c.0 both.0, ltb-false (2 ^ 112) (unsigned_abs c.1) both.1)
+    good_changes setup changes second.1
 
 -- ---- places
 
@@ -91,7 +96,7 @@ places_within setup before after seq last places h legal =
 passed_here : (b x : ℕ) (xs : List ℕ) → list_all (λ (p : ℕ × ℕ). nat_lt p.0 p.1) (zip (b ∷ x ∷ xs) (x ∷ xs)) ≡ true → (b < x) × (list_all (λ (p : ℕ × ℕ). nat_lt p.0 p.1) (zip (x ∷ xs) xs) ≡ true)
 passed_here b x xs e = let both = and_both (nat_lt b x) (list_all (λ (p : ℕ × ℕ). nat_lt p.0 p.1) (zip (x ∷ xs) xs)) e in (ltb-true b x both.0, both.1)
 
-passes_rise : (b : ℕ) (xs : List ℕ) → list_all (λ (p : ℕ × ℕ). nat_lt p.0 p.1) (zip (b ∷ xs) xs) ≡ true → Rises b xs
+pub passes_rise : (b : ℕ) (xs : List ℕ) → list_all (λ (p : ℕ × ℕ). nat_lt p.0 p.1) (zip (b ∷ xs) xs) ≡ true → Rises b xs
 passes_rise b [] e = tt
 passes_rise b (x ∷ xs) e = let h = passed_here b x xs e in (h.0, passes_rise x xs h.1)
 

@@ -256,7 +256,7 @@ legal_places setup start trail each =
     each_carries (Allowed setup) (λ front. ArePlaces setup.parts (places_at setup front)) (λ front e. places_goes setup front e) [] trail
     (subst (ArePlaces setup.parts) (sym (places_at-start setup)) start) each
 
-not_false : (b : Bool) → not b ≡ false → b ≡ true
+pub not_false : (b : Bool) → not b ≡ false → b ≡ true
 not_false true is = refl
 not_false false is = cc
 

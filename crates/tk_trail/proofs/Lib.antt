@@ -17,3 +17,4 @@ pub mod SaysLemmas
 pub mod SendsLemmas
 pub mod MemberLemmas
 pub mod BoundLemmas
+pub mod BorderLemmas
