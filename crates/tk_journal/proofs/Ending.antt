@@ -120,11 +120,11 @@ pub chosen_count : (setup : Setup) (present : List ℕ) (reports : List Reported
 chosen_count setup present reports all up some most =
     length-picked present (totals reports all) setup.k (subst IsAscending (sym (totals_objects reports all)) up) some (let l = ap length (totals_objects reports all) in let m = length-map (totals reports all) (λ (p : ℕ × ℤ). p.0) in omega (arith, most, l, m))
 
-named_after : (j : List Noted) (members : List ℕ) (rows : List Row) → 0 < length rows → members_at (j ++ sends j members rows) ≡ members
+pub named_after : (j : List Noted) (members : List ℕ) (rows : List Row) → 0 < length rows → members_at (j ++ sends j members rows) ≡ members
 named_after j members [] some = absurd (omega (arith, some))
 named_after j members (d ∷ rows) some = named_members j (λ (e : Row). e.0) (λ e. assigns_sent e.0 j + 1) members (λ e. e.1) d rows
 
-rows_some : (grid : Grid) (parts : List Part) (all : List ℕ) (b : Reported → ℤ) (reports : List Reported) → 0 < length reports → 0 < length (dealt_rows grid parts all 1 (map (λ r. monitor (b r) r) reports))
+pub rows_some : (grid : Grid) (parts : List Part) (all : List ℕ) (b : Reported → ℤ) (reports : List Reported) → 0 < length reports → 0 < length (dealt_rows grid parts all 1 (map (λ r. monitor (b r) r) reports))
 rows_some grid parts all b [] some = absurd (omega (arith, some))
 rows_some grid parts all b (r ∷ reports) some = omega arith
 
@@ -132,7 +132,7 @@ monitor_nodes : (b : Reported → ℤ) (reports : List Reported) → map (λ (q 
 monitor_nodes b [] = refl
 monitor_nodes b (r ∷ reports) = ap (λ xs. r.mon.0 ∷ xs) (monitor_nodes b reports)
 
-all_nodes : (grid : Grid) (parts : List Part) (all : List ℕ) (b : Reported → ℤ) (reports : List Reported) → map (λ (d : Row). d.0) (dealt_rows grid parts all 1 (map (λ r. monitor (b r) r) reports)) ≡ map (λ (r : Reported). r.mon.0) reports
+pub all_nodes : (grid : Grid) (parts : List Part) (all : List ℕ) (b : Reported → ℤ) (reports : List Reported) → map (λ (d : Row). d.0) (dealt_rows grid parts all 1 (map (λ r. monitor (b r) r) reports)) ≡ map (λ (r : Reported). r.mon.0) reports
 all_nodes grid parts all b reports = rows_nodes grid parts all 1 (map (λ r. monitor (b r) r) reports) ∙ monitor_nodes b reports
 
 pub full_standing : (s : Setup) (j : List Noted) (reports : List Reported) → 0 < s.monitors → IsFullAt s j reports → is_within_limit (full_at s j reports) ≡ true → IsStanding s (j ++ assigns j (full_at s j reports))
@@ -238,7 +238,7 @@ pub record IsShortAt (s : Setup) (j : List Noted) (report : Reported) : Type 0 w
 at_most : (a b : ℤ) → int_le a b ≡ true → a ≤ℤ b
 at_most a b e = omega (arith, ints, e)
 
-passed : (setup : Setup) (grid : Grid) (present : List ℕ) (report : Reported) → passes_short_test setup grid present report ≡ true → PassesShortTest setup grid present report
+pub passed : (setup : Setup) (grid : Grid) (present : List ℕ) (report : Reported) → passes_short_test setup grid present report ≡ true → PassesShortTest setup grid present report
 unfolding passes_short_test
 passed setup grid present report test t o in' out of =
     let parts = round_parts setup grid present present (objects_of report.values) (report ∷ []) in

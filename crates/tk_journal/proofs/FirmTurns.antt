@@ -282,7 +282,7 @@ reports_take : (s : Setup) (j : List Noted) (P : Reported → Type 0) → ((mon 
 unfolding reports_at
 reports_take s j P each = all_by P (filter_map (λ mon. report_of mon j) (monitors s)) (λ r in'. found_gives P (λ mon. report_of mon j) 1 s.monitors (λ mon low high. each mon (record { from_one = low; within = omega (arith, high) })) r in')
 
-got_sizes : (s : Setup) (j : List Noted) (from : Mon) (frame : Frame) → AreSized s j → AreSized s (j ++ n.Got from frame ∷ [])
+pub got_sizes : (s : Setup) (j : List Noted) (from : Mon) (frame : Frame) → AreSized s j → AreSized s (j ++ n.Got from frame ∷ [])
 got_sizes s j from frame z = record {
   own = λ o r. subst IsFactor (sym (own_by s j (j ++ n.Got from frame ∷ []) (λ mon. got_assigns mon j from frame) o)) (z.own o r);
   each = λ o mon r m. subst IsFactor (sym (factor_by j (j ++ n.Got from frame ∷ []) (λ q. got_assigns q j from frame) mon o)) (z.each o mon r m);

@@ -1,10 +1,9 @@
 -- How a journal grows in the turn of a taken frame: nothing more, an Assign to one, an Assign to each, or the Collects of a new round.
-use Rattle.tk_frames.specs.declared.frame.Frame.TheVariants as f
 use Rattle.tk_journal.specs.declared.noted.Noted.TheVariants as n
-use Rattle.std.proofs.Common.{◌≡◌, ℕ, suc, zero, ◌+◌, ◌≤◌, ◌<◌, ◌&&◌, ◌||◌, ◌==◌, ℤ, pos, Bool, true, false, not, List, [], ◌∷◌, ◌++◌, length, map, drop, Option, Some, None, refl, sym, ap, ◌∙◌, subst, arith, append-nil}
+use Rattle.std.proofs.Common.{◌≡◌, ℕ, suc, zero, ◌+◌, ◌≤◌, ◌<◌, ◌&&◌, ◌||◌, ◌==◌, ℤ, true, false, not, List, [], ◌∷◌, ◌++◌, map, drop, Some, None, refl, sym, ap, ◌∙◌, subst, arith, append-nil}
 use Rattle.std.specs.Prelude.{filter, is_some, nat_lt, nat_le, if◌then◌else◌}
 use Rattle.std.specs.List.{range_with_len}
-use Rattle.std.proofs.lemmas.Bool.{true≢false, false≢true, eq-eqb, eqb-true, ne_eqb, and_parts, ltb-true, leb-true}
+use Rattle.std.proofs.lemmas.Bool.{true≢false, eq-eqb, eqb-true, and_parts, ltb-true, leb-true}
 use Rattle.tk_base.specs.Objects.{objects, is_in}
 use Rattle.tk_base.specs.Pairs.{objects_of}
 use Rattle.tk_base.specs.Settings.{Setup}
@@ -89,7 +88,7 @@ short_row s before report =
     let parts = round_parts (in_force s before) (table_at s before) (members_at before) (members_at before) (objects_of report.values) (report ∷ []) in
     ((report.mon.0, map (λ o. (o, new_factor (table_at s before) parts 1 (monitor report.border report) o)) (objects_of report.values)), refl, refl)
 
-ending_of : (s : Setup) (before : List Noted) (from : Mon) (frame : Frame) → IsMonitor s from.0 → refusal_of s before from.0 frame ≡ None → IsOrderly s before → IsLastValues s before from frame
+pub ending_of : (s : Setup) (before : List Noted) (from : Mon) (frame : Frame) → IsMonitor s from.0 → refusal_of s before from.0 frame ≡ None → IsOrderly s before → IsLastValues s before from frame
     → IsEnding s (with_got before from frame) (reports_at s (with_got before from frame))
 ending_of s before from frame range none o v =
     subst (λ (g : Frame). refusal_of s before from.0 g ≡ None → is_open s (with_got before from g) ≡ false → IsEnding s (with_got before from g) (reports_at s (with_got before from g))) (sym v.is)

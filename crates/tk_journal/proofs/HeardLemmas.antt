@@ -2,16 +2,16 @@
 use Rattle.tk_frames.specs.declared.frame.Frame.TheVariants as f
 use Rattle.tk_journal.specs.Sending.{WasHeard}
 use Rattle.tk_journal.specs.declared.noted.Noted.TheVariants as n
-use Rattle.std.proofs.Common.{◌≡◌, ℕ, suc, zero, ◌+◌, ◌≤◌, ◌<◌, ◌==◌, ◌&&◌, Bool, true, false, not, List, [], ◌∷◌, ◌++◌, length, map, Contains, Option, Some, None, refl, sym, ap, ◌∙◌, subst, arith, append-nil, inl, inr}
+use Rattle.std.proofs.Common.{◌≡◌, ℕ, suc, zero, ◌+◌, ◌≤◌, ◌==◌, Bool, true, false, List, [], ◌∷◌, ◌++◌, length, map, Contains, Option, Some, None, refl, sym, ap, ◌∙◌, subst, arith, append-nil, inl, inr}
 use Rattle.std.specs.Prelude.{ℤ, filter, filter_map, is_some, if◌then◌else◌, ◌⊎◌}
 use Rattle.std.specs.List.{range_with_len, enumerate_from, cons_option}
-use Rattle.std.proofs.lemmas.Bool.{cases_Bool, cases_eq, true≢false, false≢true, eqb-true, eq-eqb, ne_eqb}
+use Rattle.std.proofs.lemmas.Bool.{cases_eq, eq-eqb, ne_eqb}
 use Rattle.std.proofs.lemmas.List.{length-append}
 use Rattle.std.proofs.lemmas.Map.Views.{exact_unsigned_eq}
 use Rattle.tk_base.specs.Objects.{objects}
 use Rattle.tk_base.specs.Settings.{Setup}
 use Rattle.tk_base.specs.declared.ids.Mon.{Mon}
-use Rattle.tk_frames.specs.Assigns.{Assign, assign_in}
+use Rattle.tk_frames.specs.Assigns.{assign_in}
 use Rattle.tk_frames.specs.declared.frame.Frame.{Frame}
 use Rattle.tk_frames.specs.Carried.{seq_in}
 use Rattle.tk_journal.specs.Laws.{IsMonitor, IsSetUp}
@@ -26,7 +26,7 @@ use Rattle.tk_journal.specs.Turns.{collects, demanded, rounds, wide_collects}
 use Rattle.tk_journal.specs.declared.noted.Noted.{Noted}
 use Rattle.tk_journal.proofs.Answering.{answer_fresh}
 use Rattle.tk_journal.proofs.Appends.{frames_from-append}
-use Rattle.tk_journal.proofs.Pieces.{batch, batch_from, got_sent}
+use Rattle.tk_journal.proofs.Pieces.{batch_from, got_sent}
 use Rattle.tk_journal.proofs.Batches.{named, named_assigns, plain_assigns}
 use Rattle.tk_journal.proofs.Naming.{one_row}
 use Rattle.tk_journal.proofs.Rounding.{openers_kept, values_there}

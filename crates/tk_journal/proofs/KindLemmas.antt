@@ -1,7 +1,7 @@
 -- The streak and the number of rounds are readings of the turns of a journal.
 use Rattle.tk_frames.specs.declared.frame.Frame.TheVariants as f
 use Rattle.tk_journal.specs.declared.noted.Noted.TheVariants as n
-use Rattle.std.proofs.Common.{◌≡◌, ℕ, suc, zero, ◌+◌, ◌≤◌, ◌<◌, ◌==◌, ◌&&◌, ℤ, Bool, true, false, not, List, [], ◌∷◌, ◌++◌, length, map, refl, sym, ap, ◌∙◌, subst, arith, append_assoc, append-nil}
+use Rattle.std.proofs.Common.{◌≡◌, ℕ, suc, zero, ◌+◌, ◌==◌, ◌&&◌, ℤ, Bool, true, false, not, List, [], ◌∷◌, ◌++◌, map, refl, sym, ap, ◌∙◌, arith, append_assoc, append-nil}
 use Rattle.std.specs.Prelude.{count_by, filter, fold, if◌then◌else◌}
 use Rattle.std.specs.List.{enumerate_from, range_with_len}
 use Rattle.std.proofs.lemmas.Bool.{eq-eqb, false≢true, true≢false}
@@ -37,7 +37,7 @@ one b = if b then 1 else 0
 
 -- ---- the turns over one more turn
 
-abbrev goes : Setup → List Noted → List Turn → Noted → List Turn
+abbrev pub goes : Setup → List Noted → List Turn → Noted → List Turn
 goes s before turns e = turns ++ turned s before e
 
 no_turns : (s : Setup) (front : List Noted) (acc : List Turn) (rest : List Noted) → inputs_of rest ≡ [] → walk (goes s) front acc rest ≡ acc
@@ -177,7 +177,7 @@ settled_rounds : (s : Setup) (before now : List Noted) (stale : Bool) → rounds
 settled_rounds s before now true count = none_more s now (rounds s before) count
 settled_rounds s before now false count = none_more s now (rounds s before) count
 
-demanded_rounds : (s : Setup) (before : List Noted) (k : ℕ) (from : Mon) (frame : Frame) → s.monitors ≡ suc k
+pub demanded_rounds : (s : Setup) (before : List Noted) (k : ℕ) (from : Mon) (frame : Frame) → s.monitors ≡ suc k
     → rounds s (before ++ n.Got from frame ∷ [] ++ demanded s before from.0 frame) ≡ rounds s before + one (is_full_kind (kind_of s before from.0 frame)) + one (opens_wide s before from.0 frame)
 unfolding demanded opens_wide kind_of
 demanded_rounds s before k from (f.Report seq border failed values) some =
@@ -218,7 +218,7 @@ rounds_turn s before k (n.Tuned k' epsilon) some accepted =
 rounds_turn s before k (n.Sent to frame) some accepted = absurd accepted
 rounds_turn s before k (n.Published publication) some accepted = absurd accepted
 
-count-append : (p : Turn → Bool) (xs ys : List Turn) → count_by p (xs ++ ys) ≡ count_by p xs + count_by p ys
+pub count-append : (p : Turn → Bool) (xs ys : List Turn) → count_by p (xs ++ ys) ≡ count_by p xs + count_by p ys
 count-append p xs ys = sum_by-append (λ t. Rattle.std.specs.Prelude.cond (p t) 1 0) xs ys
 
 opened_rounds : (o : Opening) → rounds o.settings (opened o) ≡ 0

@@ -1,5 +1,5 @@
 -- The levels of a monitor behind a short round, by the journal's factors.
-use Rattle.std.proofs.Common.{◌≡◌, ℕ, suc, zero, ◌+◌, ◌-◌, ◌≤◌, ◌<◌, ◌==◌, ℤ, pos, ◌+ℤ◌, Bool, true, false, List, [], ◌∷◌, ◌++◌, length, map, get_or, Contains, Option, Some, None, refl, sym, ap, ◌∙◌, subst, arith}
+use Rattle.std.proofs.Common.{◌≡◌, ℕ, suc, zero, ◌+◌, ◌-◌, ◌≤◌, ◌<◌, ◌==◌, ℤ, pos, ◌+ℤ◌, List, [], ◌∷◌, ◌++◌, length, map, get_or, Contains, Option, refl, sym, ap, ◌∙◌, arith}
 use Rattle.std.specs.Prelude.{unwrap_or, filter, if◌then◌else◌}
 use Rattle.std.specs.List.{range_with_len}
 use Rattle.std.proofs.lemmas.Bool.{eq-eqb}
@@ -25,7 +25,7 @@ use Rattle.tk_alloc.specs.Strain.{AreLevelled, short_level}
 abbrev pub levels_by : ℕ → (ℕ → ℤ) → (ℕ → ℤ) → List ℤ
 levels_by n value factor = map (λ o. value o +ℤ factor o) (objects n)
 
-count_levels : (n : ℕ) (h : ℕ → ℤ) → length (map h (objects n)) ≡ n
+pub count_levels : (n : ℕ) (h : ℕ → ℤ) → length (map h (objects n)) ≡ n
 unfolding objects
 count_levels n h = length-map (range_with_len 1 n) h ∙ length-range_with_len 1 n
 
@@ -65,7 +65,7 @@ short_levelled s j report n value same =
 
 -- ---- behind a wide round
 
-dealt_at : (grid : Grid) (parts : List Part) (all : List ℕ) (first : ℕ) (ps : List Part) (k : ℕ) (d : Row) (p : Part) → k < length ps → get_or ps k p ≡ p
+pub dealt_at : (grid : Grid) (parts : List Part) (all : List ℕ) (first : ℕ) (ps : List Part) (k : ℕ) (d : Row) (p : Part) → k < length ps → get_or ps k p ≡ p
     → get_or (dealt_rows grid parts all first ps) k d ≡ (p.node, map (λ o. (o, new_factor grid parts (first + k) p o)) all)
 dealt_at grid parts all first [] k d p within is = absurd (omega (arith, within))
 dealt_at grid parts all first (q ∷ ps) zero d p within is =

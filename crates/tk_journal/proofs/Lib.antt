@@ -31,6 +31,7 @@ pub mod Dealable
 pub mod Ended
 pub mod StartLemmas
 pub mod Worked
+mod WorkedKinds
 mod WorkedRefusals
 pub mod AskedLemmas
 pub mod GatheredLemmas
@@ -38,7 +39,9 @@ pub mod GrowLemmas
 pub mod HeardLemmas
 pub mod KindLemmas
 pub mod LastLemmas
+pub mod LeftLemmas
 pub mod LevelledLemmas
+pub mod NumberLemmas
 pub mod ProgressLemmas
 pub mod RestLemmas
 pub mod SendLemmas

@@ -1,10 +1,10 @@
 -- Cuts never go back.
 use Rattle.tk_frames.specs.declared.frame.Frame.TheVariants as f
 use Rattle.tk_journal.specs.declared.noted.Noted.TheVariants as n
-use Rattle.std.proofs.Common.{◌≡◌, ℕ, suc, zero, ◌+◌, ◌≤◌, ◌<◌, ◌&&◌, ◌==◌, ◌⊎◌, ℤ, Bool, true, false, List, [], ◌∷◌, ◌++◌, length, get_or, Option, Some, None, refl, sym, ap, ◌∙◌, subst, arith, append_assoc, append-nil, inl, inr, ◌-◌, ◌||◌, not, map, Contains, ◌+ℤ◌, ◌≤ℤ◌, pos, ◌^◌}
-use Rattle.std.specs.Prelude.{nat_le, is_some, if◌then◌else◌, filter_map, nat_lt, fold, neg_ℤ, nat_eq, int_lt, unsigned_abs, find, cond, unwrap_or, filter, IfSome}
-use Rattle.std.specs.List.{cons_option, list_all, zip, All, range_with_len, list_any}
-use Rattle.std.proofs.lemmas.Bool.{and_parts, eqb-true, false≢true, leb-true, true≢false, cases_Bool, cases_lt, eq-eqb, le-ltb, lt-ltb, and_from, le-leb}
+use Rattle.std.proofs.Common.{◌≡◌, ℕ, suc, zero, ◌+◌, ◌≤◌, ◌<◌, ◌&&◌, ◌==◌, ℤ, Bool, true, false, List, [], ◌∷◌, ◌++◌, length, get_or, Option, Some, None, refl, sym, ap, ◌∙◌, subst, arith, append_assoc, append-nil, inl, inr, ◌-◌, not, map}
+use Rattle.std.specs.Prelude.{nat_le, is_some, if◌then◌else◌, filter_map, nat_eq}
+use Rattle.std.specs.List.{cons_option, list_all, zip, range_with_len}
+use Rattle.std.proofs.lemmas.Bool.{and_parts, eqb-true, false≢true, leb-true, eq-eqb, and_from}
 use Rattle.tk_base.proofs.HistoryLemmas.{each_at}
 use Rattle.tk_base.specs.Settings.{Setup}
 use Rattle.tk_base.specs.declared.ids.Mon.{Mon}
@@ -29,15 +29,8 @@ use Rattle.tk_journal.proofs.Pieces.{assigns_on-sent, got_progress}
 use Rattle.tk_journal.proofs.Published.{legal_say}
 use Rattle.tk_journal.proofs.SendLemmas.{calm_settled, due_calm}
 use Rattle.tk_journal.proofs.WholeLemmas.{stands_whole}
-use Rattle.std.specs.Option.{option_map}
-use Rattle.std.proofs.lemmas.List.{length-append, get_or_past, length-map}
-use Rattle.std.proofs.lemmas.List.Elements.{filter_map-append, All-contains, All-map}
-use Rattle.std.proofs.lemmas.Int.{ints, clamps}
-use Rattle.std.proofs.lemmas.List.FromFn.{length-range_with_len}
-use Rattle.std.specs.Int.{int_min}
 use Rattle.std.specs.Cmp.Lexicographic.{pointwise}
 use Rattle.tk_border.specs.Levels.{border}
-use Rattle.std.proofs.lemmas.List.Folds.{list_any-append}
 
 pub mapped_at : {X : Type 0} (g : ℕ → X) (a k i : ℕ) (d : X) → i < k → get_or (map g (range_with_len a k)) i d ≡ g (a + i)
 mapped_at g a zero i d within = absurd (omega (arith, within))

@@ -1,10 +1,10 @@
 -- What a legal journal sends can be taken, and what stands where it publishes.
 use Rattle.tk_frames.specs.declared.frame.Frame.TheVariants as f
 use Rattle.tk_journal.specs.declared.noted.Noted.TheVariants as n
-use Rattle.std.proofs.Common.{◌≡◌, ℕ, suc, zero, ◌+◌, ◌-◌, ◌^◌, ◌≤◌, ◌<◌, ◌&&◌, ◌||◌, ◌==◌, ℤ, pos, Bool, true, false, not, List, [], ◌∷◌, ◌++◌, length, map, drop, Contains, Option, Some, None, refl, sym, ap, ◌∙◌, subst, arith, append_assoc, append-nil}
-use Rattle.std.specs.Prelude.{filter, filter_map, is_some, nat_le, unsigned_abs, if◌then◌else◌}
-use Rattle.std.specs.List.{All, list_all, enumerate_from, range_with_len, cons_option}
-use Rattle.std.proofs.lemmas.Bool.{true≢false, false≢true, and_parts, leb-true, eq-eqb}
+use Rattle.std.proofs.Common.{◌≡◌, ℕ, suc, zero, ◌+◌, ◌^◌, ◌≤◌, ◌<◌, ℤ, Bool, true, false, not, List, [], ◌∷◌, ◌++◌, length, map, drop, Contains, Option, Some, None, refl, sym, ap, ◌∙◌, subst, arith}
+use Rattle.std.specs.Prelude.{filter_map, is_some, unsigned_abs, if◌then◌else◌}
+use Rattle.std.specs.List.{All, list_all, cons_option}
+use Rattle.std.proofs.lemmas.Bool.{false≢true, and_parts, leb-true}
 use Rattle.std.proofs.lemmas.List.Elements.{All-contains}
 use Rattle.tk_base.specs.History.{EachFrom}
 use Rattle.tk_base.specs.Ascending.{IsAscending}
@@ -15,7 +15,7 @@ use Rattle.tk_base.specs.Settings.{Setup, IsWithinLimits}
 use Rattle.tk_rows.specs.Factors.{Grid}
 use Rattle.tk_frames.specs.Assigns.{members_of}
 use Rattle.tk_frames.specs.declared.frame.Frame.{Frame}
-use Rattle.tk_alloc.specs.Parts.{Part, monitor, new_factor}
+use Rattle.tk_alloc.specs.Parts.{Part, new_factor}
 use Rattle.tk_alloc.proofs.PartLemmas.{objects_put}
 use Rattle.tk_alloc.proofs.WideLemmas.{of_catalogue, in_catalogue}
 use Rattle.tk_journal.specs.Laws.{IsMonitor, AreChanges}

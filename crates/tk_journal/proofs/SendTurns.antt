@@ -1,11 +1,10 @@
 -- Each turn says what may be said, so every legal journal does.
 use Rattle.tk_frames.specs.declared.frame.Frame.TheVariants as f
 use Rattle.tk_journal.specs.declared.noted.Noted.TheVariants as n
-use Rattle.std.proofs.Common.{◌≡◌, ℕ, suc, zero, ◌+◌, ◌-◌, ◌^◌, ◌≤◌, ◌<◌, ◌&&◌, ◌==◌, ℤ, pos, Bool, true, false, not, List, [], ◌∷◌, ◌++◌, length, map, drop, get_or, Contains, Option, Some, None, refl, sym, ap, ◌∙◌, subst, arith, append_assoc, append-nil}
-use Rattle.std.specs.Prelude.{filter, unsigned_abs, replicate, if◌then◌else◌}
-use Rattle.std.specs.List.{All, list_all, enumerate_from, range_with_len}
-use Rattle.std.proofs.lemmas.Bool.{true≢false, false≢true, and_parts, le-ltb}
-use Rattle.std.proofs.lemmas.Int.{ints}
+use Rattle.std.proofs.Common.{◌≡◌, ℕ, suc, ◌+◌, ◌^◌, ◌≤◌, ◌<◌, ◌==◌, ℤ, pos, Bool, true, false, not, List, [], ◌∷◌, ◌++◌, length, map, Contains, None, refl, sym, ap, ◌∙◌, subst, arith, append_assoc}
+use Rattle.std.specs.Prelude.{filter, unsigned_abs}
+use Rattle.std.specs.List.{All, list_all, enumerate_from}
+use Rattle.std.proofs.lemmas.Bool.{and_parts, le-ltb}
 use Rattle.tk_base.specs.History.{EachFrom}
 use Rattle.tk_base.proofs.HistoryLemmas.{each_join}
 use Rattle.tk_base.specs.Objects.{objects, is_in}
@@ -24,8 +23,8 @@ use Rattle.tk_alloc.proofs.MemberLemmas.{contained_is_in, is_in_contained}
 use Rattle.tk_alloc.proofs.RoundLemmas.{bordered}
 use Rattle.tk_alloc.proofs.WideLemmas.{leeway_size, slight_at}
 use Rattle.tk_journal.specs.Deciding.{full_decides, is_within_limit, reports_at, short_decides, wide_decides}
-use Rattle.tk_journal.specs.Laws.{IsMonitor, IsSetUp, AreChanges}
-use Rattle.tk_journal.specs.Legal.{IsAccepted, IsLegal, Opening, opened, start, turn_of}
+use Rattle.tk_journal.specs.Laws.{IsMonitor, IsSetUp}
+use Rattle.tk_journal.specs.Legal.{IsAccepted, IsLegal, Opening, opened, turn_of}
 use Rattle.tk_journal.specs.Publishing.{closing}
 use Rattle.tk_journal.specs.Readings.{assigns_sent, in_force, is_open, members_at, monitors, table_at}
 use Rattle.tk_journal.specs.Refusal.{known_by, refusal_of}
@@ -44,7 +43,6 @@ use Rattle.tk_journal.proofs.Same.{factor_by, own_by}
 use Rattle.tk_journal.proofs.Sound.{round_got}
 use Rattle.tk_journal.proofs.SoundLemmas.{legal_firm}
 use Rattle.tk_journal.proofs.Standing.{bounded_small, is_small}
-use Rattle.tk_journal.proofs.StartLemmas.{start_set_up}
 use Rattle.tk_journal.proofs.Tables.{AreSized, table_size}
 use Rattle.tk_journal.proofs.Tuning.{force_objects}
 use Rattle.tk_journal.proofs.Turning.{orderly_demanded, values_ending}

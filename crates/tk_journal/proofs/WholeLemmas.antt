@@ -1,10 +1,9 @@
 -- Turns stand whole: a front of a legal journal that ends before an input is legal, the input is accepted over it, and its turn follows.
 use Rattle.tk_frames.specs.declared.frame.Frame.TheVariants as f
 use Rattle.tk_journal.specs.declared.noted.Noted.TheVariants as n
-use Rattle.std.proofs.Common.{◌≡◌, ℕ, suc, zero, ◌+◌, Bool, true, false, List, [], ◌∷◌, ◌++◌, length, None, refl, sym, ap, ◌∙◌, subst, arith, append_assoc, append-nil}
+use Rattle.std.proofs.Common.{◌≡◌, ℕ, ◌+◌, Bool, true, false, List, [], ◌∷◌, ◌++◌, length, refl, sym, ap, ◌∙◌, subst, arith, append_assoc, append-nil}
 use Rattle.std.specs.Prelude.{ℤ, if◌then◌else◌}
-use Rattle.std.proofs.lemmas.Bool.{true≢false, false≢true}
-use Rattle.std.proofs.lemmas.List.{length-append}
+use Rattle.std.proofs.lemmas.Bool.{false≢true}
 use Rattle.tk_base.specs.Objects.{objects}
 use Rattle.tk_base.specs.Settings.{Setup}
 use Rattle.tk_journal.specs.Legal.{AreAccepted, IsAccepted, IsLegal, Opening, inputs_of, is_input, opened, played_from, turn_of}

@@ -7,6 +7,7 @@ pub mod Links
 pub mod Publishing
 pub mod Readings
 pub mod Refusal
+pub mod RoundEnds
 pub mod Turns
 pub mod Walks
 pub mod Kinds

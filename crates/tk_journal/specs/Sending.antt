@@ -2,13 +2,12 @@
 use Rattle.tk_frames.specs.declared.frame.Frame.TheVariants as f
 use Rattle.tk_journal.specs.declared.noted.Noted.TheVariants as n
 use Rattle.std.specs.Prelude.{ℕ, ◌<◌, ◌≤◌, ◌≡◌, ℤ, Bool, true, List, length, Contains, Some}
-use Rattle.std.specs.List.{All, enumerate_from}
+use Rattle.std.specs.List.{All}
 use Rattle.tk_base.specs.Ascending.{IsAscending}
 use Rattle.tk_base.specs.Settings.{Setup}
 use Rattle.tk_frames.specs.Assigns.{members_of}
 use Rattle.tk_frames.specs.declared.frame.Frame.{Frame}
-use Rattle.tk_journal.specs.Laws.{AreFactorsSmall, AreMembers, IsMonitor, IsSetUp, KeepsConstraint, AreChanges}
-use Rattle.tk_journal.specs.Legal.{Opening}
+use Rattle.tk_journal.specs.Laws.{AreFactorsSmall, AreMembers, IsMonitor, KeepsConstraint, AreChanges}
 use Rattle.tk_journal.specs.Publishing.{is_due, publication_at}
 use Rattle.tk_journal.specs.Readings.{Progress, answer_of, assigns_sent, asked_of, assigns_to, last_round, members_at, settled_of}
 use Rattle.tk_frames.specs.Carried.{seq_in}

@@ -1,7 +1,7 @@
 -- The shapes of turns: what a taken frame demands, with what is known where it does.
 use Rattle.tk_frames.specs.declared.frame.Frame.TheVariants as f
 use Rattle.tk_journal.specs.declared.noted.Noted.TheVariants as n
-use Rattle.std.specs.Prelude.{ℕ, ◌+◌, ◌≡◌, ◌<◌, ℤ, Bool, true, false, not, ◌==◌, List, [], ◌∷◌, ◌++◌, filter, Some}
+use Rattle.std.specs.Prelude.{ℕ, ◌+◌, ◌≡◌, ◌<◌, ℤ, true, false, not, ◌==◌, List, [], ◌∷◌, ◌++◌, filter, Some}
 use Rattle.tk_base.specs.Pairs.{objects_of}
 use Rattle.tk_base.specs.Settings.{Setup}
 use Rattle.tk_base.specs.declared.ids.Mon.{Mon}

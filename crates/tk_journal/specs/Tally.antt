@@ -1,5 +1,5 @@
 -- How many of some frames are of a kind.
-use Rattle.std.specs.Prelude.{ℕ, ◌+◌, Bool, List, [], ◌∷◌, if◌then◌else◌}
+use Rattle.std.specs.Prelude.{ℕ, List}
 use Rattle.tk_journal.specs.Links.{frames_to, frames_from}
 use Rattle.tk_journal.specs.declared.noted.Noted.{Noted}
 use Rattle.tk_frames.specs.Carried.{is_collect, is_values, tally}

@@ -11,7 +11,7 @@ use Rattle.tk_journal.specs.Readings.{monitors, assigns_sent, members_at, table_
 use Rattle.tk_journal.specs.Deciding.{Decided, reports_at, short_decides, full_decides, wide_decides, passes_short_test, is_within_limit}
 use Rattle.tk_journal.specs.Walks.{walk}
 use Rattle.tk_journal.specs.declared.turn.TurnKind.{TurnKind}
-use Rattle.tk_journal.specs.declared.turn.TurnKind.TheVariants.{Tune, Stale, Note, Short, Wide, Full, End}
+use Rattle.tk_journal.specs.declared.turn.TurnKind.TheVariants.{Stale, Note, Short, Wide, Full, End}
 use Rattle.tk_journal.specs.declared.noted.Noted.{Noted}
 use Rattle.tk_journal.specs.declared.noted.Noted.TheVariants as n
 

@@ -1,5 +1,4 @@
-use Rattle.tk_journal.specs.declared.noted.Noted.TheVariants as n
-use Rattle.std.specs.Prelude.{ℕ, ◌-◌, ◌≡◌, ℤ, true, false, List, [], ◌∷◌, ◌++◌, length, map, slice_index_or, None}
+use Rattle.std.specs.Prelude.{◌≡◌, true, List, [], ◌∷◌, ◌++◌}
 use Rattle.tk_journal.specs.Legal.{IsAccepted, IsLegal, Opening, is_input, turn_of}
 use Rattle.tk_journal.specs.declared.noted.Noted.{Noted}
 

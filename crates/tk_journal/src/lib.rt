@@ -10,6 +10,7 @@ mod laws;
 mod noted;
 mod publication;
 mod refusal;
+mod rounds;
 mod sending;
 mod turn;
 mod turns;
@@ -29,6 +30,10 @@ pub use laws::{
 pub use noted::{KeptEpsilon, KeptPublication, Noted};
 pub use publication::Publication;
 pub use refusal::{CoordRefusal, RetuneRefusal};
+pub use rounds::{
+    a_full_end_leaves_order, a_short_turn_leaves_order, a_wide_end_leaves_order, collects_rise,
+    each_monitor_has_reported, rounds_are_numbered,
+};
 pub use sending::{
     an_awaited_monitor_was_last_asked, each_collect_is_answered, every_entry_is_said_well,
     gathered_are_fresh,
