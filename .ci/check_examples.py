@@ -3,12 +3,15 @@ program is built, that it prints these texts.
 
 It knows nothing of the protocol: a printed set is right where each member's total over the printed
 prefixes, plus epsilon, is at least that of every object outside. An example with a status is refused with it, and its
-fault stands in the file `fault`; of a run that is made from a seed the text alone is compared.
+fault stands in the file `fault`; of a run that is made from a seed the text alone is compared. Where there is an awk,
+the change logs of the access logs are made once more and compared, too.
 """
 import csv
 import pathlib
+import shutil
 import subprocess
 import sys
+import tempfile
 
 ROOT = pathlib.Path(__file__).resolve().parent.parent
 PROGRAM = ROOT / "crates" / "topk" / "out" / "topk"
@@ -99,11 +102,23 @@ def run(folder):
     return None
 
 
+def made_again(folder):
+    """Compares the catalogue and the change logs with what the script makes of the access logs."""
+    logs = sorted(log.resolve() for log in folder.glob("*.log"))
+    with tempfile.TemporaryDirectory() as room:
+        subprocess.run(["awk", "-f", (folder / "to_logs.awk").resolve(), *logs], cwd=room, check=True)
+        made = {file.name: file.read_bytes() for file in pathlib.Path(room).iterdir()}
+    kept = {file.name: file.read_bytes() for file in folder.glob("*.csv")}
+    return None if made == kept else f"{folder.name}: to_logs.awk makes other logs"
+
+
 def main():
     folders = [folder for folder in sorted((ROOT / "examples").iterdir()) if folder.is_dir()]
     faults = [check(folder) for folder in folders]
     if PROGRAM.exists():
         faults += [run(folder) for folder in folders]
+    if shutil.which("awk"):
+        faults.append(made_again(ROOT / "examples" / "access_log"))
     shown = (ROOT / "examples" / "two_monitors" / "expected.txt").read_text()
     if shown not in (ROOT / "README.md").read_text():
         faults.append("README.md: the example is not the expected text")
