@@ -1,10 +1,10 @@
 -- The answer that is read is the one that stands at the front, and the only one.
-use Rattle.std.proofs.Common.{◌≡◌, ℕ, suc, ◌+◌, ◌<◌, ◌≤◌, Bool, true, false, cond, eqb, ltb, List, [], ◌∷◌, ◌++◌, length, take, drop, Option, Some, None, refl, sym, ap, subst, ◌∙◌, append_assoc, arith, inl, inr, ◌⊎◌}
+use Rattle.std.proofs.Common.{◌≡◌, ℕ, suc, ◌+◌, ◌-◌, ◌<◌, ◌≤◌, Bool, true, false, cond, eqb, ltb, List, [], ◌∷◌, ◌++◌, length, take, drop, Option, Some, None, refl, sym, ap, subst, ◌∙◌, append_assoc, arith, inl, inr, ◌⊎◌}
 use Rattle.std.proofs.lemmas.Bool.{cases_lt, lt-ltb, le-ltb, eqb-true, ne_eqb}
 use Rattle.std.proofs.lemmas.List.{take_at, drop_at, take-append-drop, append-nil, length-append, length-take, length-drop}
 use Rattle.byteorder.specs.Endian.{big_bytes, big_number}
 use Rattle.byteorder.specs.Numbers.{big_number-reads_back, length-bytes_high_first}
-use Rattle.std.specs.Prelude.{Result, Ok, Err, IfOk}
+use Rattle.std.specs.Prelude.{Result, Ok, Err, IfOk, IsSome, OnErr}
 use Rattle.tk_base.specs.declared.memory.NoMemory.{NoMemory}
 use Rattle.tk_frames.specs.declared.frame.Frame.{Frame}
 use Rattle.tk_frames.specs.declared.kind.Kind.{Kind}
@@ -14,8 +14,8 @@ use Rattle.tk_frames.specs.declared.answer.Next.TheVariants.{Whole, Part, Bad}
 use Rattle.tk_frames.specs.declared.answer.BadFrame.TheVariants.{BadLength, BadKind, BadFields}
 use Rattle.tk_frames.specs.Frame.{kind_of}
 use Rattle.tk_frames.specs.Spelling.{fields, payload, framed, spelling, code_of, IsFrame, IsLength}
-use Rattle.tk_frames.specs.Answer.{Answers, HasFrame, IsPart, HasBadLength, HasPayload, HasBadKind, HasBadFields}
-use Rattle.tk_frames.specs.Reading.{Found, fields_at, kind_at, answer_of, kind_answer, payload_answer, next_of}
+use Rattle.tk_frames.specs.Answer.{Answers, HasFrame, IsPart, HasBadLength, HasPayload, HasBadKind, HasBadFields, HasKind}
+use Rattle.tk_frames.specs.Reading.{Found, fields_at, kind_ahead, kind_at, answer_of, kind_answer, payload_answer, next_of}
 use Rattle.tk_frames.proofs.Steps.{some_is}
 use Rattle.tk_frames.proofs.BytesLemmas.{IsBytes, rest_fits, front_fits, bytes_of_number}
 use Rattle.tk_frames.proofs.FrameLemmas.{fields_take, fields_again}
@@ -305,3 +305,31 @@ whole_is f g m n e = cc
 -- no two frames stand at the front of the same bytes
 pub whole_once : (version : ℕ) (f g : Frame) (m n : ℕ) (bytes : List ℕ) → Answers version bytes (Whole f m) → Answers version bytes (Whole g n) → f ≡ g
 whole_once version f g m n bytes left right = whole_is f g m n (frame_only version f m bytes left ∙ sym (frame_only version g n bytes right))
+
+-- ---- memory
+
+kind_found : (code : ℕ) (behind bytes : List ℕ) → HasPayload (code ∷ behind) bytes → (found : Option Kind) → kind_at code ≡ found → IsSome found → HasKind bytes
+kind_found code behind bytes has None is some = absurd cc
+kind_found code behind bytes has (Some kind) is some = record {
+  kind = kind;
+  behind = behind;
+  stands = subst (λ (c : ℕ). HasPayload (c ∷ behind) bytes) (kind_known code kind is) has;
+}
+
+kind_stands : (text bytes : List ℕ) → HasPayload text bytes → IsSome (kind_ahead text) → HasKind bytes
+kind_stands [] bytes has some = absurd cc
+kind_stands (code ∷ behind) bytes has some = kind_found code behind bytes has (kind_at code) refl some
+
+-- where a length is in its limits and its payload whole, and that begins with a kind's byte, one stands there
+pub kind_is_ahead : (r : Result Next NoMemory) (bytes : List ℕ) → IsBytes bytes → OnErr r (IsLength (big_number 4 bytes)) → OnErr r (4 + big_number 4 bytes ≤ length bytes)
+    → OnErr r (IsSome (kind_ahead (take (big_number 4 bytes) (drop 4 bytes)))) → OnErr r (HasKind bytes)
+kind_is_ahead (Ok next) bytes fits size whole some = tt
+kind_is_ahead (Err e) bytes fits size whole some = kind_stands (take (big_number 4 bytes) (drop 4 bytes)) bytes (payload_stands bytes fits size whole) some
+
+-- where a payload is whole, the answer is that to it
+pub read_whole : (version size : ℕ) (bytes : List ℕ) (r : Result Next NoMemory) → size ≡ big_number 4 bytes → IsLength (big_number 4 bytes) → 4 + big_number 4 bytes ≤ length bytes
+    → IfOk r (λ next. next ≡ payload_answer version (take (4 + size - 4) (drop 4 bytes))) → IfOk r (λ next. next ≡ next_of version bytes)
+read_whole version size bytes (Ok next) same good whole is =
+    let taken : 4 + size - 4 ≡ big_number 4 bytes = omega (arith, same) in
+    is ∙ ap (λ (n : ℕ). payload_answer version (take n (drop 4 bytes))) taken ∙ sym (next_at version bytes good whole)
+read_whole version size bytes (Err e) same good whole is = tt

@@ -41,6 +41,12 @@ pub record HasBadFields (version : ℕ) (kind : Kind) (bytes : List ℕ) : Type 
   pub stands : HasPayload (code_of kind ∷ behind) bytes
   pub no_frame : (frame : Frame) → IsFrame frame → code_of kind ∷ behind ≡ payload version frame → ⊥
 
+-- a whole payload begins with the byte of a kind: its fields are read, and that alone can want memory
+pub record HasKind (bytes : List ℕ) : Type 0 where
+  pub kind : Kind
+  pub behind : List ℕ
+  pub stands : HasPayload (code_of kind ∷ behind) bytes
+
 -- this is what stands at the front of the bytes
 abbrev pub Answers : ℕ → List ℕ → Next → Type 0
 Answers version bytes (Whole frame size) = HasFrame version frame size bytes

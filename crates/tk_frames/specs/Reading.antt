@@ -166,6 +166,11 @@ abbrev pub kind_answer : ℕ → ℕ → ℕ → List ℕ → Option Kind → Ne
 kind_answer version whole code bytes None = Bad (BadKind code)
 kind_answer version whole code bytes (Some kind) = answer_of kind whole (fields_at version kind bytes)
 
+-- the kind with whose byte a payload begins, if it is one's
+abbrev pub kind_ahead : List ℕ → Option Kind
+kind_ahead [] = None
+kind_ahead (code ∷ bytes) = kind_at code
+
 unfoldable pub payload_answer : ℕ → List ℕ → Next
 payload_answer version [] = Part
 payload_answer version (code ∷ bytes) = kind_answer version (length bytes + 5) code bytes (kind_at code)

@@ -1,10 +1,11 @@
 //! The frame at the front of some bytes.
 
-ghost use Rattle.std.specs.Prelude.{◌≡◌, IfOk};
+ghost use Rattle.std.specs.Prelude.{◌≡◌, ◌+◌, ◌≤◌, IfOk, IsSome, OnErr, drop, length, take};
+ghost use Rattle.byteorder.specs.Endian.{big_number};
 ghost use Rattle.tk_frames.specs.declared.answer.Next.{Next};
-ghost use Rattle.tk_frames.specs.Spelling.{IsVersion};
-ghost use Rattle.tk_frames.specs.Answer.{Answers};
-ghost use Rattle.tk_frames.specs.Reading.{Gives, hello_at, report_at, collect_at, values_at, assign_at, settled_at, fields_at, kind_at, next_of, payload_answer};
+ghost use Rattle.tk_frames.specs.Spelling.{IsLength, IsVersion};
+ghost use Rattle.tk_frames.specs.Answer.{Answers, HasKind};
+ghost use Rattle.tk_frames.specs.Reading.{Gives, hello_at, report_at, collect_at, values_at, assign_at, settled_at, fields_at, kind_ahead, kind_at, next_of, payload_answer};
 
 use crate::answer::{BadFrame, Next};
 use crate::frame::Frame;
@@ -135,7 +136,8 @@ fn kind_of_byte(code: u8) -> Option<Kind>
 
 #[tactic(auto, unfolding(crate::specs::Reading::payload_answer))]
 fn answer(alloc: Global, version: u8, payload: &[u8]) -> Result<Next, NoMemory>
-    ensures { IfOk result (λ next. next ≡ payload_answer version payload.now) }
+    ensures value { IfOk result (λ next. next ≡ payload_answer version payload.now) }
+    ensures memory { OnErr result (IsSome (kind_ahead payload.now)) }
 {
     let [code, rest @ ..] = payload else {
         return Ok(Next::Part);
@@ -152,7 +154,10 @@ fn answer(alloc: Global, version: u8, payload: &[u8]) -> Result<Next, NoMemory>
 
 #[tactic(auto, unfolding(crate::specs::Reading::next_of))]
 fn read(alloc: Global, version: u8, bytes: &[u8]) -> Result<Next, NoMemory>
-    ensures { IfOk result (λ next. next ≡ next_of version bytes.now) }
+    ensures value { IfOk result (λ next. next ≡ next_of version bytes.now) }
+    ensures length { OnErr result (IsLength (big_number 4 bytes.now)) }
+    ensures whole { OnErr result (4 + big_number 4 bytes.now ≤ length bytes.now) }
+    ensures kind { OnErr result (IsSome (kind_ahead (take (big_number 4 bytes.now) (drop 4 bytes.now)))) }
 {
     if bytes.len() < 4 {
         return Ok(Next::Part);
@@ -176,6 +181,8 @@ pub fn next(alloc: Global, bytes: &[u8], version: u8) -> Result<Next, NoMemory>
     ensures answer { IfOk result (Answers version bytes.now) }
     // What stands there is answered, so each of the answers comes exactly where it says.
     ensures only { (next : Next) → Answers version bytes.now next → IfOk result (λ answer. answer ≡ next) }
+    // A part of a frame, a bad length and a byte of no kind are told without memory.
+    ensures memory { OnErr result (HasKind bytes.now) }
 {
     read(alloc, version, bytes)
 }

@@ -14,8 +14,6 @@ mod kept;
 mod kind;
 mod laws;
 mod reading;
-#[cfg(test)]
-mod tests;
 mod writing;
 
 pub use answer::{BadFrame, Next};

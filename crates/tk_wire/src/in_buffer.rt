@@ -1,6 +1,6 @@
-ghost use Rattle.std.specs.Prelude.{◌≡◌, [], IfOk};
+ghost use Rattle.std.specs.Prelude.{◌≡◌, [], IfOk, OnErr};
 ghost use Rattle.tk_frames.specs.declared.answer.Next.{Next};
-ghost use Rattle.tk_frames.specs.Answer.{Answers};
+ghost use Rattle.tk_frames.specs.Answer.{Answers, HasKind};
 ghost use Rattle.tk_frames.specs.Spelling.{IsVersion};
 ghost use Rattle.tk_wire.specs.Buffered.{Pulls, counts_pulled, rest_of};
 
@@ -93,6 +93,7 @@ impl InBuffer {
         // As `next` of tk_frames answers, both ways.
         ensures answer { IfOk result (Answers self.old.version self.old.bytes) }
         ensures only { (next : Next) → Answers self.old.version self.old.bytes next → IfOk result (λ answer. answer ≡ next) }
+        ensures memory { OnErr result (HasKind self.old.bytes) }
         // Nothing but a whole frame is removed.
         ensures rest { self.new.bytes ≡ rest_of result self.old.bytes }
         ensures version { self.new.version ≡ self.old.version }

@@ -1,10 +1,10 @@
 ghost use Rattle.tk_frames.specs.Spelling.{IsVersion};
 
-use super::*;
 use std::alloc::Global;
 use std::process::Abort;
 use std::test::Fail;
 use tk_base::{Mon, Obj, ObjSet, Pairs, Places};
+use tk_frames::{BadFrame, EncodeFault, Frame, Kind, Next, encode, next};
 
 const HELLO: [u8; 18] = [0, 0, 0, 14, 1, 0, 0, 0, 0, 0, 0, 0, 5, 1, 0, 0, 0, 2];
 
