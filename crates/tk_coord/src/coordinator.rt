@@ -472,6 +472,16 @@ impl Coordinator {
         retuned(&self.settings, k, epsilon)
     }
 
+    /// Why a retune to this k and epsilon is refused now, if it is. Takes no memory.
+    pub fn retune_refusal(&self, k: u64, epsilon: u128) -> Option<RetuneRefusal>
+        ensures { result ≡ retune_refusal_of self.now.settings self.now.journal k epsilon }
+    {
+        match self.tuned(k, epsilon) {
+            Ok(_) => None,
+            Err(refusal) => Some(refusal),
+        }
+    }
+
     /// Takes another k and epsilon: they are in force from the end of the wide round that opens.
     /// Costs the objects times the monitors, which the Collects of that round name.
     pub fn retune(&mut self, k: u64, epsilon: u128) -> Result<(), RetuneRefusal>

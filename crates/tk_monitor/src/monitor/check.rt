@@ -49,7 +49,8 @@ impl Monitor {
         Ok(checked)
     }
 
-    fn checked(&self) -> Checked
+    /// What a check would do now. Costs two roots.
+    pub fn checked(&self) -> Checked
         ensures value { result ≡ checked_at self.now.setup self.now.trail }
         ensures legal { IsLegal self.now.setup self.now.trail }
     {
