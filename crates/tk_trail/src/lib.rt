@@ -11,8 +11,9 @@ mod refusal;
 mod speaking;
 
 pub use bounds::{
-    a_report_names_outsiders, borders_are_within_limits, each_entry_is_allowed, sent_frames_are_short,
-    settled_places_are_within_limits, taken_changes_are_within_limits, values_are_small,
+    a_report_names_outsiders, borders_are_within_limits, each_entry_is_allowed,
+    sent_frames_are_short, settled_places_are_within_limits, taken_changes_are_within_limits,
+    values_are_small,
 };
 pub use entry::Entry;
 pub use laws::{
