@@ -22,14 +22,12 @@ use Rattle.tk_journal.specs.declared.noted.Noted.{Noted}
 use Rattle.tk_coord.specs.Coordinator.{IsRefusal}
 use Rattle.tk_journal.specs.declared.refusal.CoordRefusal.{CoordRefusal}
 use Rattle.tk_journal.specs.declared.refusal.CoordRefusal.TheVariants.{NoMemory as NoRoomUp}
-use Rattle.tk_journal.specs.declared.refusal.RetuneRefusal.{RetuneRefusal}
-use Rattle.tk_journal.specs.declared.refusal.RetuneRefusal.TheVariants.{NoMemory as NoRoomToTune}
 use Rattle.tk_trail.specs.declared.refusal.MonitorRefusal.{MonitorRefusal}
 use Rattle.tk_trail.specs.declared.refusal.MonitorRefusal.TheVariants.{NoMemory as NoRoom}
 use Rattle.tk_monitor.specs.Monitored.{AnswersTake, MonitorView, checked_at}
 use Rattle.tk_monitor.specs.declared.outcome.Checked.{Checked}
 use Rattle.tk_monitor.specs.declared.outcome.Checked.TheVariants.{Reported, ToldEnd, Nothing}
-use Rattle.tk_monitor.proofs.KeptLemmas.{after_nothing, none_when, nothing_when, reported_when, told_when}
+use Rattle.tk_monitor.proofs.KeptLemmas.{none_when, nothing_when, reported_when, told_when}
 use Rattle.tk_trail.specs.Frames.{due_at, end_is_due, report_at, report_is_due, settled_at}
 use Rattle.tk_trail.specs.Legal.{HasNext, after_check, after_take, part_length, place_of, with_answer}
 use Rattle.tk_trail.specs.Readings.{at_ends, is_broken, sent_by, taken_by}
@@ -164,7 +162,7 @@ end_when setup trail not_report is =
     ap (λ b. if b then Some (report_at setup trail) else (if end_is_due setup trail then Some (settled_at setup trail) else None)) not_report
     ∙ ap (λ b. if b then Some (settled_at setup trail) else None) is
 
-due_there : (setup : MonitorSetup) (trail : List Entry) (checked : Checked) → checked ≡ checked_at setup trail → (checked ≡ Nothing → ⊥) → (frame : Frame) × (due_at setup trail ≡ Some frame)
+pub due_there : (setup : MonitorSetup) (trail : List Entry) (checked : Checked) → checked ≡ checked_at setup trail → (checked ≡ Nothing → ⊥) → (frame : Frame) × (due_at setup trail ≡ Some frame)
 due_there setup trail Reported is some = (report_at setup trail, report_when setup trail (reported_when setup trail is))
 due_there setup trail ToldEnd is some = let told = told_when setup trail is in (settled_at setup trail, end_when setup trail told.0 told.1)
 due_there setup trail Nothing is some = absurd (some refl)
@@ -183,6 +181,9 @@ check_leaves S L F j seats raises raises' work mon seat new checked h busy at an
       next = goes.0 ∙ ap (λ (xs : List Seat). Some (story_in S L F j xs)) (sym same);
       holds = subst (λ (xs : List Seat). Holds S L F j xs raises' work) (sym same) (subst (λ (r : ℕ). Holds S L F j (seats' (record seat.monitor { trail = seat.monitor.trail ++ Sent due.0 ∷ [] })) r work) (sym room) goes.1);
     }
+
+pub none_due : (setup : MonitorSetup) (trail : List Entry) → Nothing ≡ checked_at setup trail → due_at setup trail ≡ None
+none_due setup trail answer = let when = nothing_when setup trail answer in none_when setup trail when.0 when.1
 
 -- a check that sends nothing, after which the monitor may be at rest
 pub record ChecksNothing (S : Setup) (L : LogSet) (F : List (List ℕ)) (j : List Noted) (seats : List Seat) (mon : Mon) (seats' : List Seat) (raises : ℕ) (work : Work) : Type 0 where
@@ -207,23 +208,19 @@ left_rest S L F j seats work mon q empty before none now = elim (taken_out empty
   | inr out ↦ now out.0 out.1
 ]
 
-pub check_stays : (S : Setup) (L : LogSet) (F : List (List ℕ)) (j : List Noted) (seats : List Seat) (raises raises' : ℕ) (work work' : Work) (mon : Mon) (seat : Seat) (new : MonitorView) (sent : ℕ) (empty : Bool)
+pub check_stays : (S : Setup) (L : LogSet) (F : List (List ℕ)) (j : List Noted) (seats : List Seat) (raises : ℕ) (work work' : Work) (mon : Mon) (seat : Seat) (sent : ℕ) (empty : Bool)
     → Holds S L F j seats raises work → has work mon.0 ≡ true → seat ≡ get_or seats (mon.0 - 1) seat → Nothing ≡ checked_at seat.monitor.setup seat.monitor.trail
-    → new ≡ record seat.monitor { trail = after_check seat.monitor.setup seat.monitor.trail } → raises' ≡ raises
-    → sent ≡ length (frames_to mon.0 j) → empty ≡ (nat_le sent seat.taken && nat_le (length (sent_by new.trail)) seat.got)
+    → sent ≡ length (frames_to mon.0 j) → empty ≡ (nat_le sent seat.taken && nat_le (length (sent_by seat.monitor.trail)) seat.got)
     → ((q : ℕ) → has work' q ≡ (not (empty && q == mon.0) && has work q))
-    → ChecksNothing S L F j seats mon (set seats (mon.0 - 1) (record { monitor = new; taken = seat.taken; got = seat.got })) raises' work'
-check_stays S L F j seats raises raises' work work' mon seat new sent empty h busy at answer is room sent_is empty_is left =
+    → ChecksNothing S L F j seats mon (set seats (mon.0 - 1) seat) raises work'
+check_stays S L F j seats raises work work' mon seat sent empty h busy at answer sent_is empty_is left =
     let s = story_in S L F j seats in
     let m = h.within mon.0 busy in
-    let when = nothing_when seat.monitor.setup seat.monitor.trail answer in
     let here = seat_is S L F j seats raises work mon.0 seat h m at in
     let own = trail_is S L F j seats mon.0 seat h.story m at in
     let idle : due_at (setup_of s mon.0) (trail_of s mon.0) ≡ None =
-    ap₂ (λ (a : MonitorSetup) (b : List Entry). due_at a b) (sym here.setup) own ∙ none_when seat.monitor.setup seat.monitor.trail when.0 when.1 in
-    let kept : new ≡ seat.monitor = is ∙ ap (λ (t : List Entry). record seat.monitor { trail = t }) (sym (after_nothing seat.monitor.setup seat.monitor.trail when.0 when.1)) in
-    let same : set seats (mon.0 - 1) (record { monitor = new; taken = seat.taken; got = seat.got }) ≡ seats =
-    ap (λ (x : MonitorView). set seats (mon.0 - 1) (record { monitor = x; taken = seat.taken; got = seat.got })) kept ∙ unchanged seats (mon.0 - 1) seat at in
+    ap₂ (λ (a : MonitorSetup) (b : List Entry). due_at a b) (sym here.setup) own ∙ none_due seat.monitor.setup seat.monitor.trail answer in
+    let same = unchanged seats (mon.0 - 1) seat at in
     let after : Holds S L F j seats raises work' = record {
       story = h.story;
       seats_are = h.seats_are;
@@ -231,11 +228,11 @@ check_stays S L F j seats raises raises' work work' mon seat new sent empty h bu
       within = λ q at_work. h.within q (and_parts (not (empty && q == mon.0)) (has work q) (sym (left q) ∙ at_work)).1;
       resting = λ q r none. left_rest S L F j seats work mon.0 q empty (h.resting q r) (sym (left q) ∙ none)
           (λ is_empty same_q. subst (λ (z : ℕ). IsResting (setup_of s z) (trail_of s z) j z) (sym same_q)
-          (let both = and_parts (nat_le sent seat.taken) (nat_le (length (sent_by new.trail)) seat.got) (sym empty_is ∙ is_empty) in
+          (let both = and_parts (nat_le sent seat.taken) (nat_le (length (sent_by seat.monitor.trail)) seat.got) (sym empty_is ∙ is_empty) in
           let low = leb-true sent seat.taken both.0 in
-          let high = leb-true (length (sent_by new.trail)) seat.got both.1 in
+          let high = leb-true (length (sent_by seat.monitor.trail)) seat.got both.1 in
           let walked : length (taken_by (trail_of s mon.0)) ≡ seat.taken = ap (λ (t : List Entry). length (taken_by t)) own ∙ sym here.taken in
-          let sent_too : length (sent_by (trail_of s mon.0)) ≡ length (sent_by new.trail) = ap (λ (t : List Entry). length (sent_by t)) own ∙ ap (λ (x : MonitorView). length (sent_by x.trail)) (sym kept) in
+          let sent_too : length (sent_by (trail_of s mon.0)) ≡ length (sent_by seat.monitor.trail) = ap (λ (t : List Entry). length (sent_by t)) own in
           let got = here.got in
           record {
             due = idle;
@@ -246,7 +243,7 @@ check_stays S L F j seats raises raises' work work' mon seat new sent empty h bu
     record {
       same = same;
       none = no_check s mon.0 idle;
-      holds = subst (λ (xs : List Seat). Holds S L F j xs raises' work') (sym same) (subst (λ (r : ℕ). Holds S L F j seats r work') (sym room) after);
+      holds = subst (λ (xs : List Seat). Holds S L F j xs raises work') (sym same) after;
     }
 
 -- ---- deliveries
@@ -292,11 +289,6 @@ only_memory_down (Some refusal) frame e none answer = absurd (cc)
 pub only_memory_up : (first : Option CoordRefusal) (why : CoordRefusal) → first ≡ None → IsRefusal NoRoomUp first why → why ≡ NoRoomUp
 only_memory_up first why none (inl memory) = memory.0
 only_memory_up first why none (inr refused) = absurd (let e = sym none ∙ refused in cc)
-
--- what is refused for another cause than want of memory
-pub refused_by : (first : Option RetuneRefusal) (why : RetuneRefusal) → IsRefusal NoRoomToTune first why → (why ≡ NoRoomToTune → ⊥) → first ≡ Some why
-refused_by first why (inl memory) other = absurd (other memory.0)
-refused_by first why (inr refused) other = refused
 
 pub up_leaves : (S S' : Setup) (L : LogSet) (F : List (List ℕ)) (j j' : List Noted) (seats : List Seat) (raises raises' : ℕ) (work work' : Work) (mon : Mon) (seat : Seat) (frame : Frame)
     → Holds S L F j seats raises work → has work mon.0 ≡ true → seat ≡ get_or seats (mon.0 - 1) seat → slice_get (sent_by seat.monitor.trail) seat.got ≡ Some frame

@@ -7,6 +7,9 @@ use Rattle.tk_journal.specs.Laws.{IsMonitor}
 use Rattle.tk_journal.specs.Links.{frames_from, frames_to}
 use Rattle.tk_journal.specs.declared.noted.Noted.{Noted}
 use Rattle.tk_monitor.specs.Kept.{left_in}
+use Rattle.tk_monitor.specs.Monitored.{checked_at}
+use Rattle.tk_monitor.specs.declared.outcome.Checked.{Checked}
+use Rattle.tk_monitor.specs.declared.outcome.Checked.TheVariants.{Reported, ToldEnd, Nothing}
 use Rattle.tk_trail.specs.Frames.{due_at}
 use Rattle.tk_trail.specs.Readings.{is_broken, places_at, sent_by, taken_by}
 use Rattle.tk_trail.specs.Setup.{MonitorSetup}
@@ -60,6 +63,26 @@ AreQuiet journal seats = (k : ℕ) (d : Seat) → k < length seats → is_quiet_
 
 abbrev pub IsOneUnquiet : List Noted → List Seat → Type 0
 IsOneUnquiet journal seats = (k : ℕ) × (d : Seat) × (k < length seats) × (is_quiet_at journal seats k d ≡ false)
+
+-- nothing is on the links of a seat, where the coordinator sent it so many frames, and a check sends nothing there
+abbrev pub sends_nothing : Checked → Bool
+sends_nothing Reported = false
+sends_nothing ToldEnd = false
+sends_nothing Nothing = true
+
+abbrev pub is_resting_seat : ℕ → Seat → Bool
+is_resting_seat sent seat =
+    nat_le sent seat.taken && nat_le (length (sent_by seat.monitor.trail)) seat.got && sends_nothing (checked_at seat.monitor.setup seat.monitor.trail)
+
+-- each of these seats that is of a set rests beside a journal; one of them does not
+abbrev pub is_resting_at : List Noted → List Seat → ℕ → Seat → Bool
+is_resting_at journal seats k d = is_resting_seat (length (frames_to (k + 1) journal)) (slice_index_or seats k d)
+
+abbrev pub AreResting : List Noted → Work → List Seat → Type 0
+AreResting journal work seats = (k : ℕ) (d : Seat) → k < length seats → has work (k + 1) ≡ true → is_resting_at journal seats k d ≡ true
+
+abbrev pub IsOneAtWork : List Noted → Work → List Seat → Type 0
+IsOneAtWork journal work seats = (k : ℕ) × (d : Seat) × (k < length seats) × (has work (k + 1) ≡ true) × (is_resting_at journal seats k d ≡ false)
 
 -- how many changes the monitors of some logs have left behind a cut
 abbrev pub left_behind : LogSet → List (List ℕ) → ℕ

@@ -3,13 +3,13 @@ ghost use Rattle.std.specs.List.{range_with_len};
 ghost use Rattle.tk_input.specs.Logs.{IsMonitor as IsMonitorOf};
 ghost use Rattle.tk_journal.specs.Readings.{monitors};
 ghost use Rattle.tk_trail.specs.Readings.{sent_by};
-ghost use Rattle.tk_world.specs.Seats.{fresh_seat, is_quiet_seat};
+ghost use Rattle.tk_world.specs.Seats.{fresh_seat, is_quiet_seat, is_resting_seat, sends_nothing};
 ghost use Rattle.tk_world.specs.World.{CanRun};
 
 use std::alloc::Global;
 use tk_base::{Cut, Mon, NoMemory, Settings};
 use tk_input::Logs;
-use tk_monitor::Monitor;
+use tk_monitor::{Checked, Monitor};
 
 /// A monitor and how far its two links were walked. The frames on a link are those that one end sent
 /// beyond what the other took.
@@ -30,11 +30,28 @@ impl Seat {
         self.taken >= sent && self.got >= self.monitor.sent()
     }
 
+    /// Whether besides nothing is due at its monitor.
+    pub fn is_at_rest(&self, sent: usize) -> bool
+        ensures { result ≡ is_resting_seat sent self.now }
+    {
+        self.has_empty_links(sent) && is_nothing(self.monitor.checked())
+    }
+
     /// Whether besides nothing is broken at its monitor.
     pub fn is_quiet(&self, sent: usize) -> bool
         ensures { result ≡ is_quiet_seat sent self.now }
     {
         self.has_empty_links(sent) && !self.monitor.broken()
+    }
+}
+
+fn is_nothing(checked: Checked) -> bool
+    ensures { result ≡ sends_nothing checked }
+{
+    match checked {
+        Checked::Nothing => true,
+        Checked::Reported => false,
+        Checked::ToldEnd => false,
     }
 }
 

@@ -1,8 +1,9 @@
 // Readings of all seats of a world.
 ghost use Rattle.std.specs.Prelude.{◌≡◌, length, map, true, false, IfOk};
-ghost use Rattle.tk_world.specs.Seats.{AreQuiet, IsOneUnquiet, places_in, trails_of};
+ghost use Rattle.tk_world.specs.Seats.{AreQuiet, AreResting, IsOneAtWork, IsOneUnquiet, places_in, trails_of};
 
 use crate::seat::Seat;
+use crate::work::Work;
 use std::alloc::Global;
 use tk_base::{Cut, Mon, NoMemory};
 use tk_coord::Coordinator;
@@ -16,6 +17,21 @@ pub fn are_quiet(seats: &[Seat], coordinator: &Coordinator) -> bool
 {
     for j in 0..coordinator.settings().monitors() {
         if !seats[j as usize].is_quiet(coordinator.sent(Mon(j + 1))) {
+            return false;
+        }
+    }
+    true
+}
+
+/// Whether all of a set are at rest.
+pub fn are_at_rest(seats: &[Seat], coordinator: &Coordinator, work: Work) -> bool
+    requires { length seats.now ≡ coordinator.now.settings.monitors }
+    ensures yes { result ≡ true → AreResting coordinator.now.journal work seats.now }
+    ensures some { result ≡ false → IsOneAtWork coordinator.now.journal work seats.now }
+{
+    for j in 0..coordinator.settings().monitors() {
+        let mon = Mon(j + 1);
+        if work.contains(mon) && !seats[j as usize].is_at_rest(coordinator.sent(mon)) {
             return false;
         }
     }

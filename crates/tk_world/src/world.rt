@@ -1,4 +1,4 @@
-ghost use Rattle.std.specs.Prelude.{◌≡◌, ◌≤◌, ◌↔◌, [], true, false, None, IfOk, IfSome, OnOk, OnErr, is_ok};
+ghost use Rattle.std.specs.Prelude.{◌≡◌, ◌≤◌, ◌↔◌, [], true, false, None, IfOk, IfSome, OnErr, is_ok, is_some};
 ghost use Rattle.tk_input.specs.declared.event.Event.TheVariants.{Raise, Check, Up, Down, Retune};
 ghost use Rattle.tk_journal.specs.Laws.{IsMonitor};
 ghost use Rattle.tk_journal.specs.Readings.{members_at};
@@ -11,12 +11,12 @@ use crate::diary::Diary;
 use crate::left::left_after;
 use crate::moved::Moved;
 use crate::seat::{Seat, new_seats};
-use crate::seats::{are_quiet, cut_at, into_monitors};
+use crate::seats::{are_at_rest, are_quiet, cut_at, into_monitors};
 use crate::work::Work;
 use std::alloc::Global;
 use std::marker::Model;
 use tk_base::{Cut, Feeder, Mon, NoMemory, ObjSet, Settings};
-use tk_coord::{CoordRefusal, Coordinator, RetuneRefusal};
+use tk_coord::{CoordRefusal, Coordinator};
 use tk_input::{Event, Logs, Retuning};
 use tk_monitor::{Checked, Raised};
 use tk_story::Story;
@@ -70,16 +70,6 @@ fn of_monitor(refusal: MonitorRefusal) -> NoMemory
     }
 }
 
-/// Tells want of memory from the other reasons against a retune.
-fn unless_memory(refusal: RetuneRefusal) -> Result<(), NoMemory>
-    ensures { OnOk result (refusal ≡ RetuneRefusal.NoMemory → ⊥) }
-{
-    match refusal {
-        RetuneRefusal::NoMemory => Err(NoMemory),
-        _ => Ok(()),
-    }
-}
-
 impl World {
     /// Takes the room for all raises. Costs the objects of each monitor and the changes in front of the
     /// cut, times a logarithm of the objects.
@@ -105,6 +95,8 @@ impl World {
     /// Makes an event happen, or tells that it is not enabled. Costs what the node that it is for does.
     pub fn step(&mut self, event: Event) -> Result<Moved, NoMemory>
         ensures ok { IfOk result (λ moved. Moves self.old event moved self.new) }
+        // Want of memory comes only of an event that is enabled.
+        ensures enabled { OnErr result (is_some (next_of self.old.story event) ≡ true) }
         ensures err { OnErr result (self.new ≡ self.old) }
         ensures raise { is_raise event ≡ true → is_ok result ≡ true }
         ensures legal { IsStory self.new.story }
@@ -149,20 +141,21 @@ impl World {
 
     fn check(&mut self, mon: Mon) -> Result<Moved, NoMemory>
         ensures ok { IfOk result (λ moved. Moves self.old (Check mon) moved self.new) }
+        ensures enabled { OnErr result (is_some (next_of self.old.story (Check mon)) ≡ true) }
         ensures err { OnErr result (self.new ≡ self.old) }
         ensures legal { IsStory self.new.story }
     {
         if !self.work.contains(mon) {
             return Ok(Moved::Idle);
         }
-        self.diary.reserve()?;
         let seat = &mut self.seats[mon.0 as usize - 1];
-        let checked = seat.monitor.check()?;
-        if let Checked::Nothing = checked {
+        if let Checked::Nothing = seat.monitor.checked() {
             let is_empty = seat.has_empty_links(self.coordinator.sent(mon));
             self.work.remove_if(mon, is_empty);
             return Ok(Moved::Idle);
         }
+        self.diary.reserve()?;
+        seat.monitor.check()?;
         self.diary.note(Event::Check(mon));
         Ok(Moved::Yes)
     }
@@ -170,6 +163,7 @@ impl World {
     /// The coordinator takes the next frame of a monitor.
     fn up(&mut self, mon: Mon) -> Result<Moved, NoMemory>
         ensures ok { IfOk result (λ moved. Moves self.old (Up mon) moved self.new) }
+        ensures enabled { OnErr result (is_some (next_of self.old.story (Up mon)) ≡ true) }
         ensures err { OnErr result (self.new ≡ self.old) }
         ensures legal { IsStory self.new.story }
     {
@@ -196,6 +190,7 @@ impl World {
     /// A monitor takes the next frame of the coordinator.
     fn down(&mut self, mon: Mon) -> Result<Moved, NoMemory>
         ensures ok { IfOk result (λ moved. Moves self.old (Down mon) moved self.new) }
+        ensures enabled { OnErr result (is_some (next_of self.old.story (Down mon)) ≡ true) }
         ensures err { OnErr result (self.new ≡ self.old) }
         ensures legal { IsStory self.new.story }
     {
@@ -219,30 +214,36 @@ impl World {
 
     fn retune(&mut self, retuning: Retuning) -> Result<Moved, NoMemory>
         ensures ok { IfOk result (λ moved. Moves self.old (Retune retuning) moved self.new) }
+        ensures enabled { OnErr result (is_some (next_of self.old.story (Retune retuning)) ≡ true) }
         ensures err { OnErr result (self.new ≡ self.old) }
         ensures legal { IsStory self.new.story }
     {
+        let k = retuning.k();
+        let epsilon = retuning.epsilon();
+        if self.coordinator.retune_refusal(k, epsilon).is_some() {
+            return Ok(Moved::Idle);
+        }
         self.diary.reserve()?;
         let before = self.coordinator.journal().len();
-        match self.coordinator.retune(retuning.k(), retuning.epsilon()) {
+        match self.coordinator.retune(k, epsilon) {
             Ok(()) => {}
-            Err(refusal) => {
-                unless_memory(refusal)?;
-                return Ok(Moved::Idle);
-            }
+            Err(_) => return Err(NoMemory),
         }
         self.work.insert_sent(&self.coordinator.journal()[before..]);
         self.diary.note(Event::Retune(retuning));
         Ok(Moved::Yes)
     }
 
-    /// Whether it is known, in a constant, that nothing but a raise or a retune is enabled.
+    /// Whether nothing but a raise or a retune is enabled. Costs a constant where no monitor may have anything to do,
+    /// else a look at each monitor.
     pub fn is_settled(&self) -> bool
-        ensures settled { result ≡ true → CanOnlyChange self.now.story }
+        ensures value { (result ≡ true) ↔ CanOnlyChange self.now.story }
         ensures legal { IsStory self.now.story }
     {
-        let _ = &self.seats;
-        self.work.is_empty()
+        if self.work.is_empty() {
+            return true;
+        }
+        are_at_rest(self.seats.as_slice(), &self.coordinator, self.work)
     }
 
     /// The next monitor at or above a number at which a check or a delivery may be enabled. It is found in a

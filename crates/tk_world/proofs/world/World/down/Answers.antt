@@ -1,5 +1,5 @@
 use Rattle.std.proofs.Common.{◌≡◌, ℕ, ◌+◌, ◌-◌, ◌<◌, ◌≤◌, ◌∷◌, ◌++◌, [], List, Bool, true, false, length, set, drop, take, Some, None, Option, refl, sym, ap, ap₂, ◌∙◌, subst, arith}
-use Rattle.std.specs.Prelude.{slice_get}
+use Rattle.std.specs.Prelude.{is_some, slice_get}
 use Rattle.tk_base.specs.Settings.{Setup}
 use Rattle.tk_frames.specs.declared.frame.Frame.{Frame}
 use Rattle.tk_input.specs.declared.event.Event.{Event}
@@ -19,6 +19,7 @@ use Rattle.tk_trail.specs.declared.refusal.MonitorRefusal.TheVariants.{NoMemory}
 use Rattle.tk_trail.specs.Refusal.{refusal_of}
 use Rattle.tk_monitor.specs.Monitored.{AnswersTake}
 use Rattle.tk_world.proofs.EventLemmas.{down_taken}
+use Rattle.tk_world.proofs.EnabledLemmas.{on_err, down_enabled}
 use Rattle.tk_world.proofs.WorldLemmas.{Leaves, down_leaves, down_stays, only_memory_down, rests, unchanged}
 use Rattle.tk_world.proofs.world.World.down.Goals as goal
 
@@ -38,6 +39,29 @@ returns-then-seat-sent-clause-ok c =
       ap (λ (k : KeptStory). next_of k.story (Down c.args.mon)) (sym c.self.view_is) ∙ stays,
       ap (λ (xs : List Seat). record { story = story_in w.coordinator.settings w.logs w.from w.coordinator.journal xs; events = w.diary.events }) same ∙ c.self.view_is,
     )
+
+pub returns-in_err-frame-clause-enabled : goal.returns-in_err-frame-clause-enabled
+returns-in_err-frame-clause-enabled c =
+    let w = c.self.inside in
+    on_err c.from_residual.result
+    (ap (λ (k : KeptStory). is_some (next_of k.story (Down c.args.mon))) (sym c.self.view_is)
+    ∙ down_enabled w.coordinator.settings w.logs w.from w.coordinator.journal w.seats.items w.diary.raises w.work c.args.mon c.index_mut-seat.result.now c.self.invariant (sym c.contains.ensures ∙ c.if-not-contains.false) c.index_mut-seat.ensures.value
+    (let low = c.if-seat-sent.false in let count = c.sent.ensures in omega (arith, low, count)))
+
+pub returns-in_err-reserve-clause-enabled : goal.returns-in_err-reserve-clause-enabled
+returns-in_err-reserve-clause-enabled c =
+    let w = c.self.inside in
+    on_err c.from_residual-in_err-reserve.result
+    (ap (λ (k : KeptStory). is_some (next_of k.story (Down c.args.mon))) (sym c.self.view_is)
+    ∙ down_enabled w.coordinator.settings w.logs w.from w.coordinator.journal w.seats.items w.diary.raises w.work c.args.mon c.index_mut-seat.result.now c.self.invariant (sym c.contains.ensures ∙ c.if-not-contains.false) c.index_mut-seat.ensures.value
+    (let low = c.if-seat-sent.false in let count = c.sent.ensures in omega (arith, low, count)))
+
+pub returns-in-Err-clause-enabled : goal.returns-in-Err-clause-enabled
+returns-in-Err-clause-enabled c =
+    let w = c.self.inside in
+    ap (λ (k : KeptStory). is_some (next_of k.story (Down c.args.mon))) (sym c.self.view_is)
+    ∙ down_enabled w.coordinator.settings w.logs w.from w.coordinator.journal w.seats.items w.diary.raises w.work c.args.mon c.index_mut-seat.result.now c.self.invariant (sym c.contains.ensures ∙ c.if-not-contains.false) c.index_mut-seat.ensures.value
+    (let low = c.if-seat-sent.false in let count = c.sent.ensures in omega (arith, low, count))
 
 pub of_monitor-requires : goal.of_monitor-requires
 of_monitor-requires c =

@@ -1,5 +1,5 @@
 use Rattle.std.proofs.Common.{◌≡◌, ℕ, ◌+◌, ◌-◌, ◌<◌, ◌≤◌, ◌∷◌, ◌++◌, [], List, Bool, true, false, length, set, drop, take, Some, None, Option, refl, sym, ap, ap₂, ◌∙◌, subst, arith}
-use Rattle.std.specs.Prelude.{pos, slice_get}
+use Rattle.std.specs.Prelude.{is_some, pos, slice_get}
 use Rattle.tk_journal.specs.Legal.{turn_of}
 use Rattle.tk_journal.specs.declared.noted.Noted.TheVariants as n
 use Rattle.tk_base.specs.Settings.{Setup}
@@ -18,24 +18,35 @@ use Rattle.tk_world.specs.Work.{has, is_sent}
 use Rattle.tk_world.specs.declared.seat.Seat.{Seat}
 use Rattle.tk_coord.specs.Coordinator.{CoordinatorView}
 use Rattle.tk_journal.specs.Refusal.{retune_refusal_of}
+use Rattle.tk_world.proofs.EnabledLemmas.{not_there, on_err, retune_enabled, there_is}
 use Rattle.tk_world.proofs.TurnLemmas.{retune_stays}
-use Rattle.tk_world.proofs.WorldLemmas.{Leaves, adds_behind, few_behind, refused_by, retune_leaves}
+use Rattle.tk_world.proofs.WorldLemmas.{Leaves, adds_behind, few_behind, retune_leaves}
 use Rattle.tk_world.proofs.world.World.retune.Goals as goal
 
-pub returns-in-Err-clause-ok : goal.returns-in-Err-clause-ok
-returns-in-Err-clause-ok c =
+pub returns-then-is_some-clause-ok : goal.returns-then-is_some-clause-ok
+returns-then-is_some-clause-ok c =
     let w = c.self.inside in
-    let refused = refused_by (retune_refusal_of w.coordinator.settings w.coordinator.journal c.k.result c.epsilon.result) c.in-Err.refusal c.in-Err.ensures.refused c.in_ok-unless_memory-in-Err.ensures in (
+    let why = there_is c.retune_refusal.result (sym c.is_some.ensures ∙ c.if-is_some.true) in (
       ap (λ (k : KeptStory). next_of k.story (Retune c.args.retuning)) (sym c.self.view_is)
-          ∙ retune_stays (story_in w.coordinator.settings w.logs w.from w.coordinator.journal w.seats.items) c.args.retuning c.in-Err.refusal
-          (ap₂ (λ (k e : ℕ). retune_refusal_of w.coordinator.settings w.coordinator.journal k e) (sym c.k.ensures) (sym c.epsilon.ensures) ∙ refused),
-      ap₂ (λ (x : CoordinatorView) (es : List Event). record { story = story_in x.settings w.logs w.from x.journal w.seats.items; events = es }) c.in-Err.ensures.err c.reserve.ensures.events ∙ c.self.view_is,
+          ∙ retune_stays (story_in w.coordinator.settings w.logs w.from w.coordinator.journal w.seats.items) c.args.retuning why.0
+          (ap₂ (λ (k e : ℕ). retune_refusal_of w.coordinator.settings w.coordinator.journal k e) (sym c.k-k.ensures) (sym c.epsilon-epsilon.ensures) ∙ sym c.retune_refusal.ensures ∙ why.1),
+      refl,
     )
 
-pub returns-in-Err-clause-legal : goal.returns-in-Err-clause-legal
-returns-in-Err-clause-legal c =
+pub returns-in_err-reserve-clause-enabled : goal.returns-in_err-reserve-clause-enabled
+returns-in_err-reserve-clause-enabled c =
     let w = c.self.inside in
-    subst (λ (x : CoordinatorView). IsStory (story_in x.settings w.logs w.from x.journal w.seats.items)) (sym c.in-Err.ensures.err) c.self.invariant.story
+    on_err c.from_residual.result
+    (ap (λ (k : KeptStory). is_some (next_of k.story (Retune c.args.retuning))) (sym c.self.view_is)
+    ∙ retune_enabled (story_in w.coordinator.settings w.logs w.from w.coordinator.journal w.seats.items) c.args.retuning
+    (ap₂ (λ (k e : ℕ). retune_refusal_of w.coordinator.settings w.coordinator.journal k e) (sym c.k-k.ensures) (sym c.epsilon-epsilon.ensures) ∙ sym c.retune_refusal.ensures ∙ not_there c.retune_refusal.result (sym c.is_some.ensures ∙ c.if-is_some.false)))
+
+pub returns-in-Err-clause-enabled : goal.returns-in-Err-clause-enabled
+returns-in-Err-clause-enabled c =
+    let w = c.self.inside in
+    ap (λ (k : KeptStory). is_some (next_of k.story (Retune c.args.retuning))) (sym c.self.view_is)
+    ∙ retune_enabled (story_in w.coordinator.settings w.logs w.from w.coordinator.journal w.seats.items) c.args.retuning
+    (ap₂ (λ (k e : ℕ). retune_refusal_of w.coordinator.settings w.coordinator.journal k e) (sym c.k-k.ensures) (sym c.epsilon-epsilon.ensures) ∙ sym c.retune_refusal.ensures ∙ not_there c.retune_refusal.result (sym c.is_some.ensures ∙ c.if-is_some.false))
 
 pub insert_sent-requires : goal.insert_sent-requires
 insert_sent-requires c =
@@ -50,9 +61,9 @@ leaves c =
     let tuning = c.args.retuning in
     retune_leaves w.coordinator.settings c.retune.new.self.settings w.logs w.from w.coordinator.journal c.retune.new.self.journal w.seats.items w.diary.raises c.note.new.self.raises w.work c.insert_sent.new.self tuning
     c.self.invariant
-    (ap₂ (λ (k e : ℕ). retune_refusal_of w.coordinator.settings w.coordinator.journal k e) (sym c.k.ensures) (sym c.epsilon.ensures) ∙ c.in-Ok.ensures.ok)
+    (ap₂ (λ (k e : ℕ). retune_refusal_of w.coordinator.settings w.coordinator.journal k e) (sym c.k-k.ensures) (sym c.epsilon-epsilon.ensures) ∙ c.in-Ok.ensures.ok)
     c.in-Ok.ensures.settings
-    (c.in-Ok.ensures.turn ∙ ap₂ (λ (k e : ℕ). w.coordinator.journal ++ turn_of w.coordinator.settings w.coordinator.journal (n.Tuned k (pos e))) c.k.ensures c.epsilon.ensures)
+    (c.in-Ok.ensures.turn ∙ ap₂ (λ (k e : ℕ). w.coordinator.journal ++ turn_of w.coordinator.settings w.coordinator.journal (n.Tuned k (pos e))) c.k-k.ensures c.epsilon-epsilon.ensures)
     c.journal.ensures.entries
     (adds_behind c.retune.new.self.journal c.journal.result.now w.coordinator.journal c.journal-before.result.now w.work c.insert_sent.new.self (sym c.journal.ensures.value) (sym c.journal-before.ensures.value) c.insert_sent.ensures)
     (ap (λ (d : Written). d.raises) c.note.ensures ∙ c.reserve.ensures.raises)
