@@ -4,7 +4,7 @@ use Rattle.tk_drain.proofs.PhaseLemmas.{cut_in_checks, cut_in_downs, cut_in_ups,
 use Rattle.tk_drain.proofs.sweeps.sweep.Goals as goal
 
 pub returns-then-is_settled-clause-ok : goal.returns-then-is_settled-clause-ok
-returns-then-is_settled-clause-ok c = sym (idle_swept c.args.world.now (c.is_settled.ensures.settled c.if-is_settled.true))
+returns-then-is_settled-clause-ok c = sym (idle_swept c.args.world.now (c.is_settled.ensures.value.0 c.if-is_settled.true))
 
 pub returns-in_err-checks-clause-err : goal.returns-in_err-checks-clause-err
 returns-in_err-checks-clause-err c = err_by c.from_residual.result (cut_in_checks c.args.world.now c.run.new.world c.in_err-checks.ensures.err)
