@@ -1,8 +1,11 @@
 pub mod ContentLemmas
 pub mod CutLemmas
 pub mod DownLemmas
+pub mod EndsLemmas
 pub mod FewLemmas
+pub mod FrameLemmas
 pub mod JoinLemmas
+pub mod JoiningLemmas
 pub mod MomentLemmas
 pub mod OverLemmas
 pub mod PlaceLemmas

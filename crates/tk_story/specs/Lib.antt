@@ -1,3 +1,5 @@
+pub mod Comparing
+pub mod Ends
 pub mod Kept
 pub mod Links
 pub mod Moments

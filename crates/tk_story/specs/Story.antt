@@ -41,3 +41,14 @@ pub record IsStory (s : StoryView) : Type 0 where
   pub journal_legal : IsLegal (start s.settings) s.journal
   pub trails_legal : (mon : ℕ) → IsMonitor s.settings mon → IsLegalTrail (setup_of s mon) (trail_of s mon)
   pub links : (mon : ℕ) → IsMonitor s.settings mon → IsOrderedLink s.journal mon (trail_of s mon)
+
+-- the histories of a run, as those of a story, whatever passed on the links
+pub record AreHistories (s : StoryView) : Type 0 where
+  pub limits : IsWithinLimits s.settings
+  pub logs : AreLogs s.logs
+  pub objects : s.logs.objects ≡ s.settings.objects
+  pub monitors : length s.logs.logs ≡ s.settings.monitors
+  pub starts : IsCut s.logs.logs s.from
+  pub count : length s.trails ≡ s.settings.monitors
+  pub journal_legal : IsLegal (start s.settings) s.journal
+  pub trails_legal : (mon : ℕ) → IsMonitor s.settings mon → IsLegalTrail (setup_of s mon) (trail_of s mon)

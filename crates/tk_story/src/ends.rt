@@ -1,6 +1,7 @@
 //! The ends of a run's links as each node kept them, and what two of them can differ in.
 
 pub mod bytes;
+pub mod comparing;
 pub mod coord_end;
 pub mod join_fault;
 pub mod mon_end;

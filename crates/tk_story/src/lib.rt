@@ -11,12 +11,12 @@ mod resting;
 mod story;
 mod validity;
 
+pub use ends::Ends;
 pub use ends::bytes::Bytes;
 pub use ends::coord_end::CoordEnd;
 pub use ends::join_fault::{Direction, JoinFault};
 pub use ends::mon_end::MonEnd;
 pub use ends::received::Received;
-pub use ends::Ends;
 pub use joined::{
     at_most_one_behind, links_hold_over_any_opening, the_next_frame_down_is_taken,
     the_next_frame_up_is_taken,

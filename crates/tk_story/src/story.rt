@@ -2,6 +2,8 @@ ghost use Rattle.std.specs.Prelude.{◌≡◌, ◌-◌, ◌<◌, ◌≤◌, leng
 ghost use Rattle.tk_journal.specs.Kinds.{turns_of};
 ghost use Rattle.tk_story.specs.Story.{IsStory};
 
+mod join;
+
 use std::marker::Model;
 use tk_base::{Cut, Mon, Settings};
 use tk_coord::Coordinator;

@@ -1,0 +1,71 @@
+ghost use Rattle.std.specs.Prelude.{◌≡◌, ◌≤◌, [], length, map, IfOk, IfErr, IsErr, OnOk, vec_capacity};
+ghost use Rattle.tk_story.specs.Ends.{AreOfOneRun, AreOrdered, TellsDifference, joined, kept_by};
+
+use crate::ends::Ends;
+use crate::ends::comparing::check;
+use crate::ends::coord_end::CoordEnd;
+use crate::ends::join_fault::JoinFault;
+use crate::ends::mon_end::MonEnd;
+use crate::story::Story;
+use tk_base::{Cut, Settings};
+use tk_input::{Event, Logs};
+use tk_monitor::Monitor;
+
+/// The monitors alone, in room that was taken for them.
+fn into_monitors(ends: Vec<MonEnd>, room: Vec<Monitor>) -> Vec<Monitor>
+    requires empty { room.items ≡ [] }
+    requires room { length ends.items ≤ vec_capacity room }
+    ensures { map (λ m. m.trail) result.items ≡ map (λ end. end.monitor.trail) ends.items }
+{
+    let mut monitors = room;
+    for end in ends {
+        let MonEnd { monitor, .. } = end;
+        monitors.push_reserved(monitor);
+    }
+    monitors
+}
+
+impl Story {
+    /// The story of the ends of a run, in which all agree. Where they do not, the ends come back with the first
+    /// difference: that of the least monitor, of its link up before the one down, at the first place. Costs the frames
+    /// received, each compared where it stands, and a look at each entry of the journal for each monitor.
+    pub fn join(
+        coordinator: CoordEnd,
+        monitors: Vec<MonEnd>,
+        logs: Logs,
+        settings: Settings,
+        from: Cut,
+        events: Vec<Event>,
+    ) -> Result<Story, (JoinFault, Ends)>
+        requires { AreOfOneRun coordinator monitors.items logs settings from }
+        // It comes where all links are ordered, and is the story of exactly these ends.
+        ensures ordered { OnOk result (AreOrdered (kept_by coordinator monitors.items)) }
+        ensures story { IfOk result (λ s. s.story ≡ joined (kept_by coordinator monitors.items) logs from) }
+        ensures events { IfOk result (λ s. s.events ≡ events.items) }
+        // Else the first difference is told, unless there is no memory, and the ends come back.
+        ensures differs { IfErr result (λ e. TellsDifference (kept_by coordinator monitors.items) e.0) }
+        ensures err { IfErr result (λ e. e.1 ≡ record { coordinator = coordinator; monitors = monitors }) }
+    {
+        let ends = Ends {
+            coordinator,
+            monitors,
+        };
+        if let Err(fault) = check(&ends) {
+            return Err((fault, ends));
+        }
+        let Ok(room) = Vec::with_capacity(*ends.monitors.allocator(), ends.monitors.len()) else {
+            return Err((JoinFault::NoMemory, ends));
+        };
+        // These are read for their clauses: what they are of is within its limits, and the journal is legal.
+        let _ = settings.monitors();
+        let _ = logs.monitors();
+        let _ = ends.coordinator.coordinator.journal();
+        let Ends {
+            coordinator,
+            monitors,
+        } = ends;
+        let CoordEnd { coordinator, .. } = coordinator;
+        let monitors = into_monitors(monitors, room);
+        Ok(Story::of(coordinator, monitors, logs, settings, from, events))
+    }
+}
