@@ -1,12 +1,9 @@
 -- A frame under the last number passes the coordinator's tests of its content.
-use Rattle.tk_frames.specs.declared.frame.Frame.TheVariants as f
-use Rattle.std.proofs.Common.{◌≡◌, ℕ, suc, zero, ◌+◌, ◌-◌, ◌^◌, ◌≤◌, ◌<◌, ◌&&◌, ◌||◌, ◌==◌, ℤ, pos, ◌+ℤ◌, ◌≤ℤ◌, Bool, true, false, not, List, [], ◌∷◌, ◌++◌, length, map, get_or, Contains, Option, Some, None, refl, sym, ap, ◌∙◌, subst, arith}
-use Rattle.std.specs.Prelude.{neg_ℤ, nat_eq, nat_lt, nat_le, int_lt, unsigned_abs, find, cond, unwrap_or, if◌then◌else◌}
+use Rattle.std.proofs.Common.{◌≡◌, ℕ, suc, zero, ◌^◌, ◌≤◌, ◌&&◌, ◌||◌, ℤ, pos, ◌+ℤ◌, ◌≤ℤ◌, Bool, true, false, not, List, [], ◌∷◌, length, map, Contains, Option, Some, None, refl, sym, ap, ◌∙◌, subst, arith}
+use Rattle.std.specs.Prelude.{neg_ℤ, nat_lt, nat_le, int_lt, unsigned_abs, find, cond, unwrap_or, if◌then◌else◌}
 use Rattle.std.specs.List.{All, list_all}
-use Rattle.std.specs.Int.{int_min}
 use Rattle.std.specs.Option.{option_map}
-use Rattle.std.specs.Cmp.Lexicographic.{pointwise}
-use Rattle.std.proofs.lemmas.Bool.{and_from, and_parts, eq-eqb, le-leb, le-ltb}
+use Rattle.std.proofs.lemmas.Bool.{and_from, and_parts, le-leb, le-ltb}
 use Rattle.std.proofs.lemmas.Int.{ints, clamps}
 use Rattle.std.proofs.lemmas.List.Elements.{All-contains, All-map}
 use Rattle.tk_base.specs.Ascending.{ascends}

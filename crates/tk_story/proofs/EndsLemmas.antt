@@ -1,9 +1,9 @@
 -- Walks over what one end received, beside what the other sent.
-use Rattle.std.proofs.Common.{◌≡◌, ℕ, zero, suc, ◌+◌, ◌≤◌, ◌<◌, List, [], ◌∷◌, ◌++◌, length, take, drop, map, Option, Some, None, refl, sym, ap, ◌∙◌, subst, arith}
+use Rattle.std.proofs.Common.{◌≡◌, ℕ, zero, suc, ◌+◌, ◌≤◌, List, [], ◌∷◌, ◌++◌, length, take, drop, map, Option, Some, None, refl, sym, ap, ◌∙◌, subst, arith}
 use Rattle.std.specs.Prelude.{◌≢◌, filter_map, slice_get}
 use Rattle.std.specs.Option.{option_map}
-use Rattle.std.proofs.lemmas.Option.{slice_get-map, slice_get_within}
-use Rattle.std.proofs.lemmas.List.{append-nil, length-append, length-map, take-map, take-append-drop}
+use Rattle.std.proofs.lemmas.Option.{slice_get-map}
+use Rattle.std.proofs.lemmas.List.{append-nil, length-append, length-map, take-map}
 use Rattle.std.proofs.lemmas.List.Elements.{filter_map-append}
 use Rattle.tk_base.specs.History.{IsFront}
 use Rattle.tk_frames.specs.declared.frame.Frame.{Frame}
@@ -131,7 +131,7 @@ with_odd_parted : (xs ys : List Frame) (odd : Option Received) → with_odd (xs 
 with_odd_parted [] ys odd = refl
 with_odd_parted (x ∷ xs) ys odd = with_odd_first x (xs ++ ys) odd ∙ ap (λ zs. r.Frame x ∷ zs) (with_odd_parted xs ys odd)
 
-frame_of : (o : Option Frame) (g : Frame) → option_map r.Frame o ≡ Some (r.Frame g) → o ≡ Some g
+pub frame_of : (o : Option Frame) (g : Frame) → option_map r.Frame o ≡ Some (r.Frame g) → o ≡ Some g
 frame_of None g e = absurd cc
 frame_of (Some x) g e = (let s : x ≡ g = cc in ap Some s)
 

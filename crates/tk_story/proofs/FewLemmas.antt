@@ -1,9 +1,7 @@
 -- An up link holds at most five frames.
-use Rattle.tk_frames.specs.declared.frame.Frame.TheVariants as f
-use Rattle.tk_journal.specs.declared.noted.Noted.TheVariants as n
-use Rattle.std.proofs.Common.{◌≡◌, ℕ, suc, zero, ◌+◌, ◌-◌, ◌≤◌, ◌<◌, ◌==◌, ◌||◌, Bool, true, false, List, [], ◌∷◌, ◌++◌, length, Contains, Option, Some, None, refl, sym, ap, ◌∙◌, subst, arith, append_assoc, inl, inr, map, append-nil}
-use Rattle.std.specs.Prelude.{ℤ, count_by, if◌then◌else◌, filter_map}
-use Rattle.std.proofs.lemmas.Bool.{cases_lt, cases_eq, eq-eqb, ne_eqb, true≢false, false≢true}
+use Rattle.std.proofs.Common.{◌≡◌, ℕ, suc, zero, ◌+◌, ◌-◌, ◌≤◌, ◌==◌, Bool, true, false, List, [], ◌∷◌, ◌++◌, length, Contains, refl, sym, ap, ◌∙◌, subst, arith, append_assoc, inl, inr}
+use Rattle.std.specs.Prelude.{count_by, if◌then◌else◌, filter_map}
+use Rattle.std.proofs.lemmas.Bool.{cases_lt, cases_eq, eq-eqb, ne_eqb}
 use Rattle.std.proofs.lemmas.List.{length-append}
 use Rattle.std.proofs.lemmas.List.Sums.{sum_by-cons}
 use Rattle.tk_frames.specs.declared.frame.Frame.{Frame}
@@ -29,7 +27,6 @@ use Rattle.tk_journal.proofs.SentLemmas.{flag, flag_most, counted, only_three_ki
 use Rattle.tk_trail.proofs.PairLemmas.{values_answer_collects}
 use Rattle.tk_trail.proofs.SendsLemmas.{Sends, few_answers, sends}
 use Rattle.tk_trail.proofs.SendsLemmas.Sends.{Answered, Gathered, Reported, Ended}
-use Rattle.std.specs.List.{enumerate_from, cons_option, list_any, range_with_len}
 use Rattle.tk_frames.specs.Assigns.{assign_in}
 
 pub front_tally : (p : Frame → Bool) (xs ys : List Frame) → IsFront xs ys → tally p xs ≤ tally p ys

@@ -1,5 +1,5 @@
 -- `==` tells equal frames from others.
-use Rattle.std.proofs.Common.{◌≡◌, ◌==◌, ℕ, ℤ, refl, Bool, true, false, ◌&&◌, sym, ap, ◌∙◌, List, subst}
+use Rattle.std.proofs.Common.{◌≡◌, ◌==◌, refl, Bool, true, false, ◌&&◌, sym, ap, ◌∙◌, subst}
 use Rattle.std.specs.Bool.{Decides}
 use Rattle.std.specs.Ordering.{int_eq}
 use Rattle.std.specs.Cmp.Lexicographic.{pointwise}
@@ -9,7 +9,6 @@ use Rattle.std.specs.Cmp.{unsigned_Decides, signed_Decides, booleans_Decides}
 use Rattle.std.specs.Bool.{beq}
 use Rattle.std.proofs.lemmas.Bool.{true≢false}
 use Rattle.tk_base.proofs.EqualLemmas.{numbers_tell, pairs_tell}
-use Rattle.tk_base.specs.declared.ids.Mon.{Mon}
 use Rattle.tk_frames.specs.declared.frame.Frame.{Frame}
 use Rattle.tk_frames.specs.declared.frame.Frame.TheVariants as f
 use Rattle.tk_frames.specs.contracts.frame.FramePartialEq.TheImpl.{ghosts}

@@ -1,5 +1,5 @@
 -- Ends joined to a story: looking at all links, and what makes the lists of ends a story.
-use Rattle.std.proofs.Common.{◌≡◌, ℕ, zero, suc, ◌+◌, ◌-◌, ◌≤◌, ◌<◌, List, [], ◌∷◌, ◌++◌, length, take, map, replicate, Option, Some, None, refl, sym, ap, ◌∙◌, subst, arith, inl, inr, get_or}
+use Rattle.std.proofs.Common.{◌≡◌, ℕ, zero, suc, ◌+◌, ◌-◌, ◌≤◌, ◌<◌, List, [], ◌∷◌, ◌++◌, length, take, map, Option, Some, None, refl, sym, ap, ◌∙◌, subst, arith, inl, inr}
 use Rattle.std.specs.Prelude.{Err, filter_map, slice_get, slice_index_or}
 use Rattle.std.specs.List.{enumerate_from, range_with_len}
 use Rattle.std.specs.Option.{option_map}
@@ -13,7 +13,7 @@ use Rattle.tk_base.specs.declared.ids.Mon.{Mon}
 use Rattle.tk_coord.specs.Coordinator.{IsJournal}
 use Rattle.tk_frames.specs.declared.frame.Frame.{Frame}
 use Rattle.tk_input.specs.Logs.{AreLogs, LogSet}
-use Rattle.tk_journal.specs.Laws.{IsMonitor, IsSetUp}
+use Rattle.tk_journal.specs.Laws.{IsMonitor}
 use Rattle.tk_journal.specs.Legal.{AreAccepted, IsLegal, Opening, inputs_of, opened, played_from, start, turn_of}
 use Rattle.tk_journal.specs.Readings.{monitors}
 use Rattle.tk_journal.specs.declared.noted.Noted.{Noted}
@@ -22,11 +22,9 @@ use Rattle.tk_monitor.specs.Monitored.{MonitorView}
 use Rattle.tk_trail.specs.Legal.{IsLegal as IsLegalTrail}
 use Rattle.tk_journal.specs.Links.{frames_from, frames_to}
 use Rattle.tk_trail.specs.Readings.{sent_by, taken_by}
-use Rattle.tk_trail.specs.Setup.{MonitorSetup}
 use Rattle.tk_trail.specs.declared.entry.Entry.{Entry}
 use Rattle.tk_story.specs.Comparing.{AreTrailsLegal, Finds}
-use Rattle.tk_story.specs.Ends.{AreOfOneRun, AreOrdered, IsBefore, IsFirstDifference, IsFirstOfAll, IsOrdered, KeptEnds, KeptLink, TellsDifference, as_made, down_link, joined, kept_by, link_at, made_for, odd_at, odd_from, trail_at, up_link, with_odd}
-use Rattle.tk_story.specs.Links.{IsOrderedLink}
+use Rattle.tk_story.specs.Ends.{AreOfOneRun, AreOrdered, IsBefore, IsFirstOfAll, IsOrdered, KeptEnds, TellsDifference, as_made, down_link, joined, kept_by, link_at, made_for, odd_at, odd_from, trail_at, up_link, with_odd}
 use Rattle.tk_story.specs.Story.{AreHistories, IsStory, setup_of, trail_of}
 use Rattle.tk_story.specs.declared.ends.coord_end.CoordEnd.{CoordEnd}
 use Rattle.tk_story.specs.declared.ends.join_fault.Direction.{Direction}
@@ -37,7 +35,7 @@ use Rattle.tk_story.specs.declared.ends.mon_end.MonEnd.{MonEnd}
 use Rattle.tk_story.specs.declared.ends.received.Received.{Received}
 use Rattle.tk_story.specs.declared.ends.received.Received.TheVariants as r
 use Rattle.tk_story.proofs.EndsLemmas.{front_of}
-use Rattle.tk_story.proofs.JoinLemmas.{Rest, rest_of}
+use Rattle.tk_story.proofs.JoinLemmas.{Rest}
 
 -- ---- looking at the links of one monitor after the other
 
@@ -60,11 +58,11 @@ before_more ends j up down before = λ m d low high. elim (cases_lt m (j + 1)) [
 pub all_ordered : (ends : KeptEnds) (j : ℕ) → ends.settings.monitors ≤ j → AreBefore ends j → AreOrdered ends
 all_ordered ends j many before = λ mon d is. let high = is.within in before mon d is.from_one (omega (arith, high, many))
 
-less_before_up : (m j : ℕ) (d : Direction) → IsBefore m d (j + 1) UpLink → m ≤ j
+pub less_before_up : (m j : ℕ) (d : Direction) → IsBefore m d (j + 1) UpLink → m ≤ j
 less_before_up m j UpLink less = omega (arith, less)
 less_before_up m j DownLink less = omega (arith, less)
 
-ordered_before_down : (ends : KeptEnds) (j m : ℕ) (d : Direction) → IsOrdered (link_at ends (j + 1) UpLink) → AreBefore ends j → 1 ≤ m → IsBefore m d (j + 1) DownLink → IsOrdered (link_at ends m d)
+pub ordered_before_down : (ends : KeptEnds) (j m : ℕ) (d : Direction) → IsOrdered (link_at ends (j + 1) UpLink) → AreBefore ends j → 1 ≤ m → IsBefore m d (j + 1) DownLink → IsOrdered (link_at ends m d)
 ordered_before_down ends j m DownLink up before low less = before m DownLink low (omega (arith, less))
 ordered_before_down ends j m UpLink up before low less = elim (cases_lt m (j + 1)) [
   | inl lower ↦ before m UpLink low (omega (arith, lower))
@@ -197,16 +195,16 @@ made_at ends logs settings from k end is few at =
     ∙ ap (λ xs. slice_get xs k) is
     ∙ slice_get-map (made_for settings logs from) (monitors settings) k ∙ ap (option_map (made_for settings logs from)) (number_at settings.monitors k few))
 
-record EndOf (coordinator : CoordEnd) (ends : List MonEnd) (logs : LogSet) (from : List (List ℕ)) (mon : ℕ) : Type 0 where
-  at : There ends (mon - 1)
-  setup : at.it.monitor.setup ≡ setup_of (joined (kept_by coordinator ends) logs from) mon
-  trail : at.it.monitor.trail ≡ trail_of (joined (kept_by coordinator ends) logs from) mon
+pub record EndOf (coordinator : CoordEnd) (ends : List MonEnd) (logs : LogSet) (from : List (List ℕ)) (mon : ℕ) : Type 0 where
+  pub at : There ends (mon - 1)
+  pub setup : at.it.monitor.setup ≡ setup_of (joined (kept_by coordinator ends) logs from) mon
+  pub trail : at.it.monitor.trail ≡ trail_of (joined (kept_by coordinator ends) logs from) mon
 
 pub ends_count : (ends : List MonEnd) (logs : LogSet) (settings : Setup) (from : List (List ℕ)) → map (λ e. as_made e.monitor) ends ≡ map (made_for settings logs from) (monitors settings) → length ends ≡ settings.monitors
 ends_count ends logs settings from is =
     sym (length-map ends (λ (e : MonEnd). as_made e.monitor)) ∙ ap length is ∙ length-map (monitors settings) (made_for settings logs from) ∙ length-range_with_len 1 settings.monitors
 
-end_of : (coordinator : CoordEnd) (ends : List MonEnd) (logs : LogSet) (from : List (List ℕ)) (mon : ℕ) → map (λ e. as_made e.monitor) ends ≡ map (made_for coordinator.coordinator.settings logs from) (monitors coordinator.coordinator.settings)
+pub end_of : (coordinator : CoordEnd) (ends : List MonEnd) (logs : LogSet) (from : List (List ℕ)) (mon : ℕ) → map (λ e. as_made e.monitor) ends ≡ map (made_for coordinator.coordinator.settings logs from) (monitors coordinator.coordinator.settings)
     → IsMonitor coordinator.coordinator.settings mon → EndOf coordinator ends logs from mon
 end_of coordinator ends logs from mon is m =
     let settings = coordinator.coordinator.settings in

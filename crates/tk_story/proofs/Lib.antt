@@ -6,6 +6,7 @@ pub mod FewLemmas
 pub mod FrameLemmas
 pub mod JoinLemmas
 pub mod JoiningLemmas
+pub mod KeptLemmas
 pub mod MomentLemmas
 pub mod OverLemmas
 pub mod PlaceLemmas

@@ -1,9 +1,9 @@
 -- Where no frame is under way and nothing is due the story is quiet; at the ends it is over.
 use Rattle.tk_frames.specs.declared.frame.Frame.TheVariants as f
 use Rattle.tk_journal.specs.declared.noted.Noted.TheVariants as n
-use Rattle.std.proofs.Common.{◌≡◌, ℕ, suc, zero, ◌+◌, ◌-◌, ◌≤◌, ◌<◌, ◌&&◌, ◌||◌, ◌==◌, ℤ, Bool, true, false, not, List, [], ◌∷◌, ◌++◌, length, Contains, Option, Some, None, refl, sym, ap, ◌∙◌, subst, arith, append_assoc, append-nil, inl, inr}
-use Rattle.std.specs.Prelude.{count_by, filter_map, fold, is_some, nat_lt, IfSome, if◌then◌else◌}
-use Rattle.std.specs.List.{cons_option, list_all, list_any, range_with_len}
+use Rattle.std.proofs.Common.{◌≡◌, ℕ, suc, zero, ◌+◌, ◌≤◌, ◌<◌, ◌&&◌, ◌||◌, ◌==◌, ℤ, Bool, true, false, not, List, [], ◌∷◌, ◌++◌, length, Contains, Option, Some, None, refl, sym, ap, ◌∙◌, subst, arith, append_assoc, append-nil, inl, inr}
+use Rattle.std.specs.Prelude.{count_by, filter_map, fold, is_some, nat_lt, if◌then◌else◌}
+use Rattle.std.specs.List.{cons_option, list_all, list_any}
 use Rattle.std.proofs.lemmas.Bool.{and_from, and_parts, cases_Bool, eqb-true, false≢true, lt-ltb, true≢false}
 use Rattle.std.proofs.lemmas.List.{length-append}
 use Rattle.std.proofs.lemmas.List.Elements.{filter_map-append}

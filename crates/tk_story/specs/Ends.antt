@@ -106,6 +106,15 @@ pub record IsFirstOfAll (ends : KeptEnds) (mon : ℕ) (direction : Direction) (p
   pub here : IsFirstDifference (link_at ends mon direction) place sent received
   pub before : (m : ℕ) (d : Direction) → IsMonitor ends.settings m → IsBefore m d mon direction → IsOrdered (link_at ends m d)
 
+-- some link is not ordered, so one of them is the first that is not
+pub record HaveDifference (ends : KeptEnds) : Type 0 where
+  pub mon : ℕ
+  pub direction : Direction
+  pub place : ℕ
+  pub sent : Option Frame
+  pub received : Received
+  pub first : IsFirstOfAll ends mon direction place sent received
+
 -- what a fault says of ends
 abbrev pub TellsDifference : KeptEnds → JoinFault → Type 0
 TellsDifference ends (Differs mon direction place sent received) = IsFirstOfAll ends mon.0 direction place sent received

@@ -1,5 +1,5 @@
 ghost use Rattle.std.specs.Prelude.{◌≡◌, ◌≤◌, [], length, map, IfOk, IfErr, IsErr, OnOk, vec_capacity};
-ghost use Rattle.tk_story.specs.Ends.{AreOfOneRun, AreOrdered, TellsDifference, joined, kept_by};
+ghost use Rattle.tk_story.specs.Ends.{AreOfOneRun, AreOrdered, HaveNothingOdd, TellsDifference, joined, kept_by};
 
 use crate::ends::Ends;
 use crate::ends::comparing::check;
@@ -38,8 +38,9 @@ impl Story {
         events: Vec<Event>,
     ) -> Result<Story, (JoinFault, Ends)>
         requires { AreOfOneRun coordinator monitors.items logs settings from }
-        // It comes where all links are ordered, and is the story of exactly these ends.
+        // It comes where all links are ordered, so that nothing is odd, and is the story of exactly these ends.
         ensures ordered { OnOk result (AreOrdered (kept_by coordinator monitors.items)) }
+        ensures nothing_odd { OnOk result (HaveNothingOdd (kept_by coordinator monitors.items)) }
         ensures story { IfOk result (λ s. s.story ≡ joined (kept_by coordinator monitors.items) logs from) }
         ensures events { IfOk result (λ s. s.events ≡ events.items) }
         // Else the first difference is told, unless there is no memory, and the ends come back.

@@ -1,4 +1,4 @@
-use Rattle.std.proofs.Common.{refl, ◌≡◌, ◌+◌, ◌<◌, Some, None, length, take, ap, sym, ◌∙◌, subst, arith}
+use Rattle.std.proofs.Common.{refl, ◌≡◌, ◌+◌, Some, None, length, take, ap, sym, ◌∙◌, subst, arith}
 use Rattle.std.specs.Prelude.{IfErr, filter_map, slice_get}
 use Rattle.std.specs.Option.{option_copied}
 use Rattle.std.proofs.lemmas.Bool.{true≢false}

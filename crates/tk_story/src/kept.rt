@@ -1,0 +1,19 @@
+// Ends of a run as they were kept. Each function is there for its clause alone.
+ghost use Rattle.std.specs.Prelude.{ℕ, ◌≡◌, ◌⊎◌, List, Some};
+ghost use Rattle.tk_base.specs.declared.ids.Mon.{Mon};
+ghost use Rattle.tk_input.specs.Logs.{LogSet};
+ghost use Rattle.tk_journal.specs.Laws.{IsMonitor};
+ghost use Rattle.tk_story.specs.Ends.{AreKept, AreOrdered, HaveDifference, KeptEnds, odd_at};
+ghost use Rattle.tk_story.specs.declared.ends.received.Received.{Received};
+
+/// All links of some ends are ordered, or one of them is the first that differs; never both.
+pub fn ends_agree_or_differ()
+    ensures either { (ends : KeptEnds) → AreOrdered ends ⊎ HaveDifference ends }
+    ensures never_both { (ends : KeptEnds) → AreOrdered ends → HaveDifference ends → ⊥ }
+{}
+
+/// Where an end of legal histories received what it does not take, some link differs.
+pub fn what_is_odd_was_not_sent()
+    ensures coordinator { (ends : KeptEnds) (logs : LogSet) (from : List (List ℕ)) (odd : Mon × Received) → AreKept ends logs from → ends.odd ≡ Some odd → HaveDifference ends }
+    ensures monitor { (ends : KeptEnds) (logs : LogSet) (from : List (List ℕ)) (mon : ℕ) (odd : Received) → AreKept ends logs from → IsMonitor ends.settings mon → odd_at ends mon ≡ Some odd → HaveDifference ends }
+{}
