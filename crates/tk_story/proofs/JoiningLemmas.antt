@@ -155,6 +155,9 @@ opens o j legal =
     by_turns o (Rest (opened o)) (λ before input accepted fine h. record { rest = h.rest ++ turn_of o.settings before input; is = ap (λ xs. xs ++ turn_of o.settings before input) h.is ∙ append_assoc (opened o) h.rest (turn_of o.settings before input) })
     (record { rest = []; is = sym (append-nil (opened o)) }) j legal
 
+pub opens_it : (o : Opening) (j : List Noted) → IsLegal o j → IsFront (opened o) j
+opens_it o j legal = let whole = opens o j legal in record { is = sym (ap (take (length (opened o))) whole.is ∙ front_of (opened o) whole.rest) }
+
 opened_length : (o : Opening) → length (opened o) ≡ length o.factors
 opened_length o = length-map (enumerate_from 1 o.factors) _ ∙ length-enumerate_from 1 o.factors
 

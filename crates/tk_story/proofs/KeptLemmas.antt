@@ -65,16 +65,16 @@ agree_or_differ (g ∷ gs) (r.Bytes bytes ∷ xs) = inr (record { place = 0; the
 agree_or_differ (g ∷ gs) (r.Frame f ∷ xs) = elim (cases_Bool (derived g f)) [
   | inl same ↦ agree_with g f gs xs ((frames_tell g f).0 same) (agree_or_differ gs xs)
   | inr other ↦ inr (record {
-      place = 0;
-      there = Some g;
-      here = r.Frame f;
-      first = record {
-        same = refl;
-        sent_is = refl;
-        received_is = refl;
-        other = λ e. true≢false (sym ((frames_tell g f).1 (some_same g f (frame_of (Some g) f e))) ∙ other);
-      };
-    })
+    place = 0;
+    there = Some g;
+    here = r.Frame f;
+    first = record {
+      same = refl;
+      sent_is = refl;
+      received_is = refl;
+      other = λ e. true≢false (sym ((frames_tell g f).1 (some_same g f (frame_of (Some g) f e))) ∙ other);
+    };
+  })
 ]
 
 -- ---- all links
@@ -222,6 +222,6 @@ nothing_is_odd coordinator ends logs settings from given histories ordered =
           let e = end_of coordinator ends logs from mon h.monitors m in
           let own : odd_at kept mon ≡ e.at.it.odd = at_map (λ (x : MonEnd). x.odd) ends (mon - 1) e.at.it None e.at.is in
           none_unless (odd_at kept mon) (λ odd is. not_there e.at.it.not_taken (λ refused.
-              let here = subst (λ t. IsOddDown (setup_of (joined kept logs from) mon) t odd) e.trail (subst (λ u. IsOddDown u e.at.it.monitor.trail odd) e.setup (refused odd (sym own ∙ is))) in
-              odd_down_differs kept logs from mon odd histories m is here ordered));
+          let here = subst (λ t. IsOddDown (setup_of (joined kept logs from) mon) t odd) e.trail (subst (λ u. IsOddDown u e.at.it.monitor.trail odd) e.setup (refused odd (sym own ∙ is))) in
+          odd_down_differs kept logs from mon odd histories m is here ordered));
     }

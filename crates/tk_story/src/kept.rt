@@ -1,8 +1,11 @@
 // Ends of a run as they were kept. Each function is there for its clause alone.
 ghost use Rattle.std.specs.Prelude.{ℕ, ◌≡◌, ◌⊎◌, List, Some};
+ghost use Rattle.tk_base.specs.History.{IsFront};
 ghost use Rattle.tk_base.specs.declared.ids.Mon.{Mon};
 ghost use Rattle.tk_input.specs.Logs.{LogSet};
 ghost use Rattle.tk_journal.specs.Laws.{IsMonitor};
+ghost use Rattle.tk_journal.specs.Legal.{IsLegal, Opening, opened};
+ghost use Rattle.tk_journal.specs.declared.noted.Noted.{Noted};
 ghost use Rattle.tk_story.specs.Ends.{AreKept, AreOrdered, HaveDifference, KeptEnds, odd_at};
 ghost use Rattle.tk_story.specs.declared.ends.received.Received.{Received};
 
@@ -16,4 +19,9 @@ pub fn ends_agree_or_differ()
 pub fn what_is_odd_was_not_sent()
     ensures coordinator { (ends : KeptEnds) (logs : LogSet) (from : List (List ℕ)) (odd : Mon × Received) → AreKept ends logs from → ends.odd ≡ Some odd → HaveDifference ends }
     ensures monitor { (ends : KeptEnds) (logs : LogSet) (from : List (List ℕ)) (mon : ℕ) (odd : Received) → AreKept ends logs from → IsMonitor ends.settings mon → odd_at ends mon ≡ Some odd → HaveDifference ends }
+{}
+
+/// A legal journal begins with its opening.
+pub fn a_journal_begins_with_its_opening()
+    ensures { (o : Opening) (j : List Noted) → IsLegal o j → IsFront (opened o) j }
 {}

@@ -22,7 +22,7 @@ pub use joined::{
     at_most_one_behind, links_hold_over_any_opening, the_next_frame_down_is_taken,
     the_next_frame_up_is_taken,
 };
-pub use kept::{ends_agree_or_differ, what_is_odd_was_not_sent};
+pub use kept::{a_journal_begins_with_its_opening, ends_agree_or_differ, what_is_odd_was_not_sent};
 pub use resting::{still_at_the_ends_is_over, still_at_the_ends_is_stopped, still_is_quiet};
 pub use story::Story;
 pub use validity::{

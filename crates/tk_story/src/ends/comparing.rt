@@ -23,12 +23,11 @@ use tk_journal::Noted;
 use tk_monitor::Monitor;
 use tk_trail::Entry;
 
-/// A place from 0 of a link.
+/// One of the two links of a monitor.
 #[derive(Clone, Copy)]
-struct Spot {
+struct Way {
     mon: Mon,
     direction: Direction,
-    place: usize,
 }
 
 fn is_same(sent: &Frame, received: &Frame) -> bool
@@ -64,17 +63,13 @@ fn clone_of(sent: Option<&Frame>) -> Result<Option<Frame>, NoMemory>
     }
 }
 
-/// At this spot something else was received than what was sent.
-fn differ(spot: Spot, sent: Option<&Frame>, received: Received) -> Result<(), JoinFault>
+/// At this place of a link something else was received than what was sent.
+fn differ(way: Way, place: usize, sent: Option<&Frame>, received: Received) -> Result<(), JoinFault>
     ensures never { IsErr result }
-    ensures fault { IfErr result (IsDifference spot.mon spot.direction spot.place (option_copied sent.entry) received) }
+    ensures fault { IfErr result (IsDifference way.mon way.direction place (option_copied sent.entry) received) }
 {
     let sent = clone_of(sent)?;
-    let Spot {
-        mon,
-        direction,
-        place,
-    } = spot;
+    let Way { mon, direction } = way;
     let place = place as u64;
     Err(JoinFault::Differs {
         mon,
@@ -86,9 +81,14 @@ fn differ(spot: Spot, sent: Option<&Frame>, received: Received) -> Result<(), Jo
 }
 
 /// What is odd is the last that was received.
-fn check_odd(spot: Spot, sent: Option<&Frame>, odd: Option<&Received>) -> Result<(), JoinFault>
-    ensures { (link : KeptLink) (frames : List Frame) → AreTaken link frames (option_copied odd.entry) spot.place (option_copied sent.entry)
-        → Finds spot.mon spot.direction link result }
+fn check_odd(
+    way: Way,
+    place: usize,
+    sent: Option<&Frame>,
+    odd: Option<&Received>,
+) -> Result<(), JoinFault>
+    ensures { (link : KeptLink) (frames : List Frame) → AreTaken link frames (option_copied odd.entry) place (option_copied sent.entry)
+        → Finds way.mon way.direction link result }
 {
     match odd {
         None => Ok(()),
@@ -96,7 +96,7 @@ fn check_odd(spot: Spot, sent: Option<&Frame>, odd: Option<&Received>) -> Result
             if is_odd_sent(sent, odd) {
                 Ok(())
             } else {
-                differ(spot, sent, odd.try_clone()?)
+                differ(way, place, sent, odd.try_clone()?)
             }
         }
     }
@@ -165,32 +165,22 @@ fn odd_from(end: &CoordEnd, mon: Mon) -> Option<&Received>
 pub fn check_up(end: &CoordEnd, mon: Mon, monitor: &Monitor) -> Result<(), JoinFault>
     ensures { Finds mon UpLink (up_link mon.0 end.now.coordinator.journal end.now.odd monitor.now.trail) result }
 {
-    let direction = Direction::UpLink;
+    let way = Way {
+        mon,
+        direction: Direction::UpLink,
+    };
     let mut place = 0;
     for noted in end.coordinator.journal() {
         if let Some(frame) = got_from(noted, mon) {
             let sent = sent_up(monitor, place);
             if !is_sent(sent, frame) {
                 let received = Received::Frame(frame.try_clone()?);
-                return differ(
-                    Spot {
-                        mon,
-                        direction,
-                        place,
-                    },
-                    sent,
-                    received,
-                );
+                return differ(way, place, sent, received);
             }
             place += 1;
         }
     }
-    let spot = Spot {
-        mon,
-        direction,
-        place,
-    };
-    check_odd(spot, sent_up(monitor, place), odd_from(end, mon))
+    check_odd(way, place, sent_up(monitor, place), odd_from(end, mon))
 }
 
 /// Looks at the link down to a monitor: at each entry of its trail once.
@@ -199,32 +189,27 @@ pub fn check_down(coordinator: &Coordinator, mon: Mon, end: &MonEnd) -> Result<(
     ensures found { Finds mon DownLink (down_link mon.0 coordinator.now.journal end.now.monitor.trail end.now.odd) result }
     ensures legal { IsLegal end.now.monitor.setup end.now.monitor.trail }
 {
-    let direction = Direction::DownLink;
+    let way = Way {
+        mon,
+        direction: Direction::DownLink,
+    };
     let mut place = 0;
     for entry in end.monitor.trail() {
         if let Some(frame) = taken_in(entry) {
             let sent = sent_down(coordinator, mon, place);
             if !is_sent(sent, frame) {
                 let received = Received::Frame(frame.try_clone()?);
-                return differ(
-                    Spot {
-                        mon,
-                        direction,
-                        place,
-                    },
-                    sent,
-                    received,
-                );
+                return differ(way, place, sent, received);
             }
             place += 1;
         }
     }
-    let spot = Spot {
-        mon,
-        direction,
+    check_odd(
+        way,
         place,
-    };
-    check_odd(spot, sent_down(coordinator, mon, place), end.odd.as_ref())
+        sent_down(coordinator, mon, place),
+        end.odd.as_ref(),
+    )
 }
 
 /// Looks at all links: by monitor, and up before down. Costs the trails, and the journal once for each monitor.

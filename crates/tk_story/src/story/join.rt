@@ -1,4 +1,5 @@
 ghost use Rattle.std.specs.Prelude.{◌≡◌, ◌≤◌, [], length, map, IfOk, IfErr, IsErr, OnOk, vec_capacity};
+ghost use Rattle.tk_story.specs.Comparing.{AreTrailsLegal};
 ghost use Rattle.tk_story.specs.Ends.{AreOfOneRun, AreOrdered, HaveNothingOdd, TellsDifference, joined, kept_by};
 
 use crate::ends::Ends;
@@ -23,6 +24,37 @@ fn into_monitors(ends: Vec<MonEnd>, room: Vec<Monitor>) -> Vec<Monitor>
         monitors.push_reserved(monitor);
     }
     monitors
+}
+
+/// The story of ends that agree, in room for its monitors.
+fn make(
+    ends: Ends,
+    room: Vec<Monitor>,
+    logs: Logs,
+    settings: Settings,
+    from: Cut,
+    events: Vec<Event>,
+) -> Story
+    requires run { AreOfOneRun ends.coordinator ends.monitors.items logs settings from }
+    requires ordered { AreOrdered (kept_by ends.coordinator ends.monitors.items) }
+    requires legal { AreTrailsLegal ends.monitors.items }
+    requires empty { room.items ≡ [] }
+    requires room { length ends.monitors.items ≤ vec_capacity room }
+    ensures nothing_odd { HaveNothingOdd (kept_by ends.coordinator ends.monitors.items) }
+    ensures story { result.story ≡ joined (kept_by ends.coordinator ends.monitors.items) logs from }
+    ensures events { result.events ≡ events.items }
+{
+    // These are read for their clauses: the limits of settings and logs, and that the journal is legal.
+    let _ = settings.monitors();
+    let _ = logs.monitors();
+    let _ = ends.coordinator.coordinator.journal();
+    let Ends {
+        coordinator,
+        monitors,
+    } = ends;
+    let CoordEnd { coordinator, .. } = coordinator;
+    let monitors = into_monitors(monitors, room);
+    Story::of(coordinator, monitors, logs, settings, from, events)
 }
 
 impl Story {
@@ -57,16 +89,6 @@ impl Story {
         let Ok(room) = Vec::with_capacity(*ends.monitors.allocator(), ends.monitors.len()) else {
             return Err((JoinFault::NoMemory, ends));
         };
-        // These are read for their clauses: what they are of is within its limits, and the journal is legal.
-        let _ = settings.monitors();
-        let _ = logs.monitors();
-        let _ = ends.coordinator.coordinator.journal();
-        let Ends {
-            coordinator,
-            monitors,
-        } = ends;
-        let CoordEnd { coordinator, .. } = coordinator;
-        let monitors = into_monitors(monitors, room);
-        Ok(Story::of(coordinator, monitors, logs, settings, from, events))
+        Ok(make(ends, room, logs, settings, from, events))
     }
 }
