@@ -25,4 +25,5 @@ pub mod TurnFalls
 pub mod TurnReads
 pub mod UpFalls
 pub mod WideFalls
+pub mod BeginLemmas
 pub mod DrivenLemmas

@@ -22,7 +22,7 @@ use Rattle.tk_drain.proofs.PartLemmas.{pass_again, raises_push}
 use Rattle.tk_drain.specs.Passing.Covers.{Nothing as NothingC, GoesOn as GoesOnC, Ended as EndedC}
 use Rattle.tk_drain.proofs.KeepLemmas.{Leads, leads_join, leads_none, leads_reached, leads_story, reached_leads, took_of}
 use Rattle.tk_drain.proofs.ReadLemmas.{guarded, monitor_is}
-use Rattle.tk_drain.proofs.RestLemmas.{begins_reached, settles_rests}
+use Rattle.tk_drain.proofs.RestLemmas.{settles_rests}
 use Rattle.tk_drain.proofs.RaiseLemmas.{alike_length, goes_on, idle_ended, place, raised_in, run_alike, run_moves}
 use Rattle.tk_drain.proofs.EndingLemmas.{Finished, finishes_leads, part_back, raised_over}
 use Rattle.std.proofs.lemmas.List.Sums.{fold-append}
@@ -64,10 +64,10 @@ finishes_join (e ∷ xs) ys a b c (PassesF event rest kept end none one) on = Pa
 finishes_join (e ∷ xs) ys a b c (RaisesF event rest kept settled end story count some settles one) on =
     RaisesF e (xs ++ ys) a settled c story count some settles (finishes_join xs ys settled b c one on)
 
-raised_once : (e : Event) (a c : KeptStory) → RaisesOne e a c → Finishes (e ∷ []) a c
+pub raised_once : (e : Event) (a c : KeptStory) → RaisesOne e a c → Finishes (e ∷ []) a c
 raised_once e a c r = RaisesF e [] a c c r.story r.count r.some r.settles (DoneF c)
 
-passed_once : (e : Event) (a c : KeptStory) → next_of a.story e ≡ None → c ≡ a → Finishes (e ∷ []) a c
+pub passed_once : (e : Event) (a c : KeptStory) → next_of a.story e ≡ None → c ≡ a → Finishes (e ∷ []) a c
 passed_once e a c none same = subst (λ (z : KeptStory). Finishes (e ∷ []) a z) (sym same) (PassesF e [] a a none (DoneF a))
 
 pub covers_self : (s : StoryView) (all : List Event) → Covers s all all
@@ -85,7 +85,7 @@ push_ended s mon g left all none (GoesOnC x xs ys c) = GoesOnC x xs (ys ++ raise
 push_ended s mon g left all none (EndedC x xs ys q h is ended c) = EndedC x xs (ys ++ raise_at mon g ∷ []) q h is ended (push_ended s mon g xs ys none c)
 
 -- the events of one raise
-one_leads : (e : Event) (a c : KeptStory) (r : RaisesOne e a c) → Finished a c
+pub one_leads : (e : Event) (a c : KeptStory) (r : RaisesOne e a c) → Finished a c
 one_leads e a c r = finishes_leads (e ∷ []) a c (raised_once e a c r)
 
 pub passes_none : (a : KeptStory) → Passes [] [] a a
@@ -142,21 +142,8 @@ raised_settled e a b c count moves settles = record {
   settles = subst (λ (z : KeptStory). Settles z c count) (moves_keep a b e Yes moves) settles;
 }
 
-pub raise_cut : (e : Event) (a b c : KeptStory) → Moves a e Yes b → BeginsSettling b c → IsReached a c
-raise_cut e a b c moves begins =
-    let r = begins_reached b c begins in
-    let one : Leads a b (e ∷ []) = record { runs = ap (λ (o : Option StoryView). after o []) moves.0; kept = moves.1 } in
-    leads_reached a c ((e ∷ []) ++ r.events) (leads_join a b c (e ∷ []) r.events one (reached_leads b c r))
-
 pub reached_join : (a b c : KeptStory) → IsReached a b → IsReached b c → IsReached a c
 reached_join a b c one two = leads_reached a c (one.events ++ two.events) (leads_join a b c one.events two.events (reached_leads a b one) (reached_leads b c two))
-
-pub reached_self : (a : KeptStory) → IsReached a a
-reached_self a = leads_reached a a [] (leads_none a)
-
-pub may_raise_reached : (e : Event) (moved : Moved) (a c : KeptStory) → MayRaise e moved a c → IsReached a c
-may_raise_reached e Yes a c r = let f = one_leads e a c r in leads_reached a c f.took f.leads
-may_raise_reached e Idle a c r = subst (λ (z : KeptStory). IsReached a z) (sym r.1) (reached_self a)
 
 pub finishes_reached : (events : List Event) (a c : KeptStory) → Finishes events a c → IsReached a c
 finishes_reached events a c f = let x = finishes_leads events a c f in leads_reached a c x.took x.leads

@@ -119,16 +119,6 @@ few_of n a b m x y = omega (arith, x, y)
 pub sweeping_few : (old now : KeptStory) (n : ℕ) → IsStory old.story → Sweeping old now n → n ≤ 87 * old.story.settings.monitors
 sweeping_few old now n h so = few_of n (energy_at now) (energy_at old) old.story.settings.monitors so.energy (energy_most old.story h)
 
--- the beginning of a settling is reached
-pub begins_reached : (a c : KeptStory) → BeginsSettling a c → IsReached a c
-begins_reached a c (Within kept end events front is) =
-    let t = took_of a events in
-    subst (λ (z : KeptStory). IsReached a z) (sym is) (leads_reached a (keep_all a events) t.took t.leads)
-begins_reached a c (Beyond kept end rest) =
-    let r = begins_reached (swept a) c rest in
-    let s = sweep_calms a in
-    leads_reached a c (s.took ++ r.events) (leads_join a (swept a) c s.took r.events s.leads (reached_leads (swept a) c r))
-
 -- ---- what a settling leaves
 
 pub comes_to_rest : (a c : KeptStory) (n : ℕ) → IsStory a.story → Settles a c n → ComesToRest a.story c.story

@@ -78,6 +78,26 @@ pub record IsFinished (begun end : KeptStory) : Type 0 where
 pub record Drives (order : List Event) (begun end : KeptStory) : Type 0 where
   pub finished : IsFinished (keep_all begun order) end
 
+-- the beginning of such raises: it stands before a raise, or in the settling of one
+pub data BeginsFinishes : List Event → KeptStory → KeptStory → Type 0 where
+  Before : (events : List Event) (kept : KeptStory) → BeginsFinishes events kept kept
+  Settling : (event : Event) (events : List Event) (kept end : KeptStory) (story : StoryView) → next_of kept.story event ≡ Some story
+      → BeginsSettling (keep kept event) end → BeginsFinishes (event ∷ events) kept end
+  PassesOver : (event : Event) (events : List Event) (kept end : KeptStory) → next_of kept.story event ≡ None
+      → BeginsFinishes events kept end → BeginsFinishes (event ∷ events) kept end
+  RaisesOn : (event : Event) (events : List Event) (kept settled end : KeptStory) (story : StoryView) (count : ℕ) → next_of kept.story event ≡ Some story
+      → Settles (keep kept event) settled count → BeginsFinishes events settled end → BeginsFinishes (event ∷ events) kept end
+
+-- the beginning of finishing: in its settling, or in the raises that follow
+pub data BeginsFinishing (begun end : KeptStory) : Type 0 where
+  InSettling : BeginsSettling begun end → BeginsFinishing begun end
+  InRaises : (settled : KeptStory) (count : ℕ) → Settles begun settled count → BeginsFinishes (all_raises begun.story.logs) settled end → BeginsFinishing begun end
+
+-- the beginning of the drive of an order: a front of the order, or behind it the beginning of finishing
+pub data BeginsDrive (order : List Event) (begun end : KeptStory) : Type 0 where
+  InOrder : KeepsFront order begun end → BeginsDrive order begun end
+  BehindOrder : BeginsFinishing (keep_all begun order) end → BeginsDrive order begun end
+
 -- a story that some events have led to
 pub record IsReached (kept end : KeptStory) : Type 0 where
   pub events : List Event

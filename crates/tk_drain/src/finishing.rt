@@ -1,8 +1,8 @@
-ghost use Rattle.std.specs.Prelude.{◌≡◌, IfOk, OnErr, OnOk};
+ghost use Rattle.std.specs.Prelude.{◌≡◌, [], ◌∷◌, IfOk, OnErr, OnOk};
 ghost use Rattle.tk_story.specs.Moments.{IsOver};
 ghost use Rattle.tk_story.specs.Story.{IsStory};
 ghost use Rattle.tk_world.specs.Events.{raise_at};
-ghost use Rattle.tk_drain.specs.Drive.{Drives, IsFinished, IsReached};
+ghost use Rattle.tk_drain.specs.Drive.{BeginsDrive, BeginsFinishes, BeginsFinishing, Drives, IsFinished};
 ghost use Rattle.tk_drain.specs.Passing.{MayRaise, Passes, raises};
 
 use crate::parts::{longest_of, parts_of};
@@ -15,7 +15,7 @@ use tk_world::{Moved, World};
 /// Raises the next change of a part and settles, unless the part is at its end.
 fn raise_one(world: &mut World, mon: Mon, f: Feeder) -> Result<Moved, NoMemory>
     ensures ok { IfOk result (λ moved. MayRaise (raise_at mon.0 f.0) moved world.old world.new) }
-    ensures err { OnErr result (IsReached world.old world.new) }
+    ensures err { OnErr result (BeginsFinishes (raise_at mon.0 f.0 ∷ []) world.old world.new) }
     ensures legal { IsStory world.new.story }
 {
     match world.step(Event::Raise(mon, f))? {
@@ -35,7 +35,7 @@ fn raise_each(
 ) -> Result<Vec<(Mon, Feeder)>, NoMemory>
     requires { IsStory world.old.story }
     ensures ok { IfOk result (λ left. Passes (raises parts.now) (raises left.items) world.old world.new) }
-    ensures err { OnErr result (IsReached world.old world.new) }
+    ensures err { OnErr result (BeginsFinishes (raises parts.now) world.old world.new) }
     ensures legal { IsStory world.new.story }
 {
     let mut left = Vec::with_capacity(alloc, parts.len())?;
@@ -53,7 +53,7 @@ fn raise_each(
 pub fn finish(alloc: Global, world: &mut World) -> Result<(), NoMemory>
     ensures finished { OnOk result (IsFinished world.old world.new) }
     ensures over { OnOk result (IsOver world.new.story) }
-    ensures err { OnErr result (IsReached world.old world.new) }
+    ensures err { OnErr result (BeginsFinishing world.old world.new) }
     ensures legal { IsStory world.new.story }
 {
     settle(world)?;
@@ -68,7 +68,7 @@ pub fn finish(alloc: Global, world: &mut World) -> Result<(), NoMemory>
 pub fn drive(alloc: Global, world: &mut World, order: &Order) -> Result<(), NoMemory>
     ensures driven { OnOk result (Drives order.now.events world.old world.new) }
     ensures over { OnOk result (IsOver world.new.story) }
-    ensures err { OnErr result (IsReached world.old world.new) }
+    ensures err { OnErr result (BeginsDrive order.now.events world.old world.new) }
     ensures legal { OnOk result (IsStory world.new.story) }
 {
     for i in 0..order.len() {

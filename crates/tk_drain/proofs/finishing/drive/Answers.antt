@@ -1,19 +1,18 @@
-use Rattle.std.proofs.Common.{◌∙◌, ap, subst, sym, take, length, arith, ◌<◌, ◌++◌, ◌∷◌, []}
+use Rattle.std.proofs.Common.{◌∙◌, ap, sym, take, length, arith, ◌<◌, ◌++◌, ◌∷◌, []}
 use Rattle.std.proofs.lemmas.List.{take_more}
 use Rattle.std.proofs.lemmas.Option.{get_or_from_slice_get}
 use Rattle.std.proofs.lemmas.Result.{on_err_weaker}
 use Rattle.tk_input.specs.declared.event.Event.{Event}
-use Rattle.tk_story.specs.Kept.{KeptStory}
-use Rattle.tk_drain.specs.Drive.{IsReached}
+use Rattle.tk_drain.proofs.BeginLemmas.{behind_order, order_cut}
 use Rattle.tk_drain.proofs.PhaseLemmas.{err_by}
-use Rattle.tk_drain.proofs.PassingLemmas.{kept_reached, order_more, reached_join}
+use Rattle.tk_drain.proofs.PassingLemmas.{order_more}
 use Rattle.tk_drain.proofs.finishing.drive.Goals as goal
 
 pub returns-in_err-try_clone-clause-err : goal.returns-in_err-try_clone-clause-err
-returns-in_err-try_clone-clause-err c = err_by c.from_residual.result (subst (λ (z : KeptStory). IsReached c.args.world.now z) (sym c.loop-i.invariant) (kept_reached c.args.world.now (take c.loop-i.i c.args.order.now.events)))
+returns-in_err-try_clone-clause-err c = err_by c.from_residual.result (order_cut c.args.order.now.events c.loop-i.i c.args.world.now c.loop-i.world c.loop-i.invariant)
 
 pub returns-in_err-step-clause-err : goal.returns-in_err-step-clause-err
-returns-in_err-step-clause-err c = err_by c.from_residual-in_err-step.result (subst (λ (z : KeptStory). IsReached c.args.world.now z) (sym (c.in_err-step.ensures.err ∙ c.loop-i.invariant)) (kept_reached c.args.world.now (take c.loop-i.i c.args.order.now.events)))
+returns-in_err-step-clause-err c = err_by c.from_residual-in_err-step.result (order_cut c.args.order.now.events c.loop-i.i c.args.world.now c.step.new.self (c.in_err-step.ensures.err ∙ c.loop-i.invariant))
 
 pub loop-i-preserved : goal.loop-i-preserved
 loop-i-preserved c =
@@ -28,7 +27,6 @@ loop-i-preserved c =
 
 pub returns-clause-err : goal.returns-clause-err
 returns-clause-err c =
-    on_err_weaker c.finish.result (λ reached.
-    reached_join c.args.world.now c.loop-i.world c.finish.new.world
-    (subst (λ (z : KeptStory). IsReached c.args.world.now z) (sym c.loop-i.invariant) (kept_reached c.args.world.now (take c.loop-i.i c.args.order.now.events)))
-    reached) c.finish.ensures.err
+    let low = c.loop-i-test.false in
+    let end = c.len-i-end.ensures in
+    on_err_weaker c.finish.result (λ begins. behind_order c.args.order.now.events c.loop-i.i c.args.world.now c.loop-i.world c.finish.new.world c.loop-i.invariant (omega (arith, low, end)) begins) c.finish.ensures.err

@@ -3,27 +3,29 @@ use Rattle.tk_base.specs.declared.ids.Feeder.{Feeder}
 use Rattle.tk_base.specs.declared.ids.Mon.{Mon}
 use Rattle.tk_drain.specs.Passing.{Passes, raises}
 use Rattle.tk_input.specs.Logs.{LogSet}
-use Rattle.tk_drain.specs.Drive.{longest_of, pass_of}
+use Rattle.tk_drain.specs.Drive.{BeginsFinishes, longest_of, pass_of}
+use Rattle.tk_drain.specs.Drive.BeginsFinishing.{InSettling}
 use Rattle.tk_drain.proofs.PhaseLemmas.{err_by}
-use Rattle.tk_drain.proofs.RestLemmas.{begins_reached}
-use Rattle.tk_drain.proofs.PassingLemmas.{finishes_reached, passed_all, passed_more, passed_none, passed_over, reached_join, settles_reached}
+use Rattle.tk_drain.proofs.BeginLemmas.{pass_begun, settled_only}
+use Rattle.tk_drain.proofs.PassingLemmas.{passed_all, passed_more, passed_none, passed_over}
 use Rattle.tk_drain.proofs.finishing.finish.Goals as goal
 
 pub returns-in_err-settle-clause-err : goal.returns-in_err-settle-clause-err
-returns-in_err-settle-clause-err c = err_by c.from_residual.result (begins_reached c.args.world.now c.settle.new.world c.in_err-settle.ensures.err)
+returns-in_err-settle-clause-err c = err_by c.from_residual.result (InSettling c.in_err-settle.ensures.err)
 
 pub returns-in_err-parts-clause-err : goal.returns-in_err-parts-clause-err
-returns-in_err-parts-clause-err c = err_by c.from_residual-in_err-parts.result (settles_reached c.args.world.now c.settle.new.world c.in_ok-settle.field-0.count c.in_ok-settle.ensures.settles)
+returns-in_err-parts-clause-err c = err_by c.from_residual-in_err-parts.result (settled_only c.args.world.now c.settle.new.world c.in_ok-settle.field-0.count c.in_ok-settle.ensures.settles)
 
 pub loop-pass-init : goal.loop-pass-init
 loop-pass-init c = passed_none c.settle.new.world c.in_ok-parts.parts.items c.settle.ensures.legal (c.in_ok-parts.ensures ∙ ap (λ (l : LogSet). pass_of l) c.logs.ensures)
 
 pub returns-in_err-parts-2-clause-err : goal.returns-in_err-parts-2-clause-err
 returns-in_err-parts-2-clause-err c =
+    let more = c.loop-pass-test.true in
     err_by c.from_residual-in_err-parts-2.result
-    (reached_join c.args.world.now c.settle.new.world c.raise_each.new.world
-    (settles_reached c.args.world.now c.settle.new.world c.in_ok-settle.field-0.count c.in_ok-settle.ensures.settles)
-    (reached_join c.settle.new.world c.loop-pass.world c.raise_each.new.world (finishes_reached _ c.settle.new.world c.loop-pass.world c.loop-pass.invariant.finishes) c.in_err-parts-2.ensures.err))
+    (pass_begun c.args.world.now c.settle.new.world c.loop-pass.world c.raise_each.new.world c.loop-pass.parts.items c.in_ok-settle.field-0.count c.loop-pass.pass c.longest_of-pass-end.result c.in_ok-settle.ensures.settles c.loop-pass.invariant
+    (omega (arith, more)) (c.longest_of-pass-end.ensures ∙ ap (λ (l : LogSet). longest_of l) c.logs-2.ensures)
+    (subst (λ (ps : List (Mon × Feeder)). BeginsFinishes (raises ps) c.loop-pass.world c.raise_each.new.world) c.as_slice.ensures.value c.in_err-parts-2.ensures.err))
 
 pub loop-pass-preserved : goal.loop-pass-preserved
 loop-pass-preserved c =

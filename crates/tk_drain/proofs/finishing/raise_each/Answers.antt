@@ -1,12 +1,13 @@
-use Rattle.std.proofs.Common.{◌∙◌, ap, subst, sym, take, get_or, List, [], ◌+◌}
+use Rattle.std.proofs.Common.{◌∙◌, ap, refl, subst, sym, take, get_or, List, [], ◌+◌}
 use Rattle.std.proofs.lemmas.List.{take_more}
 use Rattle.tk_base.specs.declared.ids.Feeder.{Feeder}
 use Rattle.tk_base.specs.declared.ids.Mon.{Mon}
 use Rattle.tk_world.specs.Events.{raise_at}
 use Rattle.tk_drain.specs.Passing.{MayRaise, Passes, raises}
 use Rattle.tk_world.specs.declared.moved.Moved.{Moved}
+use Rattle.tk_drain.proofs.BeginLemmas.{not_begun, part_begun, part_raised}
 use Rattle.tk_drain.proofs.PhaseLemmas.{err_by}
-use Rattle.tk_drain.proofs.PassingLemmas.{each_idle, each_yes, finishes_reached, may_raise_reached, passes_none, reached_join}
+use Rattle.tk_drain.proofs.PassingLemmas.{each_idle, each_yes, passes_none}
 use Rattle.tk_drain.proofs.finishing.raise_each.Goals as goal
 use Rattle.tk_drain.proofs.finishing.raise_each.Goals.{in-Yes+in_ok-push-in-Yes, in-Idle}
 
@@ -16,16 +17,24 @@ loop-part-init c = record {
   passes = subst (λ (left : List (Mon × Feeder)). Passes (raises []) (raises left) c.args.world.now c.args.world.now) (sym c.in_ok-left.ensures.items) (passes_none c.args.world.now);
 }
 
+pub returns-in_err-left-clause-err : goal.returns-in_err-left-clause-err
+returns-in_err-left-clause-err c = err_by c.from_residual.result (not_begun (raises c.args.parts.now) c.args.world.now c.args.world.now refl)
+
 pub returns-in_err-raise_one-clause-err : goal.returns-in_err-raise_one-clause-err
 returns-in_err-raise_one-clause-err c =
+    let i = c.loop-part.part-index in
+    let nobody : Mon × Feeder = (record { 0 = 0 }, record { 0 = 0 }) in
     err_by c.from_residual-in_err-raise_one.result
-    (reached_join c.args.world.now c.loop-part.world c.raise_one.new.world (finishes_reached _ c.args.world.now c.loop-part.world c.loop-part.invariant.passes.finishes) c.in_err-raise_one.ensures.err)
+    (part_begun c.args.parts.now i (get_or c.args.parts.now i nobody) c.args.world.now c.loop-part.world c.raise_one.new.world (take_more c.args.parts.now i nobody c.loop-part-test.true)
+    c.loop-part.invariant.passes.finishes c.in_err-raise_one.ensures.err)
 
 pub returns-in_err-push-in-Yes-clause-err : goal.returns-in_err-push-in-Yes-clause-err
 returns-in_err-push-in-Yes-clause-err c =
+    let i = c.loop-part.part-index in
+    let nobody : Mon × Feeder = (record { 0 = 0 }, record { 0 = 0 }) in
     err_by c.from_residual-in_err-push-in-Yes.result
-    (reached_join c.args.world.now c.loop-part.world c.raise_one.new.world (finishes_reached _ c.args.world.now c.loop-part.world c.loop-part.invariant.passes.finishes)
-    (may_raise_reached _ c.in_ok-raise_one.field-0 c.loop-part.world c.raise_one.new.world c.in_ok-raise_one.ensures.ok))
+    (part_raised c.args.parts.now i (get_or c.args.parts.now i nobody) c.in_ok-raise_one.field-0 c.args.world.now c.loop-part.world c.raise_one.new.world (take_more c.args.parts.now i nobody c.loop-part-test.true)
+    c.loop-part.invariant.passes.finishes c.in_ok-raise_one.ensures.ok)
 
 pub loop-part-preserved : goal.loop-part-preserved
 loop-part-preserved c =

@@ -1,8 +1,9 @@
 use Rattle.std.proofs.Common.{subst}
 use Rattle.tk_world.specs.World.{Moves}
 use Rattle.tk_world.specs.declared.moved.Moved.{Moved}
+use Rattle.tk_drain.proofs.BeginLemmas.{raise_begun}
 use Rattle.tk_drain.proofs.PhaseLemmas.{err_by}
-use Rattle.tk_drain.proofs.PassingLemmas.{raise_cut, raised_settled}
+use Rattle.tk_drain.proofs.PassingLemmas.{raised_settled}
 use Rattle.tk_world.specs.Events.{raise_at}
 use Rattle.tk_drain.proofs.finishing.raise_one.Goals as goal
 
@@ -10,7 +11,7 @@ pub returns-in_err-settle-in-Yes-clause-err : goal.returns-in_err-settle-in-Yes-
 returns-in_err-settle-in-Yes-clause-err c =
     let e = raise_at c.args.mon.0 c.args.f.0 in
     err_by c.from_residual-in_err-settle-in-Yes.result
-    (raise_cut e c.args.world.now c.step.new.self c.settle.new.world (subst (λ (m : Moved). Moves c.args.world.now e m c.step.new.self) c.in-Yes.is c.in_ok-step.ensures.ok) c.in_err-settle-in-Yes.ensures.err)
+    (raise_begun e c.args.world.now c.step.new.self c.settle.new.world (subst (λ (m : Moved). Moves c.args.world.now e m c.step.new.self) c.in-Yes.is c.in_ok-step.ensures.ok) c.in_err-settle-in-Yes.ensures.err)
 
 pub returns-in_ok-settle-in-Yes-clause-ok : goal.returns-in_ok-settle-in-Yes-clause-ok
 returns-in_ok-settle-in-Yes-clause-ok c =
