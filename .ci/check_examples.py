@@ -7,6 +7,7 @@ fault stands in the file `fault`; of a run that is made from a seed the text alo
 the change logs of the access logs are made once more and compared, too.
 """
 import csv
+import os
 import pathlib
 import shutil
 import subprocess
@@ -112,11 +113,27 @@ def made_again(folder):
     return None if made == kept else f"{folder.name}: to_logs.awk makes other logs"
 
 
+def ends_of_output():
+    """The program tells a full device, a reader that is gone, and a closed output, each by its status and line."""
+    folder = ROOT / "examples" / "two_monitors"
+    words = [word for word in (folder / "words").read_text().split("\n") if word]
+    read, write = os.pipe()
+    os.close(read)
+    with open("/dev/full", "wb") as full, open(write, "wb") as gone:
+        ways = {"a full device": dict(stdout=full), "a reader that is gone": dict(stdout=gone),
+                "a closed output": dict(preexec_fn=lambda: os.close(1))}
+        for way, how in ways.items():
+            done = subprocess.run([PROGRAM, *words], cwd=folder, stderr=subprocess.PIPE, timeout=60, **how)
+            if done.returncode != 6 or done.stderr != b"topk: the output cannot be written\n":
+                yield f"{way}: the program ends in another way, status {done.returncode}"
+
+
 def main():
     folders = [folder for folder in sorted((ROOT / "examples").iterdir()) if folder.is_dir()]
     faults = [check(folder) for folder in folders]
     if PROGRAM.exists():
         faults += [run(folder) for folder in folders]
+        faults += ends_of_output()
     if shutil.which("awk"):
         faults.append(made_again(ROOT / "examples" / "access_log"))
     shown = (ROOT / "examples" / "two_monitors" / "expected.txt").read_text()
