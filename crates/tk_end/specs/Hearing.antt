@@ -1,0 +1,94 @@
+-- What the taking of frames leaves, and why it ended.
+use Rattle.std.specs.Prelude.{◌≡◌, ℕ, ◌+◌, ◌^◌, ◌-◌, ◌≤◌, min, List, [], ◌++◌, length, Bool, true, Option, Some, None, ⊤}
+use Rattle.tk_base.specs.History.{IsFront}
+use Rattle.tk_frames.specs.declared.frame.Frame.{Frame}
+use Rattle.tk_frames.specs.declared.answer.Next.TheVariants as n
+use Rattle.tk_frames.specs.Answer.{Answers}
+use Rattle.tk_wire.specs.Meanings.{Traffic, Counts, Arrives, raised_by}
+use Rattle.tk_wire.specs.Parse.{IsParse}
+use Rattle.tk_end.specs.Actor.{TakesAll}
+use Rattle.tk_end.specs.Inbox.{Leaves}
+use Rattle.tk_end.specs.Link.{LinkView, Listens}
+use Rattle.tk_end.specs.declared.hearing.Step.{Step}
+use Rattle.tk_end.specs.declared.hearing.Step.TheVariants as s
+use Rattle.tk_end.specs.declared.hearing.Heard.{Heard}
+use Rattle.tk_end.specs.declared.hearing.Heard.TheVariants as h
+
+-- the frame at the front of the bytes is refused, for this reason
+pub record IsRefused {A R : Type 0} (refusal : ℕ → Frame → A → Option R) (peer version : ℕ) (unread : List ℕ) (actor : A) (why : R) : Type 0 where
+  pub frame : Frame
+  pub rest : List ℕ
+  pub front : Leaves version frame unread rest
+  pub refused : refusal peer frame actor ≡ Some why
+
+-- why no further frame is taken: the actor takes no more, none is whole, the next is refused, or the next bytes are none
+abbrev pub Stops : {A R : Type 0} → (ℕ → Frame → A → Option R) → (ℕ → A → Bool) → ℕ → ℕ → List ℕ → A → Step R → Type 0
+Stops refusal done peer version unread actor s.Done = done peer actor ≡ true
+Stops refusal done peer version unread actor s.Part = Answers version unread n.Part
+Stops refusal done peer version unread actor (s.Refused why) = IsRefused refusal peer version unread actor why
+Stops refusal done peer version unread actor (s.Bad fault) = Answers version unread (n.Bad fault)
+Stops refusal done peer version unread actor s.NoMemory = ⊤
+
+-- some frames left the front of the bytes, and the actor took them in turn
+pub record Takes {A R : Type 0} (refusal : ℕ → Frame → A → Option R) (after : ℕ → Frame → A → A) (heard said : ℕ → A → List Frame) (peer version : ℕ) (old new : List ℕ) (before now : A) : Type 0 where
+  pub frames : List Frame
+  pub parse : IsParse version frames old new
+  pub takes : TakesAll refusal after peer before frames now
+  pub more : heard peer now ≡ heard peer before ++ frames
+  pub grown : IsFront (said peer before) (said peer now)
+
+-- bytes came, at least so many, and of all that is not read the actor took some frames in turn
+pub record Hears {W A R : Type 0} (refusal : ℕ → Frame → A → Option R) (after : ℕ → Frame → A → A) (heard said : ℕ → A → List Frame) (peer least : ℕ) (old new : LinkView W) (before now : A) : Type 0 where
+  pub piece : List ℕ
+  pub size : least ≤ length piece
+  pub listens : Listens piece old new
+  pub takes : Takes refusal after heard said peer old.version (old.unread ++ piece) new.unread before now
+
+-- why a hearing ended; Quiet says that nothing waits and no frame is whole
+abbrev pub Ends : {W A R : Type 0} → (ℕ → Frame → A → Option R) → (ℕ → A → Bool) → ℕ → LinkView W → A → Heard R → Type 0
+Ends refusal done peer link actor h.Quiet = Answers link.version link.unread n.Part × (link.tells ≡ true → link.traffic.waiting ≡ [])
+Ends refusal done peer link actor h.More = ⊤
+Ends refusal done peer link actor h.Done = done peer actor ≡ true
+Ends refusal done peer link actor h.Failed = ⊤
+Ends refusal done peer link actor h.Ended = ⊤
+Ends refusal done peer link actor (h.Refused why) = IsRefused refusal peer link.version link.unread actor why
+Ends refusal done peer link actor (h.Bad fault) = Answers link.version link.unread (n.Bad fault)
+Ends refusal done peer link actor h.NoMemory = ⊤
+
+-- the counts of the wire after a hearing: a fault and an end each raise theirs by one, and nothing else does
+abbrev pub CountsHeard : {R : Type 0} → Heard R → Counts → Counts → Type 0
+CountsHeard h.Failed old new = (new.faults ≡ raised_by 1 old.faults) × (new.ends ≡ old.ends)
+CountsHeard h.Ended old new = (new.faults ≡ old.faults) × (new.ends ≡ raised_by 1 old.ends)
+CountsHeard h.Quiet old new = (new.faults ≡ old.faults) × (new.ends ≡ old.ends)
+CountsHeard h.More old new = (new.faults ≡ old.faults) × (new.ends ≡ old.ends)
+CountsHeard h.Done old new = (new.faults ≡ old.faults) × (new.ends ≡ old.ends)
+CountsHeard (h.Refused why) old new = (new.faults ≡ old.faults) × (new.ends ≡ old.ends)
+CountsHeard (h.Bad fault) old new = (new.faults ≡ old.faults) × (new.ends ≡ old.ends)
+CountsHeard h.NoMemory old new = (new.faults ≡ old.faults) × (new.ends ≡ old.ends)
+
+-- how many bytes came at least: one for each piece
+abbrev pub pieces_in : {R : Type 0} → Heard R → ℕ
+pieces_in h.More = 64
+pieces_in h.Quiet = 0
+pieces_in h.Done = 0
+pieces_in h.Failed = 0
+pieces_in h.Ended = 0
+pieces_in (h.Refused why) = 0
+pieces_in (h.Bad fault) = 0
+pieces_in h.NoMemory = 0
+
+-- a hearing of one frame takes one where it ends so, and else none
+pub record TakesOne {A R : Type 0} (refusal : ℕ → Frame → A → Option R) (after : ℕ → Frame → A → A) (peer : ℕ) (before now : A) : Type 0 where
+  pub frame : Frame
+  pub accepted : refusal peer frame before ≡ None
+  pub taken : now ≡ after peer frame before
+
+abbrev pub TakesOnce : {A R : Type 0} → (ℕ → Frame → A → Option R) → (ℕ → Frame → A → A) → ℕ → A → A → Heard R → Type 0
+TakesOnce refusal after peer before now h.More = TakesOne refusal after peer before now
+TakesOnce refusal after peer before now h.Done = TakesOne refusal after peer before now
+TakesOnce refusal after peer before now h.Quiet = now ≡ before
+TakesOnce refusal after peer before now h.Failed = now ≡ before
+TakesOnce refusal after peer before now h.Ended = now ≡ before
+TakesOnce refusal after peer before now (h.Refused why) = now ≡ before
+TakesOnce refusal after peer before now (h.Bad fault) = now ≡ before
+TakesOnce refusal after peer before now h.NoMemory = now ≡ before

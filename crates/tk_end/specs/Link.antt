@@ -1,0 +1,69 @@
+-- One end of a connection, as contracts see it, and what it has heard and said.
+use Rattle.std.specs.Prelude.{◌≡◌, ℕ, ◌+◌, ◌-◌, ◌^◌, ◌≤◌, min, List, ◌++◌, length, take, Bool, true}
+use Rattle.tk_frames.specs.declared.frame.Frame.{Frame}
+use Rattle.tk_wire.specs.Meanings.{Traffic, Counts, Arrives, Departs}
+use Rattle.tk_wire.specs.Parse.{HaveSpellings, IsEncoding, IsParse, spellings}
+
+-- its wire, with the bytes that it tells and its counts; the version of its frames; the bytes that came and are not
+-- taken as frames; those that are not given yet; how many of the actor's frames were written; whether its wire is shut
+pub record LinkView (W : Type 0) : Type 0 where
+  pub wire : W
+  pub tells : Bool
+  pub traffic : Traffic
+  pub counts : Counts
+  pub version : ℕ
+  pub unread : List ℕ
+  pub output : List ℕ
+  pub written : ℕ
+  pub shut : Bool
+
+-- no fewer bytes were taken than these frames have with those that are not read, unless the count stands still
+abbrev pub Covers : ℕ → List Frame → List ℕ → ℕ → Type 0
+Covers version heard unread taken = min (length (spellings version heard) + length unread) (2 ^ 64 - 1) ≤ taken
+
+-- these frames were heard and these were said: the first are a front of the parse of what came, and what stands behind
+-- them is kept; what was given, and what is left to give, are together the bytes of the second
+pub record IsEnd {W : Type 0} (link : LinkView W) (heard said : List Frame) : Type 0 where
+  pub came : link.tells ≡ true → IsParse link.version heard link.traffic.came link.unread
+  pub went : link.tells ≡ true → IsEncoding link.version said link.traffic.went link.output
+  pub covered : Covers link.version heard link.unread link.counts.taken
+
+-- nothing was written, given or shut
+pub record Keeps {W : Type 0} (old new : LinkView W) : Type 0 where
+  pub tells : new.tells ≡ old.tells
+  pub version : new.version ≡ old.version
+  pub output : new.output ≡ old.output
+  pub written : new.written ≡ old.written
+  pub shut : new.shut ≡ old.shut
+
+-- this piece came, and nothing was written, given or shut
+pub record Listens {W : Type 0} (piece : List ℕ) (old new : LinkView W) : Type 0 where
+  pub keeps : Keeps old new
+  pub arrived : old.tells ≡ true → Arrives piece old.traffic new.traffic
+  pub taken : min (old.counts.taken + length piece) (2 ^ 64 - 1) ≤ new.counts.taken
+
+-- of the frames there are to say, those up to a further place were written, and these bytes were given; nothing came
+pub record Says {W : Type 0} (said : List Frame) (old new : LinkView W) : Type 0 where
+  pub tells : new.tells ≡ old.tells
+  pub version : new.version ≡ old.version
+  pub unread : new.unread ≡ old.unread
+  pub shut : new.shut ≡ old.shut
+  pub taken : new.counts.taken ≡ old.counts.taken
+  pub within : new.written ≤ length said
+  pub frames : List Frame
+  pub reached : take new.written said ≡ take old.written said ++ frames
+  pub each : HaveSpellings old.version frames
+  pub given : List ℕ
+  pub output : old.output ++ spellings old.version frames ≡ given ++ new.output
+  pub departed : old.tells ≡ true → Departs given old.traffic new.traffic
+
+-- its wire is shut, and all else is as it was
+pub record IsShut {W : Type 0} (old new : LinkView W) : Type 0 where
+  pub shut : new.shut ≡ true
+  pub tells : new.tells ≡ old.tells
+  pub traffic : old.tells ≡ true → new.traffic ≡ old.traffic
+  pub counts : new.counts ≡ old.counts
+  pub version : new.version ≡ old.version
+  pub unread : new.unread ≡ old.unread
+  pub output : new.output ≡ old.output
+  pub written : new.written ≡ old.written

@@ -1,0 +1,93 @@
+ghost use Rattle.std.specs.Prelude.{◌≡◌, ◌++◌, false};
+ghost use Rattle.tk_frames.specs.Spelling.{IsSpelling, spelling};
+ghost use Rattle.tk_wire.specs.Buffered.{Pulls, counts_pulled};
+ghost use Rattle.tk_end.specs.Inbox.{Reads};
+
+use std::marker::Model;
+use tk_base::NoMemory;
+use tk_frames::{BadFrame, Frame, Next};
+use tk_wire::{InBuffer, Pulled, Wire};
+
+/// What stands at the front of the bytes that came.
+#[derive(Debug, Drop)]
+pub enum Reading {
+    Whole(Frame),
+    Part,
+    Bad(BadFrame),
+}
+
+/// Bytes that came and are not taken as frames. A frame that was read and found no taker goes back to the front.
+#[derive(Drop)]
+pub struct Inbox {
+    buffer: InBuffer,
+    front: Option<Frame>,
+}
+
+impl Model for Inbox {
+    ghost use Rattle.std.specs.Prelude.{◌++◌, is_some};
+    ghost use Rattle.tk_end.specs.Inbox.{Inbox as Seen, IsSpelled, bytes_of};
+
+    ghost Value = { Seen };
+
+    ghost view = { λ b. record {
+      version = b.buffer.version;
+      unread = bytes_of b.buffer.version b.front ++ b.buffer.bytes;
+      held = is_some b.front;
+    } };
+
+    ghost invariant = { λ b. IsSpelled b.buffer.version b.front };
+}
+
+fn read(buffer: &mut InBuffer) -> Result<Reading, NoMemory>
+    ensures answer { Reads result buffer.old.version buffer.old.bytes buffer.new.bytes }
+    ensures version { buffer.new.version ≡ buffer.old.version }
+{
+    match buffer.frame() {
+        Ok(Next::Whole(frame, _)) => Ok(Reading::Whole(frame)),
+        Ok(Next::Part) => Ok(Reading::Part),
+        Ok(Next::Bad(fault)) => Ok(Reading::Bad(fault)),
+        Err(_) => Err(NoMemory),
+    }
+}
+
+impl Inbox {
+    /// Goes on with what came so far.
+    pub fn new(buffer: InBuffer) -> Inbox
+        ensures { result ≡ record { version = buffer.version; unread = buffer.bytes; held = false } }
+    {
+        Inbox {
+            buffer,
+            front: None,
+        }
+    }
+
+    pub fn pull<W: Wire>(&mut self, wire: &mut W) -> Pulled
+        ensures bytes { Pulls result W.tells self.old.unread self.new.unread (W.traffic wire.old) (W.traffic wire.new) }
+        ensures counted { W.counts wire.new ≡ counts_pulled result (W.counts wire.old) }
+        ensures version { self.new.version ≡ self.old.version }
+    {
+        self.buffer.pull(wire)
+    }
+
+    /// Reads the frame at the front, which is then in the caller's hands, where a whole one stands there.
+    pub fn read(&mut self) -> Result<Reading, NoMemory>
+        ensures answer { Reads result self.old.version self.old.unread self.new.unread }
+        ensures held { self.new.held ≡ false }
+        ensures version { self.new.version ≡ self.old.version }
+    {
+        match self.front.take() {
+            Some(frame) => Ok(Reading::Whole(frame)),
+            None => read(&mut self.buffer),
+        }
+    }
+
+    /// Puts a frame that was read back to the front.
+    pub fn put_back(&mut self, frame: Frame)
+        requires nothing { self.old.held ≡ false }
+        requires spelled { IsSpelling self.old.version frame (spelling self.old.version frame) }
+        ensures unread { self.new.unread ≡ spelling self.old.version frame ++ self.old.unread }
+        ensures version { self.new.version ≡ self.old.version }
+    {
+        self.front = Some(frame);
+    }
+}
