@@ -77,10 +77,11 @@ leaves_less version frame old new l =
     omega arith
 
 -- the front is as it was, and so is the actor who refuses it
-pub stops_refused : {A R : Type 0} (refusal : ℕ → Frame → A → Option R) (peer v w : ℕ) (frame : Frame) (rest bytes same : List ℕ) (a b : A) (why : R) → Leaves v frame bytes rest → refusal peer frame a ≡ Some why → w ≡ v → same ≡ bytes → b ≡ a → IsRefused refusal peer w same b why
-stops_refused refusal peer v w frame rest bytes same a b why leaves refused vs bs as_ = record {
+pub stops_refused : {A R : Type 0} (refusal : ℕ → Frame → A → Option R) (peer v w : ℕ) (frame : Frame) (rest bytes same : List ℕ) (front : Option Frame) (a b : A) (why : R) → front ≡ Some frame → Leaves v frame bytes rest → refusal peer frame a ≡ Some why → w ≡ v → same ≡ bytes → b ≡ a → IsRefused refusal peer w same front b why
+stops_refused refusal peer v w frame rest bytes same front a b why read leaves refused vs bs as_ = record {
   frame = frame;
+  read = read;
   rest = rest;
-  front = subst (λ x. Leaves x frame same rest) (sym vs) (subst (λ xs. Leaves v frame xs rest) (sym bs) leaves);
+  leaves = subst (λ x. Leaves x frame same rest) (sym vs) (subst (λ xs. Leaves v frame xs rest) (sym bs) leaves);
   refused = ap (refusal peer frame) as_ ∙ refused;
 }

@@ -29,6 +29,7 @@ says_nothing said x within = record {
   tells = refl;
   version = refl;
   unread = refl;
+  front = refl;
   shut = refl;
   taken = refl;
   within = within;
@@ -50,6 +51,7 @@ says_more said x y z frame s at appends is =
       tells = ap (λ l. l.tells) is ∙ s.tells;
       version = ap (λ l. l.version) is ∙ s.version;
       unread = ap (λ l. l.unread) is ∙ s.unread;
+      front = ap (λ l. l.front) is ∙ s.front;
       shut = ap (λ l. l.shut) is ∙ s.shut;
       taken = ap (λ l. l.counts.taken) is ∙ s.taken;
       within = omega arith;
@@ -67,11 +69,12 @@ says_more said x y z frame s at appends is =
     }
 
 -- a front of what was written is given
-pub says_given : {W : Type 0} (said : List Frame) (x y z : LinkView W) → Says said x y → Loses y.tells y.output z.output y.traffic z.traffic → z.tells ≡ y.tells → z.version ≡ y.version → z.unread ≡ y.unread → z.shut ≡ y.shut → z.written ≡ y.written → z.counts.taken ≡ y.counts.taken → Says said x z
-says_given said x y z s loses tells version unread shut written taken = record {
+pub says_given : {W : Type 0} (said : List Frame) (x y z : LinkView W) → Says said x y → Loses y.tells y.output z.output y.traffic z.traffic → z.tells ≡ y.tells → z.version ≡ y.version → z.unread ≡ y.unread → z.front ≡ y.front → z.shut ≡ y.shut → z.written ≡ y.written → z.counts.taken ≡ y.counts.taken → Says said x z
+says_given said x y z s loses tells version unread front shut written taken = record {
   tells = tells ∙ s.tells;
   version = version ∙ s.version;
   unread = unread ∙ s.unread;
+  front = front ∙ s.front;
   shut = shut ∙ s.shut;
   taken = taken ∙ s.taken;
   within = omega (arith, written, s.within);

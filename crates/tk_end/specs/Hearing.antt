@@ -7,27 +7,28 @@ use Rattle.tk_frames.specs.Answer.{Answers}
 use Rattle.tk_wire.specs.Meanings.{Traffic, Counts, Arrives, raised_by}
 use Rattle.tk_wire.specs.Parse.{IsParse}
 use Rattle.tk_end.specs.Actor.{TakesAll}
-use Rattle.tk_end.specs.Inbox.{Leaves}
+use Rattle.tk_end.specs.Inbox.{Inbox, Leaves}
 use Rattle.tk_end.specs.Link.{LinkView, Listens}
 use Rattle.tk_end.specs.declared.hearing.Step.{Step}
 use Rattle.tk_end.specs.declared.hearing.Step.TheVariants as s
 use Rattle.tk_end.specs.declared.hearing.Heard.{Heard}
 use Rattle.tk_end.specs.declared.hearing.Heard.TheVariants as h
 
--- the frame at the front of the bytes is refused, for this reason
-pub record IsRefused {A R : Type 0} (refusal : ℕ → Frame → A → Option R) (peer version : ℕ) (unread : List ℕ) (actor : A) (why : R) : Type 0 where
+-- the frame at the front of the bytes was read, and is refused for this reason
+pub record IsRefused {A R : Type 0} (refusal : ℕ → Frame → A → Option R) (peer version : ℕ) (unread : List ℕ) (front : Option Frame) (actor : A) (why : R) : Type 0 where
   pub frame : Frame
+  pub read : front ≡ Some frame
   pub rest : List ℕ
-  pub front : Leaves version frame unread rest
+  pub leaves : Leaves version frame unread rest
   pub refused : refusal peer frame actor ≡ Some why
 
 -- why no further frame is taken: the actor takes no more, none is whole, the next is refused, or the next bytes are none
-abbrev pub Stops : {A R : Type 0} → (ℕ → Frame → A → Option R) → (ℕ → A → Bool) → ℕ → ℕ → List ℕ → A → Step R → Type 0
-Stops refusal done peer version unread actor s.Done = done peer actor ≡ true
-Stops refusal done peer version unread actor s.Part = Answers version unread n.Part
-Stops refusal done peer version unread actor (s.Refused why) = IsRefused refusal peer version unread actor why
-Stops refusal done peer version unread actor (s.Bad fault) = Answers version unread (n.Bad fault)
-Stops refusal done peer version unread actor s.NoMemory = ⊤
+abbrev pub Stops : {A R : Type 0} → (ℕ → Frame → A → Option R) → (ℕ → A → Bool) → ℕ → Inbox → A → Step R → Type 0
+Stops refusal done peer inbox actor s.Done = done peer actor ≡ true
+Stops refusal done peer inbox actor s.Part = Answers inbox.version inbox.unread n.Part
+Stops refusal done peer inbox actor (s.Refused why) = IsRefused refusal peer inbox.version inbox.unread inbox.front actor why
+Stops refusal done peer inbox actor (s.Bad fault) = Answers inbox.version inbox.unread (n.Bad fault) × (inbox.front ≡ None)
+Stops refusal done peer inbox actor s.NoMemory = ⊤
 
 -- some frames left the front of the bytes, and the actor took them in turn
 pub record Takes {A R : Type 0} (refusal : ℕ → Frame → A → Option R) (after : ℕ → Frame → A → A) (heard said : ℕ → A → List Frame) (peer version : ℕ) (old new : List ℕ) (before now : A) : Type 0 where
@@ -51,8 +52,8 @@ Ends refusal done peer link actor h.More = ⊤
 Ends refusal done peer link actor h.Done = done peer actor ≡ true
 Ends refusal done peer link actor h.Failed = ⊤
 Ends refusal done peer link actor h.Ended = ⊤
-Ends refusal done peer link actor (h.Refused why) = IsRefused refusal peer link.version link.unread actor why
-Ends refusal done peer link actor (h.Bad fault) = Answers link.version link.unread (n.Bad fault)
+Ends refusal done peer link actor (h.Refused why) = IsRefused refusal peer link.version link.unread link.front actor why
+Ends refusal done peer link actor (h.Bad fault) = Answers link.version link.unread (n.Bad fault) × (link.front ≡ None)
 Ends refusal done peer link actor h.NoMemory = ⊤
 
 -- the counts of the wire after a hearing: a fault and an end each raise theirs by one, and nothing else does

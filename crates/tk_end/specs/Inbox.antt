@@ -1,5 +1,5 @@
 -- Bytes that came, of which the first frame may be read already. No public clause cites it but for what a read leaves.
-use Rattle.std.specs.Prelude.{◌≡◌, ℕ, List, [], ◌++◌, Bool, Option, Some, None, Result, Ok, Err}
+use Rattle.std.specs.Prelude.{◌≡◌, ℕ, List, [], ◌++◌, Option, Some, None, Result, Ok, Err}
 use Rattle.tk_base.specs.declared.memory.NoMemory.{NoMemory}
 use Rattle.tk_frames.specs.declared.frame.Frame.{Frame}
 use Rattle.tk_frames.specs.declared.answer.Next.TheVariants as n
@@ -8,12 +8,12 @@ use Rattle.tk_frames.specs.Spelling.{IsSpelling, spelling}
 use Rattle.tk_end.specs.declared.inbox.Reading.{Reading}
 use Rattle.tk_end.specs.declared.inbox.Reading.TheVariants as r
 
--- the version in which frames are read, the bytes that are not taken as frames, and whether the first frame of
--- them is read already
+-- the version in which frames are read, the bytes that are not taken as frames, and the first frame of them, where it
+-- is read already
 pub record Inbox : Type 0 where
   pub version : ℕ
   pub unread : List ℕ
-  pub held : Bool
+  pub front : Option Frame
 
 -- the bytes of a frame that was read, if one was
 abbrev pub bytes_of : ℕ → Option Frame → List ℕ

@@ -1,11 +1,12 @@
 -- One end of a connection, as contracts see it, and what it has heard and said.
-use Rattle.std.specs.Prelude.{◌≡◌, ℕ, ◌+◌, ◌-◌, ◌^◌, ◌≤◌, min, List, ◌++◌, length, take, Bool, true}
+use Rattle.std.specs.Prelude.{◌≡◌, ℕ, ◌+◌, ◌-◌, ◌^◌, ◌≤◌, min, List, ◌++◌, length, take, Bool, true, Option}
 use Rattle.tk_frames.specs.declared.frame.Frame.{Frame}
 use Rattle.tk_wire.specs.Meanings.{Traffic, Counts, Arrives, Departs}
 use Rattle.tk_wire.specs.Parse.{HaveSpellings, IsEncoding, IsParse, spellings}
 
 -- its wire, with the bytes that it tells and its counts; the version of its frames; the bytes that came and are not
--- taken as frames; those that are not given yet; how many of the actor's frames were written; whether its wire is shut
+-- taken as frames, and the first frame of them where it is read already; the bytes that are not given yet; how many of
+-- the actor's frames were written; whether its wire is shut
 pub record LinkView (W : Type 0) : Type 0 where
   pub wire : W
   pub tells : Bool
@@ -13,6 +14,7 @@ pub record LinkView (W : Type 0) : Type 0 where
   pub counts : Counts
   pub version : ℕ
   pub unread : List ℕ
+  pub front : Option Frame
   pub output : List ℕ
   pub written : ℕ
   pub shut : Bool
@@ -47,6 +49,7 @@ pub record Says {W : Type 0} (said : List Frame) (old new : LinkView W) : Type 0
   pub tells : new.tells ≡ old.tells
   pub version : new.version ≡ old.version
   pub unread : new.unread ≡ old.unread
+  pub front : new.front ≡ old.front
   pub shut : new.shut ≡ old.shut
   pub taken : new.counts.taken ≡ old.counts.taken
   pub within : new.written ≤ length said
@@ -65,5 +68,6 @@ pub record IsShut {W : Type 0} (old new : LinkView W) : Type 0 where
   pub counts : new.counts ≡ old.counts
   pub version : new.version ≡ old.version
   pub unread : new.unread ≡ old.unread
+  pub front : new.front ≡ old.front
   pub output : new.output ≡ old.output
   pub written : new.written ≡ old.written

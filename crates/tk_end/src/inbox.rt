@@ -1,4 +1,4 @@
-ghost use Rattle.std.specs.Prelude.{◌≡◌, ◌++◌, false};
+ghost use Rattle.std.specs.Prelude.{◌≡◌, ◌++◌, Some, None};
 ghost use Rattle.tk_frames.specs.Spelling.{IsSpelling, spelling};
 ghost use Rattle.tk_wire.specs.Buffered.{Pulls, counts_pulled};
 ghost use Rattle.tk_end.specs.Inbox.{Reads};
@@ -24,7 +24,7 @@ pub struct Inbox {
 }
 
 impl Model for Inbox {
-    ghost use Rattle.std.specs.Prelude.{◌++◌, is_some};
+    ghost use Rattle.std.specs.Prelude.{◌++◌};
     ghost use Rattle.tk_end.specs.Inbox.{Inbox as Seen, IsSpelled, bytes_of};
 
     ghost Value = { Seen };
@@ -32,7 +32,7 @@ impl Model for Inbox {
     ghost view = { λ b. record {
       version = b.buffer.version;
       unread = bytes_of b.buffer.version b.front ++ b.buffer.bytes;
-      held = is_some b.front;
+      front = b.front;
     } };
 
     ghost invariant = { λ b. IsSpelled b.buffer.version b.front };
@@ -53,7 +53,7 @@ fn read(buffer: &mut InBuffer) -> Result<Reading, NoMemory>
 impl Inbox {
     /// Goes on with what came so far.
     pub fn new(buffer: InBuffer) -> Inbox
-        ensures { result ≡ record { version = buffer.version; unread = buffer.bytes; held = false } }
+        ensures { result ≡ record { version = buffer.version; unread = buffer.bytes; front = None } }
     {
         Inbox {
             buffer,
@@ -72,7 +72,7 @@ impl Inbox {
     /// Reads the frame at the front, which is then in the caller's hands, where a whole one stands there.
     pub fn read(&mut self) -> Result<Reading, NoMemory>
         ensures answer { Reads result self.old.version self.old.unread self.new.unread }
-        ensures held { self.new.held ≡ false }
+        ensures front { self.new.front ≡ None }
         ensures version { self.new.version ≡ self.old.version }
     {
         match self.front.take() {
@@ -83,8 +83,9 @@ impl Inbox {
 
     /// Puts a frame that was read back to the front.
     pub fn put_back(&mut self, frame: Frame)
-        requires nothing { self.old.held ≡ false }
+        requires nothing { self.old.front ≡ None }
         requires spelled { IsSpelling self.old.version frame (spelling self.old.version frame) }
+        ensures front { self.new.front ≡ Some frame }
         ensures unread { self.new.unread ≡ spelling self.old.version frame ++ self.old.unread }
         ensures version { self.new.version ≡ self.old.version }
     {

@@ -1,4 +1,4 @@
-ghost use Rattle.std.specs.Prelude.{◌≡◌, [], false, OnErr, OnOk};
+ghost use Rattle.std.specs.Prelude.{◌≡◌, [], false, None, OnErr, OnOk};
 ghost use Rattle.tk_frames.specs.Encoding.{Appends};
 ghost use Rattle.tk_frames.specs.Spelling.{IsVersion};
 ghost use Rattle.tk_end.specs.Actor.{CanBeSent};
@@ -37,6 +37,7 @@ impl<W: Wire> Model for Link<W> {
       counts = W.counts l.wire;
       version = l.inbox.version;
       unread = l.inbox.unread;
+      front = l.inbox.front;
       output = l.output.bytes;
       written = l.written;
       shut = l.shut;
@@ -56,6 +57,7 @@ impl<W: Wire> Link<W> {
           counts = W.counts wire;
           version = version;
           unread = came.bytes;
+          front = None;
           output = [];
           written = 0;
           shut = false;

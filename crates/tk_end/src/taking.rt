@@ -9,7 +9,7 @@ use tk_base::Mon;
 /// Lets the actor take the frame at the front, and says why where it takes none.
 pub fn take_front<A: Actor>(inbox: &mut Inbox, actor: &mut A, peer: Mon) -> Option<Step<A::Refusal>>
     requires { A.IsPeer peer.0 actor.old }
-    ensures stops { IfSome result (Stops A.refusal_of A.is_done peer.0 inbox.new.version inbox.new.unread actor.new) }
+    ensures stops { IfSome result (Stops A.refusal_of A.is_done peer.0 inbox.new actor.new) }
     ensures same { OnSome result ((inbox.new.unread ≡ inbox.old.unread) × (actor.new ≡ actor.old)) }
     ensures takes { IfNone result (Takes A.refusal_of A.after A.heard A.said peer.0 inbox.old.version inbox.old.unread inbox.new.unread actor.old actor.new) }
     ensures one { IfNone result (TakesOne A.refusal_of A.after peer.0 actor.old actor.new) }
@@ -39,7 +39,7 @@ pub fn take_front<A: Actor>(inbox: &mut Inbox, actor: &mut A, peer: Mon) -> Opti
 /// Lets the actor take every whole frame, and says why it takes no more.
 pub fn take_all<A: Actor>(inbox: &mut Inbox, actor: &mut A, peer: Mon) -> Step<A::Refusal>
     requires { A.IsPeer peer.0 actor.old }
-    ensures stops { Stops A.refusal_of A.is_done peer.0 inbox.new.version inbox.new.unread actor.new result }
+    ensures stops { Stops A.refusal_of A.is_done peer.0 inbox.new actor.new result }
     ensures takes { Takes A.refusal_of A.after A.heard A.said peer.0 inbox.old.version inbox.old.unread inbox.new.unread actor.old actor.new }
     ensures version { inbox.new.version ≡ inbox.old.version }
     ensures peer { A.IsPeer peer.0 actor.new }

@@ -1,4 +1,4 @@
-use Rattle.std.proofs.Common.{◌≡◌, ap, sym, ◌∙◌, subst, Err, Ok, ◌++◌}
+use Rattle.std.proofs.Common.{◌≡◌, ap, sym, ◌∙◌, subst, Err, Ok, Some, ◌++◌}
 use Rattle.tk_frames.specs.Spelling.{spelling}
 use Rattle.tk_end.specs.Actor.{AnswersTake}
 use Rattle.tk_end.specs.Inbox.{Leaves, Reads}
@@ -15,7 +15,7 @@ returns-in-Err-Refused-clause-stops g c =
     let leaves : Leaves old.version found.frame old.unread c.read.new.self.unread = subst (λ r. Reads (Ok r) old.version old.unread c.read.new.self.unread) found.field-0-is found.ensures.answer in
     let is = is_refused (g.A.Actor.refusal_of c.args.peer.0 found.frame c.args.actor.now) found.frame back.frame back.why (subst (λ d. AnswersTake (g.A.Actor.refusal_of c.args.peer.0 found.frame c.args.actor.now) found.frame (Err d)) back.field-0-is back.ensures.answer) in
     let unread = c.put_back.ensures.unread ∙ ap (λ v. spelling v back.frame ++ c.read.new.self.unread) c.read.ensures.version in
-    stops_refused g.A.Actor.refusal_of c.args.peer.0 old.version _ found.frame c.read.new.self.unread old.unread _ c.args.actor.now _ back.why leaves is.0 (c.put_back.ensures.version ∙ c.read.ensures.version) (put_back old.version found.frame back.frame old.unread c.read.new.self.unread _ leaves is.1 unread) back.ensures.err
+    stops_refused g.A.Actor.refusal_of c.args.peer.0 old.version _ found.frame c.read.new.self.unread old.unread _ _ c.args.actor.now _ back.why (c.put_back.ensures.front ∙ ap Some is.1) leaves is.0 (c.put_back.ensures.version ∙ c.read.ensures.version) (put_back old.version found.frame back.frame old.unread c.read.new.self.unread _ leaves is.1 unread) back.ensures.err
 
 pub returns-in-Err-Refused-clause-same : goal.returns-in-Err-Refused-clause-same
 returns-in-Err-Refused-clause-same g c =
