@@ -2,6 +2,7 @@
 use Rattle.std.specs.Prelude.{◌≡◌, ℕ, ◌+◌, ◌-◌, ◌^◌, ◌≤◌, min, List, ◌++◌, length, take, Bool, true, Option}
 use Rattle.tk_frames.specs.declared.frame.Frame.{Frame}
 use Rattle.tk_wire.specs.Meanings.{Traffic, Counts, Arrives, Departs}
+use Rattle.tk_wire.specs.PipeWire.{MemoryWire}
 use Rattle.tk_wire.specs.Parse.{HaveSpellings, IsEncoding, IsParse, spellings}
 
 -- its wire, with the bytes that it tells and its counts; the version of its frames; the bytes that came and are not
@@ -29,6 +30,14 @@ pub record IsEnd {W : Type 0} (link : LinkView W) (heard said : List Frame) : Ty
   pub came : link.tells ≡ true → IsParse link.version heard link.traffic.came link.unread
   pub went : link.tells ≡ true → IsEncoding link.version said link.traffic.went link.output
   pub covered : Covers link.version heard link.unread link.counts.taken
+
+-- these bytes came from what waits, and these were given
+pub record Moves (came given : List ℕ) (old new : Traffic) : Type 0 where
+  pub waiting : old.waiting ≡ came ++ new.waiting
+  pub came_on : new.came ≡ old.came ++ came
+  pub went_on : new.went ≡ old.went ++ given
+  pub held : new.held ≡ old.held ++ given
+  pub room : new.room ≡ old.room
 
 -- nothing was written, given or shut
 pub record Keeps {W : Type 0} (old new : LinkView W) : Type 0 where
@@ -71,3 +80,17 @@ pub record IsShut {W : Type 0} (old new : LinkView W) : Type 0 where
   pub front : new.front ≡ old.front
   pub output : new.output ≡ old.output
   pub written : new.written ≡ old.written
+
+-- over a whole call these bytes came and these were given, and the version is the same
+pub record Passes {W : Type 0} (least : ℕ) (old new : LinkView W) : Type 0 where
+  pub tells : new.tells ≡ old.tells
+  pub version : new.version ≡ old.version
+  pub came : List ℕ
+  pub given : List ℕ
+  pub size : least ≤ length came
+  pub taken : min (old.counts.taken + length came) (2 ^ 64 - 1) ≤ new.counts.taken
+  pub moved : old.tells ≡ true → Moves came given old.traffic new.traffic
+
+-- a wire in memory in place of the one before
+abbrev pub over : MemoryWire → LinkView MemoryWire → LinkView MemoryWire
+over wire link = record link { wire = wire; traffic = wire.traffic; counts = wire.counts }

@@ -5,6 +5,7 @@ ghost use Rattle.tk_end.specs.Actor.{CanBeSent};
 ghost use Rattle.tk_end.specs.Link.{IsShut};
 
 mod hearing;
+mod piping;
 mod saying;
 
 use crate::inbox::Inbox;

@@ -92,6 +92,7 @@ impl<W: Wire> Link<W> {
         ensures hears { Hears A.refusal_of A.after A.heard A.said peer.0 0 self.old self.new actor.old actor.new }
         ensures ends { IfSome result (Ends A.refusal_of A.is_done peer.0 self.new actor.new) }
         ensures once { IfSome result (TakesOnce A.refusal_of A.after peer.0 actor.old actor.new) }
+        ensures open { result ≡ Some Heard.More → A.is_done peer.0 actor.new ≡ false }
         ensures part { IfNone result (Answers self.new.version self.new.unread n.Part) }
         ensures none { IfNone result ((self.new.unread ≡ self.old.unread) × (actor.new ≡ actor.old)) }
         ensures counts { self.new.counts ≡ self.old.counts }
@@ -116,6 +117,7 @@ impl<W: Wire> Link<W> {
         ensures hears { Hears A.refusal_of A.after A.heard A.said peer.0 0 self.old self.new actor.old actor.new }
         ensures ends { Ends A.refusal_of A.is_done peer.0 self.new actor.new result }
         ensures once { TakesOnce A.refusal_of A.after peer.0 actor.old actor.new result }
+        ensures open { result ≡ Heard.More → A.is_done peer.0 actor.new ≡ false }
         ensures counted { CountsHeard result self.old.counts self.new.counts }
         ensures peer { A.IsPeer peer.0 actor.new }
     {

@@ -17,10 +17,10 @@ returns-clause-once g c =
     let Once : Option (Heard g.row.A-Refusal.Denot) → Type 0 = λ r. IfSome r (TakesOnce g.A.Actor.refusal_of g.A.Actor.after c.args.peer.0 c.args.actor.now c.take_front.new.actor) in
     let took = c.take_front in
     elim c.match-take_front.branch [
-        in-None w ↦ subst Once (sym w.result-is) (where_none took.result _ w.in-None.is took.ensures.one)
-        | in-None-2 w ↦ subst Once (sym w.result-is) (where_none took.result _ w.in-None.is took.ensures.one)
-        | in-Some-Part w ↦ subst Once (sym w.result-is) tt
-        | in-Some-Refused w ↦ subst Once (sym w.result-is) (where_some took.result _ _ w.in-Some-Refused.is took.ensures.same).1
-        | in-Some-Bad w ↦ subst Once (sym w.result-is) (where_some took.result _ _ w.in-Some-Bad.is took.ensures.same).1
-        | in-Some-NoMemory w ↦ subst Once (sym w.result-is) (where_some took.result _ _ w.in-Some-NoMemory.is took.ensures.same).1
+      | in-None w ↦ subst Once (sym w.result-is) (where_none took.result _ w.in-None.is took.ensures.one)
+      | in-None-2 w ↦ subst Once (sym w.result-is) (where_none took.result _ w.in-None.is took.ensures.one)
+      | in-Some-Part w ↦ subst Once (sym w.result-is) tt
+      | in-Some-Refused w ↦ subst Once (sym w.result-is) (where_some took.result _ _ w.in-Some-Refused.is took.ensures.same).1
+      | in-Some-Bad w ↦ subst Once (sym w.result-is) (where_some took.result _ _ w.in-Some-Bad.is took.ensures.same).1
+      | in-Some-NoMemory w ↦ subst Once (sym w.result-is) (where_some took.result _ _ w.in-Some-NoMemory.is took.ensures.same).1
     ]

@@ -10,8 +10,9 @@ loop-place-preserved g c =
     let before = c.loop-place in
     let new = c.write_next.new.self in
     let wrote = c.in_ok-write_next.ensures in
-    let at : slice_get (g.A.Actor.said c.args.peer.0 c.args.actor.now) before.self.written ≡ Some c.frame_at.result.now = subst (λ n. slice_get (g.A.Actor.said c.args.peer.0 c.args.actor.now) n ≡ Some c.frame_at.result.now) before.invariant.2 c.frame_at.ensures.value in
-    (says_more (g.A.Actor.said c.args.peer.0 c.args.actor.now) c.args.self.now before.self new c.frame_at.result.now before.invariant.0 at wrote.ok wrote.moved,
-    writes_on c.args.self.now before.self new (before.self.written + 1) before.invariant.1 wrote.moved,
-    ap (λ n. n + 1) before.invariant.2 ∙ sym (ap (λ l. l.written) wrote.moved),
-    before.invariant.3)
+    let at : slice_get (g.A.Actor.said c.args.peer.0 c.args.actor.now) before.self.written ≡ Some c.frame_at.result.now = subst (λ n. slice_get (g.A.Actor.said c.args.peer.0 c.args.actor.now) n ≡ Some c.frame_at.result.now) before.invariant.2 c.frame_at.ensures.value in (
+      says_more (g.A.Actor.said c.args.peer.0 c.args.actor.now) c.args.self.now before.self new c.frame_at.result.now before.invariant.0 at wrote.ok wrote.moved,
+      writes_on c.args.self.now before.self new (before.self.written + 1) before.invariant.1 wrote.moved,
+      ap (λ n. n + 1) before.invariant.2 ∙ sym (ap (λ l. l.written) wrote.moved),
+      before.invariant.3,
+    )

@@ -1,0 +1,4 @@
+pub mod ExchangeLemmas
+pub mod PortLemmas
+pub mod SideLemmas
+pub mod TurnLemmas

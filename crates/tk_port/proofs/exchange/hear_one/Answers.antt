@@ -1,0 +1,26 @@
+use Rattle.tk_port.proofs.ExchangeLemmas.{exchanges_heard}
+use Rattle.tk_port.proofs.exchange.hear_one.Goals as goal
+
+pub returns-in-Quiet-clause-exchanges : goal.returns-in-Quiet-clause-exchanges
+returns-in-Quiet-clause-exchanges g c = exchanges_heard 0 c.args.link.now c.hear_one.new.self c.args.side.now c.hear_one.new.actor c.in-Quiet.ensures.hears
+
+pub returns-in-More-clause-exchanges : goal.returns-in-More-clause-exchanges
+returns-in-More-clause-exchanges g c = exchanges_heard 0 c.args.link.now c.hear_one.new.self c.args.side.now c.hear_one.new.actor c.in-More.ensures.hears
+
+pub returns-in-Done-clause-exchanges : goal.returns-in-Done-clause-exchanges
+returns-in-Done-clause-exchanges g c = exchanges_heard 0 c.args.link.now c.hear_one.new.self c.args.side.now c.hear_one.new.actor c.in-Done.ensures.hears
+
+pub returns-in-Failed-clause-exchanges : goal.returns-in-Failed-clause-exchanges
+returns-in-Failed-clause-exchanges g c = exchanges_heard 0 c.args.link.now c.hear_one.new.self c.args.side.now c.hear_one.new.actor c.in-Failed.ensures.hears
+
+pub returns-in-Ended-clause-exchanges : goal.returns-in-Ended-clause-exchanges
+returns-in-Ended-clause-exchanges g c = exchanges_heard 0 c.args.link.now c.hear_one.new.self c.args.side.now c.hear_one.new.actor c.in-Ended.ensures.hears
+
+pub returns-in-Refused-clause-exchanges : goal.returns-in-Refused-clause-exchanges
+returns-in-Refused-clause-exchanges g c = exchanges_heard 0 c.args.link.now c.hear_one.new.self c.args.side.now c.hear_one.new.actor c.in-Refused.ensures.hears
+
+pub returns-in-Bad-clause-exchanges : goal.returns-in-Bad-clause-exchanges
+returns-in-Bad-clause-exchanges g c = exchanges_heard 0 c.args.link.now c.hear_one.new.self c.args.side.now c.hear_one.new.actor c.in-Bad.ensures.hears
+
+pub returns-in-NoMemory-clause-exchanges : goal.returns-in-NoMemory-clause-exchanges
+returns-in-NoMemory-clause-exchanges g c = exchanges_heard 0 c.args.link.now c.hear_one.new.self c.args.side.now c.hear_one.new.actor c.in-NoMemory.ensures.hears

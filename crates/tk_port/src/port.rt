@@ -1,0 +1,190 @@
+ghost use Rattle.std.specs.Prelude.{◌≡◌, ◌<◌, ◌≤◌, ◌↔◌, [], true, false, Some, IfOk, OnOk, OnErr, length};
+ghost use Rattle.tk_frames.specs.Spelling.{IsVersion};
+ghost use Rattle.tk_monitor.specs.Monitored.{IsFeederOf, Raises, checked_at};
+ghost use Rattle.tk_trail.specs.Readings.{is_stopped, sent_by};
+ghost use Rattle.tk_trail.specs.Setup.{IsSetup};
+ghost use Rattle.tk_wire.specs.Buffered.{IsFull, counts_pushed};
+ghost use Rattle.tk_end.specs.Link.{IsShut, Says};
+ghost use Rattle.tk_port.specs.Port.{IsPort, Turns, TurnsOne, answer_of, halted_of};
+ghost use Rattle.tk_port.specs.Turn.{checking};
+ghost use Rattle.tk_port.specs.declared.turn.Turn.{Turn as Turned};
+
+use crate::course::Course;
+use crate::exchange::{conclude, exchange, hear_one};
+use crate::side::{COORDINATOR, Side};
+use crate::turn::Turn;
+use std::alloc::Global;
+use std::marker::Model;
+use tk_base::{Feeder, NoMemory};
+use tk_end::Link;
+use tk_frames::Frame;
+use tk_monitor::{Checked, Monitor, Raised};
+use tk_wire::{InBuffer, Pushed, Wire};
+
+/// A monitor and its end of the connection to the coordinator.
+#[derive(Drop)]
+pub struct Port<W: Wire> {
+    run: u64,
+    side: Side,
+    link: Link<W>,
+    course: Course,
+}
+
+impl<W: Wire> Model for Port<W> {
+    ghost use Rattle.tk_port.specs.Port.{PortView, IsPort};
+
+    ghost Value = { PortView W };
+
+    ghost view = { λ p. record {
+      run = p.run;
+      monitor = p.side.monitor;
+      link = p.link;
+      course = p.course;
+    } };
+
+    ghost invariant = { λ p. IsPort (record {
+      run = p.run;
+      monitor = p.side.monitor;
+      link = p.link;
+      course = p.course;
+    }) };
+}
+
+impl<W: Wire + Drop> Port<W> {
+    /// A port that begins with the Hello of its monitor, in a run and in a version, 1 or 2.
+    pub fn new(
+        alloc: Global,
+        wire: W,
+        monitor: Monitor,
+        run: u64,
+        version: u8,
+    ) -> Result<Port<W>, NoMemory>
+        requires version { IsVersion version }
+        requires setup { IsSetup monitor.setup }
+        requires number { (0 < monitor.setup.number) × (monitor.setup.number ≤ 64) }
+        requires trail { monitor.trail ≡ [] }
+        requires came { W.tells ≡ true → (W.traffic wire).came ≡ [] }
+        requires went { W.tells ≡ true → (W.traffic wire).went ≡ [] }
+        ensures run { IfOk result (λ port. port.run ≡ run) }
+        ensures monitor { IfOk result (λ port. port.monitor ≡ monitor) }
+        ensures wire { IfOk result (λ port. port.link.wire ≡ wire) }
+        ensures version { IfOk result (λ port. port.link.version ≡ version) }
+        ensures course { IfOk result (λ port. port.course ≡ Course.Open) }
+        ensures kept { IfOk result IsPort }
+    {
+        let number = monitor.number();
+        let mut link = Link::new(alloc, wire, InBuffer::new(alloc), version);
+        link.add(&Frame::Hello {
+            run,
+            version,
+            mon: number,
+        })?;
+        Ok(Port {
+            run,
+            side: Side { monitor },
+            link,
+            course: Course::Open,
+        })
+    }
+}
+
+impl<W: Wire> Port<W> {
+    /// Its monitor.
+    pub fn monitor(&self) -> &Monitor
+        ensures value { result.now ≡ self.now.monitor }
+        ensures kept { IsPort self.now }
+    {
+        &self.side.monitor
+    }
+
+    /// Counts the next change of a feeder, without memory.
+    pub fn raise(&mut self, f: Feeder) -> Raised
+        requires { IsFeederOf self.old.monitor.setup f.0 }
+        ensures answer { Raises self.old.monitor f result self.new.monitor }
+        ensures rest { self.new ≡ record self.old { monitor = self.new.monitor } }
+        ensures kept { IsPort self.new }
+    {
+        self.side.monitor.raise(f)
+    }
+
+    /// Sends a Report or tells the end where that is due.
+    pub fn check(&mut self) -> Result<Checked, NoMemory>
+        requires { self.old.course ≡ Course.Open }
+        ensures answer { IfOk result (λ c. c ≡ checked_at self.old.monitor.setup self.old.monitor.trail) }
+        ensures ok { OnOk result (self.new ≡ record self.old { monitor = checking self.old.monitor }) }
+        ensures err { OnErr result (self.new ≡ self.old) }
+        ensures kept { IsPort self.new }
+    {
+        self.side.monitor.check()
+    }
+
+    /// Writes what was sent and is not written, then gives until nothing is left to give. It never changes the monitor.
+    pub fn push(&mut self) -> Result<Pushed, NoMemory>
+        requires { self.old.course ≡ Course.Open }
+        ensures says { Says (sent_by self.old.monitor.trail) self.old.link self.new.link }
+        ensures rest { self.new ≡ record self.old { link = self.new.link } }
+        // Where it has the memory, every frame is written, and what is not given has no room on the wire.
+        ensures ok { OnOk result (self.new.link.written ≡ length (sent_by self.old.monitor.trail)) }
+        ensures empty { IfOk result (λ pushed. (pushed ≡ Pushed.Empty) ↔ (self.new.link.output ≡ [])) }
+        ensures full { IfOk result (λ pushed. pushed ≡ Pushed.NotYet → self.new.link.tells ≡ true → IsFull self.new.link.traffic) }
+        ensures counted { IfOk result (λ pushed. self.new.link.counts ≡ counts_pushed pushed self.old.link.counts) }
+        // Where it has not, nothing was given.
+        ensures err { OnErr result (self.new.link.wire ≡ self.old.link.wire) }
+        ensures kept { IsPort self.new }
+    {
+        self.link.say(&self.side, COORDINATOR)
+    }
+
+    /// Shuts the wire, without memory. A port that failed before stays so.
+    pub fn halt(&mut self)
+        ensures shut { IsShut self.old.link self.new.link }
+        ensures course { self.new.course ≡ halted_of self.old.course }
+        ensures rest { self.new ≡ record self.old { link = self.new.link; course = self.new.course } }
+        ensures kept { IsPort self.new }
+    {
+        self.link.shut();
+        self.course = self.course.halted();
+    }
+
+    /// Whether the wire is shut.
+    pub fn halted(&self) -> bool
+        ensures { result ≡ self.now.link.shut }
+    {
+        self.link.is_shut()
+    }
+
+    /// Says what was sent, pulls at most 64 pieces and takes their frames, checks, and says what was sent since.
+    /// Costs what came and what is sent. After Failed, Refused or Bad the wire is shut, and each later turn answers the same.
+    pub fn turn(&mut self) -> Turn
+        requires { self.old.course ≡ Course.Halted → ⊥ }
+        ensures closed { (turn : Turned) → answer_of self.old.course ≡ Some turn → (result ≡ turn) × (self.new ≡ self.old) }
+        ensures open { self.old.course ≡ Course.Open → Turns result self.old self.new }
+        ensures kept { IsPort self.new }
+    {
+        if let Some(turn) = self.course.answer() {
+            return turn;
+        }
+        if self.side.monitor.stopped() {
+            return Turn::Stopped;
+        }
+        let turn = exchange(&mut self.link, &mut self.side);
+        self.course = conclude(&mut self.link, turn);
+        turn
+    }
+
+    /// Pulls until a frame is whole, and takes that one. It checks nothing and says nothing.
+    pub fn take_one(&mut self) -> Turn
+        requires not_halted { self.old.course ≡ Course.Halted → ⊥ }
+        requires not_stopped { is_stopped self.old.monitor.trail ≡ false }
+        ensures closed { (turn : Turned) → answer_of self.old.course ≡ Some turn → (result ≡ turn) × (self.new ≡ self.old) }
+        ensures open { self.old.course ≡ Course.Open → TurnsOne result self.old self.new }
+        ensures kept { IsPort self.new }
+    {
+        if let Some(turn) = self.course.answer() {
+            return turn;
+        }
+        let turn = hear_one(&mut self.link, &mut self.side);
+        self.course = conclude(&mut self.link, turn);
+        turn
+    }
+}
