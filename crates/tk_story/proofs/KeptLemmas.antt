@@ -2,7 +2,7 @@
 use Rattle.std.proofs.Common.{◌≡◌, ℕ, zero, suc, ◌+◌, ◌-◌, ◌≤◌, ◌<◌, ◌⊎◌, Bool, true, List, [], ◌∷◌, ◌++◌, length, take, map, Option, Some, None, refl, sym, ap, ◌∙◌, subst, arith, inl, inr}
 use Rattle.std.specs.Prelude.{IsSome, slice_get}
 use Rattle.std.specs.Option.{option_map}
-use Rattle.std.proofs.lemmas.Bool.{cases_Bool, true≢false}
+use Rattle.std.proofs.lemmas.Bool.{cases_Bool, cases_lt, true≢false}
 use Rattle.std.proofs.lemmas.Option.{slice_get-map}
 use Rattle.std.proofs.Common.{eq-eqb, ◌==◌}
 use Rattle.std.specs.Prelude.{if◌then◌else◌}
@@ -20,9 +20,10 @@ use Rattle.tk_journal.specs.Links.{frames_from, frames_to}
 use Rattle.tk_journal.specs.Refusal.{refusal_of as refusal_up}
 use Rattle.tk_trail.specs.Readings.{sent_by, taken_by}
 use Rattle.tk_trail.specs.Refusal.{refusal_of as refusal_down}
-use Rattle.tk_story.specs.Ends.{AreKept, AreOfOneRun, AreOrdered, HaveDifference, HaveNothingOdd, IsFirstDifference, IsOrdered, KeptEnds, KeptLink, joined, kept_by, link_at, odd_at, odd_from, trail_at, with_odd}
+use Rattle.tk_story.specs.Ends.{AreKept, AreOfOneRun, AreOrdered, HaveDifference, HaveNothingOdd, IsBefore, IsFirstDifference, IsFirstOfAll, IsOrdered, KeptEnds, KeptLink, joined, kept_by, link_at, odd_at, odd_from, trail_at, with_odd}
 use Rattle.tk_story.specs.Odd.{IsNotTaken, IsOddDown, IsOddUp}
 use Rattle.tk_story.specs.Story.{AreHistories, setup_of, trail_of}
+use Rattle.tk_story.specs.declared.ends.join_fault.Direction.{Direction}
 use Rattle.tk_story.specs.declared.ends.join_fault.Direction.TheVariants.{UpLink, DownLink}
 use Rattle.tk_story.specs.declared.ends.received.Received.{Received}
 use Rattle.tk_story.specs.declared.ends.received.Received.TheVariants as r
@@ -225,3 +226,66 @@ nothing_is_odd coordinator ends logs settings from given histories ordered =
           let here = subst (λ t. IsOddDown (setup_of (joined kept logs from) mon) t odd) e.trail (subst (λ u. IsOddDown u e.at.it.monitor.trail odd) e.setup (refused odd (sym own ∙ is))) in
           odd_down_differs kept logs from mon odd histories m is here ordered));
     }
+
+-- ---- the first difference is one
+
+get_take : {A : Type 0} (n : ℕ) (ys : List A) (k : ℕ) → k < n → slice_get (take n ys) k ≡ slice_get ys k
+get_take zero ys k less = absurd (omega (arith, less))
+get_take (suc n) [] k less = refl
+get_take (suc n) (y ∷ ys) zero less = refl
+get_take (suc n) (y ∷ ys) (suc k) less = get_take n ys k (omega (arith, less))
+
+-- no difference stands in front of a first one
+none_in_front : (link : KeptLink) (p q : ℕ) (s t : Option Frame) (x y : Received) → IsFirstDifference link p s x → IsFirstDifference link q t y → p < q → ⊥
+none_in_front link p q s t x y a b less =
+    let agree : slice_get link.received p ≡ option_map r.Frame (slice_get link.sent p) =
+    sym (get_take q link.received p less) ∙ ap (λ xs. slice_get xs p) b.same ∙ slice_get-map r.Frame (take q link.sent) p ∙ ap (option_map r.Frame) (get_take q link.sent p less) in
+    a.other (ap (option_map r.Frame) (sym a.sent_is) ∙ sym agree ∙ a.received_is)
+
+one_place : (link : KeptLink) (p q : ℕ) (s t : Option Frame) (x y : Received) → IsFirstDifference link p s x → IsFirstDifference link q t y → p ≡ q
+one_place link p q s t x y a b = elim (cases_lt p q) [
+  | inl less ↦ absurd (none_in_front link p q s t x y a b less)
+  | inr not' ↦ elim (cases_lt q p) [
+    | inl less ↦ absurd (none_in_front link q p t s y x b a less)
+    | inr neither ↦ omega (arith, not', neither)
+  ]
+]
+
+less_is_before : (m k : ℕ) (d x : Direction) → m < k → IsBefore m d k x
+less_is_before m k UpLink UpLink less = less
+less_is_before m k UpLink DownLink less = omega (arith, less)
+less_is_before m k DownLink UpLink less = less
+less_is_before m k DownLink DownLink less = less
+
+not_before : (ends : KeptEnds) (m k : ℕ) (d x : Direction) (p q : ℕ) (s t : Option Frame) (a b : Received) → IsFirstOfAll ends m d p s a → IsFirstOfAll ends k x q t b → IsBefore m d k x → ⊥
+not_before ends m k d x p q s t a b first second less = unordered (link_at ends m d) p s a first.here (second.before m d first.monitor less)
+
+one_monitor : (ends : KeptEnds) (m k : ℕ) (d x : Direction) (p q : ℕ) (s t : Option Frame) (a b : Received) → IsFirstOfAll ends m d p s a → IsFirstOfAll ends k x q t b → m ≡ k
+one_monitor ends m k d x p q s t a b first second = elim (cases_lt m k) [
+  | inl less ↦ absurd (not_before ends m k d x p q s t a b first second (less_is_before m k d x less))
+  | inr not' ↦ elim (cases_lt k m) [
+    | inl less ↦ absurd (not_before ends k m x d q p t s b a second first (less_is_before k m x d less))
+    | inr neither ↦ omega (arith, not', neither)
+  ]
+]
+
+one_direction : (ends : KeptEnds) (m : ℕ) (d x : Direction) (p q : ℕ) (s t : Option Frame) (a b : Received) → IsFirstOfAll ends m d p s a → IsFirstOfAll ends m x q t b → d ≡ x
+one_direction ends m UpLink UpLink p q s t a b first second = refl
+one_direction ends m UpLink DownLink p q s t a b first second = absurd (not_before ends m m UpLink DownLink p q s t a b first second (omega arith))
+one_direction ends m DownLink UpLink p q s t a b first second = absurd (not_before ends m m UpLink DownLink q p t s b a second first (omega arith))
+one_direction ends m DownLink DownLink p q s t a b first second = refl
+
+-- what is told of a first difference at its link is one
+one_here : (link : KeptLink) (p q : ℕ) (s t : Option Frame) (a b : Received) → IsFirstDifference link p s a → IsFirstDifference link q t b → (p ≡ q) × (s ≡ t) × (a ≡ b)
+one_here link p q s t a b first second =
+    let place = one_place link p q s t a b first second in
+    (place, sym first.sent_is ∙ ap (slice_get link.sent) place ∙ second.sent_is, some_same a b (sym first.received_is ∙ ap (slice_get link.received) place ∙ second.received_is))
+
+pub one_first : (ends : KeptEnds) (m k : ℕ) (d x : Direction) (p q : ℕ) (s t : Option Frame) (a b : Received) → IsFirstOfAll ends m d p s a → IsFirstOfAll ends k x q t b
+    → (m ≡ k) × (d ≡ x) × (p ≡ q) × (s ≡ t) × (a ≡ b)
+one_first ends m k d x p q s t a b first second =
+    let number = one_monitor ends m k d x p q s t a b first second in
+    let second' = subst (λ i. IsFirstOfAll ends i x q t b) (sym number) second in
+    let way = one_direction ends m d x p q s t a b first second' in
+    let here = one_here (link_at ends m d) p q s t a b first.here (subst (λ y. IsFirstDifference (link_at ends m y) q t b) (sym way) second'.here) in
+    (number, way, here.0, here.1, here.2)

@@ -2,7 +2,8 @@
 //!
 //! It promises the laws that the product exists for, over finished stories alone, whatever machine made them: where
 //! nothing is under way and nothing is broken the members are valid, every published set is valid at its own cut, and
-//! no frame of a story is refused.
+//! no frame of a story is refused. Ends of a run are joined to the story that they tell, or the first difference between
+//! what was sent and what was received is told.
 #![tactic(auto)]
 
 mod ends;

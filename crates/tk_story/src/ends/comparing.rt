@@ -87,8 +87,8 @@ fn check_odd(
     sent: Option<&Frame>,
     odd: Option<&Received>,
 ) -> Result<(), JoinFault>
-    ensures { (link : KeptLink) (frames : List Frame) → AreTaken link frames (option_copied odd.entry) place (option_copied sent.entry)
-        → Finds way.mon way.direction link result }
+    ensures { (link : KeptLink) (frames : List Frame)
+        → AreTaken link frames (option_copied odd.entry) place (option_copied sent.entry) → Finds way.mon way.direction link result }
 {
     match odd {
         None => Ok(()),
