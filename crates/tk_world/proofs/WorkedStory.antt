@@ -1,7 +1,7 @@
 -- A run worked out: two monitors, a full round, the last publication, and Stop.
 use Rattle.tk_frames.specs.declared.frame.Frame.TheVariants as f
 use Rattle.tk_journal.specs.declared.noted.Noted.TheVariants as n
-use Rattle.std.proofs.Common.{ℕ, ◌≡◌, ◌^◌, ℤ, pos, negsuc, neg_ℤ, List, [], ◌∷◌, Bool, true, false, refl, arith, Some, None, suc, zero, ◌+◌, ◌≤◌, ◌<◌, ◌==◌, length, get_or, unsigned_abs, cond}
+use Rattle.std.proofs.Common.{ℕ, ◌≡◌, ◌^◌, ℤ, pos, negsuc, neg_ℤ, List, [], ◌∷◌, Bool, true, false, refl, arith, Some, None, suc, zero, ◌+◌, ◌≤◌, ◌<◌, ◌==◌, length, get_or, unsigned_abs, cond, take, drop}
 use Rattle.std.specs.List.{All}
 use Rattle.std.proofs.lemmas.Int.{ints}
 use Rattle.std.proofs.lemmas.List.Sums.{sum_by-cons}
@@ -29,7 +29,12 @@ use Rattle.tk_input.specs.declared.event.Event.TheVariants.{Raise, Check, Up, Do
 use Rattle.tk_journal.specs.Laws.{IsMonitor}
 use Rattle.tk_journal.specs.Links.{frames_from, frames_to}
 use Rattle.tk_story.specs.Story.{IsStory, StoryView, setup_of, trail_of}
-use Rattle.tk_story.specs.Moments.{AreMembersValid, IsQuiet}
+use Rattle.tk_base.specs.History.{IsFront}
+use Rattle.tk_journal.specs.declared.publication.Publication.{Publication}
+use Rattle.tk_story.specs.Links.{IsOrderedLink}
+use Rattle.tk_story.specs.Moments.{AreMembersValid, IsMoment, IsPublishedValid, IsQuiet}
+use Rattle.tk_story.proofs.MomentLemmas.{moment_is_story}
+use Rattle.tk_story.proofs.PublishedLemmas.{published_holds}
 use Rattle.tk_story.proofs.QuietLemmas.{quiet_holds}
 use Rattle.tk_world.proofs.StepLemmas.{after_is_story, begin_is_story}
 
@@ -197,3 +202,47 @@ worked_is_story =
 -- so its members hold at the ends
 pub worked_holds : AreMembersValid worked
 worked_holds = quiet_holds worked worked_is_story worked_quiet
+
+-- its two publications are valid, each at its own cut
+
+abbrev first_set : Publication
+first_set = record { number = 1; last = false; k = 1; epsilon = pos 0; members = 1 ∷ []; cut = (0 ∷ []) ∷ (0 ∷ []) ∷ [] }
+
+abbrev last_set : Publication
+last_set = record { number = 2; last = true; k = 1; epsilon = pos 0; members = 1 ∷ []; cut = (1 ∷ []) ∷ (1 ∷ []) ∷ [] }
+
+pub first_valid : IsPublishedValid worked first_set
+first_valid = published_holds worked worked_is_story first_set (record { before = take 4 worked.journal; after = drop 5 worked.journal; is = refl })
+
+pub last_valid : IsPublishedValid worked last_set
+last_valid = published_holds worked worked_is_story last_set (record { before = take 13 worked.journal; after = drop 14 worked.journal; is = refl })
+
+-- ---- a moment behind the first publication is quiet: each monitor took its first Assign, and its answer was got
+
+first_moment : IsMoment first_four worked
+unfolding objects round_border leeway picked least_of greatest_of share units owned_units assigns_sent members_at factor own table_at answer_of progress_of last_round asked_of values_of waits_for is_open is_calm in_force is_stopped report_of reports_at short_decides full_decides wide_decides passes_short_test streak kind_of rounds is_wide demanded closing refusal_of retune_refusal_of turn_of due_at end_is_due owed_at report_at report_is_due settled_at values_at at_ends broken_at level_of levels_of places_at value_of_object
+first_moment = record {
+  settings = refl;
+  logs = refl;
+  from = refl;
+  count = refl;
+  behind = drop 5 worked.journal;
+  journal = refl;
+  whole = refl;
+  trails = two_cases (λ mon. IsFront (trail_of first_four mon) (trail_of worked mon)) (record { is = refl }) (record { is = refl });
+  answered = two_cases (λ mon. owed_at (setup_of worked mon) (trail_of first_four mon) ≡ None) refl refl;
+  links = two_cases (λ mon. IsOrderedLink first_four.journal mon (trail_of first_four mon)) (record { down = record { is = refl }; up = record { is = refl } }) (record { down = record { is = refl }; up = record { is = refl } });
+}
+
+first_quiet : IsQuiet first_four
+unfolding objects round_border leeway picked least_of greatest_of share units owned_units assigns_sent members_at factor own table_at answer_of progress_of last_round asked_of values_of waits_for is_open is_calm in_force is_stopped report_of reports_at short_decides full_decides wide_decides passes_short_test streak kind_of rounds is_wide demanded closing refusal_of retune_refusal_of turn_of due_at end_is_due owed_at report_at report_is_due settled_at values_at at_ends broken_at level_of levels_of places_at value_of_object
+first_quiet = record {
+  down = two_cases (λ mon. taken_by (trail_of first_four mon) ≡ frames_to mon first_four.journal) refl refl;
+  up = two_cases (λ mon. frames_from mon first_four.journal ≡ sent_by (trail_of first_four mon)) refl refl;
+  closed = refl;
+  sound = two_cases (λ mon. is_broken (setup_of first_four mon) (trail_of first_four mon) ≡ false) refl refl;
+}
+
+-- so the members were valid there, before any change
+pub first_holds : AreMembersValid first_four
+first_holds = quiet_holds first_four (moment_is_story first_four worked worked_is_story first_moment) first_quiet

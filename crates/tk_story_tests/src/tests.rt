@@ -1,0 +1,198 @@
+//! Two monitors and a coordinator of the objects a and b, played by hand, and what joins of their ends answer.
+
+ghost use Rattle.std.specs.Prelude.{◌≡◌, length, map, IfOk};
+ghost use Rattle.tk_input.specs.Logs.{IsCut, IsMonitor};
+ghost use Rattle.tk_journal.specs.Legal.{IsLegal, start};
+ghost use Rattle.tk_journal.specs.Readings.{monitors};
+ghost use Rattle.tk_story.specs.Ends.{as_made, made_for};
+
+mod joins;
+
+use std::alloc::Global;
+use std::test::Fail;
+use tk_base::{Cut, Feeder, Mon, Obj, ObjSet, Pairs, Places, Settings};
+use tk_coord::Coordinator;
+use tk_frames::Frame;
+use tk_input::{Catalog, Logs, Part};
+use tk_monitor::Monitor;
+use tk_story::{
+    CoordEnd, JoinFault, MonEnd, Received, Story, a_journal_begins_with_its_opening,
+};
+use tk_trail::MonitorRefusal;
+
+/// What a run of two monitors with one feeder each is over.
+#[derive(Drop)]
+struct Run {
+    settings: Settings,
+    logs: Logs,
+    from: Cut,
+    ghost two: { settings.monitors ≡ 2 },
+    ghost objects: { logs.objects ≡ settings.objects },
+    ghost logged: { length logs.logs ≡ 2 },
+    ghost starts: { IsCut logs.logs from },
+}
+
+fn logs_of(alloc: Global, one: &[u8], two: &[u8]) -> Result<Logs, Fail> {
+    let names = Catalog::read(alloc, b"a\nb\n")?;
+    let first = Part::read(alloc, one, &names)?;
+    let second = Part::read(alloc, two, &names)?;
+    let objects = names.len() as u32;
+    let parts = vec![in alloc; (Mon(1), first), (Mon(2), second)]?;
+    let logs = Logs::new(alloc, parts, objects)?;
+    Ok(logs)
+}
+
+/// The cut before all changes.
+fn start_of(alloc: Global, logs: &Logs) -> Result<Cut, Fail>
+    ensures { IfOk result (λ cut. IsCut logs.now.logs cut) }
+{
+    let mut list = Vec::new(alloc);
+    for j in 0..logs.monitors() {
+        if logs.feeders(Mon(j + 1)) != 1 {
+            return Err("another number of feeders")?;
+        }
+        let place = logs.length(Mon(j + 1), Feeder(1)).min(0);
+        list.push(Places::new(vec![in alloc; place]?))?;
+    }
+    Ok(Cut::new(list))
+}
+
+/// A run with k 1 and epsilon 0 over two changes of a at monitor 1, and one of b at monitor 2.
+fn new_run(alloc: Global) -> Result<Run, Fail> {
+    let logs = logs_of(alloc, b"a,5\na,1\n", b"b,3\n")?;
+    let settings = Settings::new(1, 0, 1, 2, 2)?;
+    if settings.monitors() != 2 || logs.monitors() != 2 || settings.objects() != logs.objects() {
+        return Err("other logs")?;
+    }
+    let from = start_of(alloc, &logs)?;
+    Ok(Run {
+        settings,
+        logs,
+        from,
+    })
+}
+
+/// The first Assign: its only member is a.
+fn first_assign(alloc: Global) -> Result<Frame, Fail> {
+    let members = ObjSet::new(vec![in alloc; Obj(1)]?)?;
+    let changes = Pairs::new(Vec::new(alloc))?;
+    Ok(Frame::Assign {
+        seq: 1,
+        members,
+        changes,
+    })
+}
+
+/// A Settled under the first number.
+fn settled(alloc: Global, last: bool, place: u32) -> Result<Frame, Fail> {
+    let places = Places::new(vec![in alloc; place]?);
+    Ok(Frame::Settled {
+        seq: 1,
+        last,
+        places,
+    })
+}
+
+fn takes(monitor: &mut Monitor, frame: Frame) -> Result<(), Fail>
+    ensures { as_made monitor.new ≡ as_made monitor.old }
+{
+    match monitor.take(frame) {
+        Ok(()) => Ok(()),
+        Err(_) => Err("refused")?,
+    }
+}
+
+/// A monitor of the run that took the first Assign, once it raised a change or not.
+fn monitor(alloc: Global, run: &Run, mon: u32, raises: bool) -> Result<Monitor, Fail>
+    requires { IsMonitor run.now.logs mon }
+    ensures { IfOk result (λ m. as_made m ≡ made_for run.now.settings run.now.logs run.now.from mon) }
+{
+    let parts = run.logs.parts(alloc, Mon(mon))?;
+    let from = run.from.at(mon as usize - 1);
+    let mut monitor = Monitor::new(alloc, &run.settings, Mon(mon), parts, from)?;
+    if raises {
+        let _ = monitor.raise(Feeder(1));
+    }
+    takes(&mut monitor, first_assign(alloc)?)?;
+    Ok(monitor)
+}
+
+/// The end of a monitor that took no more, and received a Stop too early or nothing else.
+fn end_of(monitor: Monitor, stop: bool) -> Result<MonEnd, Fail>
+    ensures { IfOk result (λ end. as_made end.monitor ≡ as_made monitor) }
+{
+    if !stop {
+        return Ok(MonEnd::new(monitor, None));
+    }
+    let mut monitor = monitor;
+    match monitor.take(Frame::Stop) {
+        Err((MonitorRefusal::EarlyStop, frame)) => {
+            Ok(MonEnd::new(monitor, Some(Received::Frame(frame))))
+        }
+        _ => Err("not refused")?,
+    }
+}
+
+/// The ends of monitor 1, which raised a change or not, and of monitor 2, which received a Stop too early or not.
+fn pair(alloc: Global, run: &Run, raises: bool, stop: bool) -> Result<Vec<MonEnd>, Fail>
+    ensures { IfOk result (λ ends. map (λ end. as_made end.monitor) ends.items ≡ map (made_for run.now.settings run.now.logs run.now.from) (monitors run.now.settings)) }
+{
+    let one = monitor(alloc, run, 1, raises)?;
+    let one = end_of(one, false)?;
+    let two = monitor(alloc, run, 2, false)?;
+    let two = end_of(two, stop)?;
+    let ends = vec![in alloc; one, two]?;
+    Ok(ends)
+}
+
+/// The coordinator of the run, once it got these: of which monitor, whether it is the last, and its place.
+fn heard(alloc: Global, run: &Run, said: &[(u32, bool, u32)]) -> Result<CoordEnd, Fail>
+    ensures settings { IfOk result (λ end. end.coordinator.settings ≡ run.now.settings) }
+    ensures legal { IfOk result (λ end. IsLegal (start run.now.settings) end.coordinator.journal) }
+{
+    let mut c = Coordinator::new(alloc, run.settings)?;
+    for (mon, last, place) in said {
+        if *mon == 0 || *mon > c.settings().monitors() {
+            return Err("no such monitor")?;
+        }
+        match c.take(Mon(*mon), settled(alloc, *last, *place)?) {
+            Ok(()) => {}
+            Err(_) => return Err("refused")?,
+        }
+    }
+    Ok(CoordEnd::new(c, None))
+}
+
+/// How many entries the journal and the trails of a story have.
+fn lengths(story: &Story) -> Option<(usize, usize, usize)> {
+    if story.settings().monitors() != 2 {
+        return None;
+    }
+    Some((
+        story.journal().len(),
+        story.trail(Mon(1)).len(),
+        story.trail(Mon(2)).len(),
+    ))
+}
+
+/// What such ends are joined to.
+fn joined(
+    alloc: Global,
+    raises: bool,
+    stop: bool,
+    said: &[(u32, bool, u32)],
+) -> Result<Result<Option<(usize, usize, usize)>, JoinFault>, Fail> {
+    let run = new_run(alloc)?;
+    let coordinator = heard(alloc, &run, said)?;
+    let ends = pair(alloc, &run, raises, stop)?;
+    a_journal_begins_with_its_opening();
+    let Run {
+        settings,
+        logs,
+        from,
+    } = run;
+    match Story::join(coordinator, ends, logs, settings, from, Vec::new(alloc)) {
+        Ok(story) => Ok(Ok(lengths(&story))),
+        Err((fault, _)) => Ok(Err(fault)),
+    }
+}
