@@ -5,6 +5,7 @@ ghost use Rattle.tk_input.specs.Logs.{IsCut};
 
 mod idle_events;
 mod runs;
+mod serialized;
 
 use std::alloc::Global;
 use std::test::Fail;

@@ -2,7 +2,6 @@
 
 use super::{Does, Publishes, SETTLED, has_factors, is_published, play, settle, world};
 use std::test::Fail;
-use tk_base::Mon;
 
 #[test]
 fn a_retune_deals_by_its_epsilon(rt: HostRuntime) -> Result<(), Fail> {
@@ -52,7 +51,7 @@ fn a_report_that_crosses_an_assign_is_stale(rt: HostRuntime) -> Result<(), Fail>
 fn a_world_starts_from_a_cut(rt: HostRuntime) -> Result<(), Fail> {
     let mut world = world(rt.alloc(), b"b,5\na,9\n", b"b,3\n", &[1, 0])?;
     settle(rt.alloc(), &mut world)?;
-    assert!(rt; world.quiet() && world.next_busy(Mon(1)).is_none());
+    assert!(rt; world.quiet() && world.is_settled());
     assert_eq!(rt; world.cut()?.len(), 2);
     play(
         rt.alloc(),
