@@ -1,5 +1,5 @@
-mod NamedLemmas
-mod CauseLemmas
-mod MakingLemmas
+mod EndsLemmas
+mod InputLemmas
+mod OnceLemmas
 mod OverLemmas
 mod StartLemmas

@@ -1,16 +1,7 @@
 -- What holds of a finished run, whatever the order in which changes, checks and frames came.
 use Rattle.std.specs.Prelude.{ℕ, ◌≡◌, ◌≤◌, List, ◌∷◌, ◌++◌, length, map, slice_index_or}
 use Rattle.std.specs.List.{range_with_len}
-use Rattle.std.specs.Prelude.{Option}
-use Rattle.tk_base.specs.Settings.{Setup}
-use Rattle.tk_input.specs.Logs.{LogSet, places_of}
-use Rattle.tk_input.specs.Sink.{Grows}
-use Rattle.tk_ledger.specs.Text.{summary_of, text_of}
-use Rattle.tk_drain.specs.Resting.{RunsFrom}
-use Rattle.tk_world.specs.Runs.{RunsBy}
-use Rattle.tk_story.specs.Kept.{KeptStory}
-use Rattle.tk_run.specs.declared.status.Status.{Status}
-use Rattle.tk_run.specs.declared.status.Status.TheVariants.{BadInput, Done, NoMemory, ReadFault, TooGreat, Usage, WriteFault}
+use Rattle.tk_input.specs.Logs.{places_of}
 use Rattle.tk_journal.specs.Laws.{HasEnded, IsMonitor}
 use Rattle.tk_journal.specs.Publishing.{publications}
 use Rattle.tk_journal.specs.declared.noted.Noted.{Noted}
@@ -44,34 +35,3 @@ pub record IsSound (s : StoryView) : Type 0 where
   pub numbered : AreNumbered (publications s.journal)
   pub forward : NeverGoBack s
   pub legal : IsStory s
-
--- the story runs the events that are kept with it, over these settings and logs, from some places of the logs
-pub record IsRunOf (setup : Setup) (logs : LogSet) (kept : KeptStory) : Type 0 where
-  pub from : List (List ℕ)
-  pub runs : RunsFrom setup logs from kept
-
--- the story runs the events that are kept with it
-abbrev pub IsRun : KeptStory → Type 0
-IsRun kept = RunsBy kept.story kept.events
-
--- what was written, where it is told, has grown by the text of the story
-pub record IsPrinted (old new : Option (List ℕ)) (s : StoryView) : Type 0 where
-  pub names : List (List ℕ)
-  pub count : length names ≡ s.settings.objects
-  pub text : Grows old new (text_of names s)
-
--- it has grown by the summary of the story
-pub record IsSummed (old new : Option (List ℕ)) (s : StoryView) : Type 0 where
-  pub names : List (List ℕ)
-  pub count : length names ≡ s.settings.objects
-  pub text : Grows old new (summary_of names s)
-
--- words or an input that are refused, or cannot be read, leave nothing written
-abbrev pub WritesNothing : Status → Option (List ℕ) → Option (List ℕ) → Type 0
-WritesNothing Done old new = Unit {0}
-WritesNothing Usage old new = new ≡ old
-WritesNothing (ReadFault file) old new = new ≡ old
-WritesNothing (BadInput file line kind) old new = new ≡ old
-WritesNothing (TooGreat mon obj) old new = new ≡ old
-WritesNothing WriteFault old new = Unit {0}
-WritesNothing NoMemory old new = Unit {0}

@@ -1,5 +1,2 @@
-pub mod Causes
-pub mod Generated
+pub mod Ends
 pub mod Headline
-pub mod Status
-pub mod Whole

@@ -1,7 +1,17 @@
-// What holds of every finished run. The function is there for its clause alone.
+// What holds of every finished run, and of every input. Each function is there for its clause alone.
+ghost use Rattle.std.specs.Prelude.{◌≡◌, ℕ, List, Ok, Option, Some};
+ghost use Rattle.tk_load.specs.Input.{input_of};
+ghost use Rattle.tk_load.specs.Told.{AreTold, read_by};
+ghost use Rattle.tk_load.specs.declared.input.Input.{Input};
+ghost use Rattle.tk_load.specs.declared.status.Status.{Status};
+ghost use Rattle.tk_load.specs.declared.status.Status.TheVariants.{WriteFault as NotWritten};
+ghost use Rattle.tk_run.specs.Ends.{EndsWords, IsDone, IsStoryOf};
+ghost use Rattle.tk_story.specs.Kept.{KeptStory};
 ghost use Rattle.tk_run.specs.Headline.{IsSound};
 ghost use Rattle.tk_story.specs.Moments.{IsOver};
 ghost use Rattle.tk_story.specs.Story.{IsStory, StoryView};
+ghost use Rattle.tk_words.specs.Words.{ReplayWords, words_of};
+ghost use Rattle.tk_words.specs.Words.Asked.{Replays};
 
 use tk_journal::{
     a_start_is_set_up, publications_are_numbered, publications_never_go_back, stop_ends_the_journal,
@@ -20,3 +30,16 @@ pub fn a_finished_run_is_sound()
     publications_are_numbered();
     publications_never_go_back();
 }
+
+/// An input has one story, so its text is one text.
+pub fn an_input_has_one_story()
+    ensures { (input : Input) (a b : KeptStory) → IsStoryOf input a → IsStoryOf input b → a ≡ b }
+{}
+
+/// Where the words of a replay and the contents of its files give an input, no read of these files fails and the output
+/// is written, the run is done, or no memory was found.
+pub fn an_input_is_run()
+    ensures { (words : List (List ℕ)) (asked : ReplayWords) (told : List ℕ → Option (List ℕ)) (old new : List ℕ → ℕ) (before after : Option (List ℕ)) (contents : List ℕ → List ℕ) (input : Input) (status : Status)
+        → words_of words ≡ Some (Replays asked) → AreTold told old new contents asked → input_of (read_by contents asked) ≡ Ok input
+        → (status ≡ NotWritten → ⊥) → EndsWords words told old new before after status → IsDone status }
+{}

@@ -1,17 +1,18 @@
 ghost use Rattle.std.specs.Prelude.{◌≡◌, IfOk, OnOk, length};
-ghost use Rattle.tk_drain.specs.Drive.{IsReached};
+ghost use Rattle.tk_drain.specs.Drive.{Drives};
+ghost use Rattle.tk_load.specs.Whole.{AreAgreed};
+ghost use Rattle.tk_run.specs.Ends.{IsStoryOf, events_in};
+ghost use Rattle.tk_run.specs.Headline.{IsSound};
 ghost use Rattle.tk_story.specs.Moments.{IsOver};
 ghost use Rattle.tk_story.specs.Story.{IsStory};
-ghost use Rattle.tk_run.specs.Headline.{IsRunOf, IsSound};
-ghost use Rattle.tk_run.specs.Whole.{AreAgreed};
 
 use crate::headline::a_finished_run_is_sound;
-use crate::input::Input;
 use crate::start::start_of;
 use std::alloc::Global;
 use tk_base::NoMemory;
 use tk_drain::{a_drive_is_reached, drive, finish, what_is_reached_runs};
 use tk_input::{Catalog, Order};
+use tk_load::Input;
 use tk_story::Story;
 use tk_world::World;
 
@@ -19,9 +20,8 @@ use tk_world::World;
 fn play(alloc: Global, world: &mut World, order: &Option<Order>) -> Result<(), NoMemory>
     ensures over { OnOk result (IsOver world.new.story) }
     ensures legal { OnOk result (IsStory world.new.story) }
-    ensures reached { OnOk result (IsReached world.old world.new) }
+    ensures driven { OnOk result (Drives (events_in order.now) world.old world.new) }
 {
-    a_drive_is_reached();
     match order {
         Some(order) => drive(alloc, world, order),
         None => finish(alloc, world),
@@ -34,7 +34,7 @@ pub fn story_of(alloc: Global, input: Input) -> Result<(Story, Catalog), NoMemor
     ensures names { IfOk result (λ r. length r.1 ≡ r.0.story.settings.objects) }
     ensures same { IfOk result (λ r. r.1 ≡ input.names) }
     ensures sound { IfOk result (λ r. IsSound r.0.story) }
-    ensures runs { IfOk result (λ r. IsRunOf input.settings input.logs r.0) }
+    ensures story { IfOk result (λ r. IsStoryOf input r.0) }
 {
     let Input {
         names,
@@ -46,6 +46,7 @@ pub fn story_of(alloc: Global, input: Input) -> Result<(Story, Catalog), NoMemor
     let mut world = World::new(alloc, settings, logs, from)?;
     play(alloc, &mut world, &order)?;
     a_finished_run_is_sound();
+    a_drive_is_reached();
     what_is_reached_runs();
     Ok((world.into_story()?, names))
 }

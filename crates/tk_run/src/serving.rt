@@ -1,14 +1,15 @@
-ghost use Rattle.std.specs.Prelude.{◌≡◌, ◌↔◌, ◌⊎◌, IfSome, IsSome};
+ghost use Rattle.std.specs.Prelude.{◌≡◌, ◌↔◌, IfSome, IsSome, map, string_bytes};
 ghost use Rattle.tk_input.specs.Files.{HasRisen};
-ghost use Rattle.tk_run.specs.Headline.{IsPrinted, IsRun, IsSound, IsSummed, WritesNothing};
-ghost use Rattle.tk_run.specs.declared.status.Status.TheVariants.{Done, WriteFault as NotWritten};
+ghost use Rattle.tk_load.specs.declared.status.Status.TheVariants.{Done, WriteFault as NotWritten};
+ghost use Rattle.tk_run.specs.Ends.{EndsWords, RunsWords};
+ghost use Rattle.tk_run.specs.Headline.{IsSound};
 
 use crate::generated::serve as generate;
 use crate::outcome::Outcome;
 use crate::replay::replay;
-use crate::status::Status;
 use std::alloc::Global;
 use tk_input::{Files, Sink};
+use tk_load::Status;
 use tk_words::{Command, WordsFault, read};
 
 /// Serves `replay` and `gen`. The words come without the program's name.
@@ -18,25 +19,21 @@ pub fn run<F: Files, O: Sink>(
     files: &mut F,
     out: &mut O,
 ) -> Outcome
-    // a run that is done has a story, for which all of the headline holds, and what was written is its text
+    // a run that is done has a story, for which all of the headline holds
     ensures done { IsSome result.story ↔ (result.status ≡ Done) }
     ensures sound { IfSome result.story (λ s. IsSound s.story) }
-    ensures runs { IfSome result.story IsRun }
-    ensures text { IfSome result.story (λ s. IsPrinted (O.written out.old) (O.written out.new) s.story ⊎ IsSummed (O.written out.old) (O.written out.new) s.story) }
-    // any other status
+    // it is the story of what the words ask for, and what was written is its text
+    ensures ran { IfSome result.story (RunsWords (map string_bytes words.now)
+        (F.content files.old) (F.fault_count files.old) (F.fault_count files.new) (O.written out.old) (O.written out.new)) }
+    // any other status tells the fault that there is
+    ensures ends { EndsWords (map string_bytes words.now)
+        (F.content files.old) (F.fault_count files.old) (F.fault_count files.new) (O.written out.old) (O.written out.new) result.status }
     ensures unwritten { result.status ≡ NotWritten → HasRisen (O.fault_count out.old) (O.fault_count out.new) }
-    ensures nothing { WritesNothing result.status (O.written out.old) (O.written out.new) }
 {
     match read(alloc, words) {
         Ok(Command::Replay(words)) => replay(alloc, &words, files, out),
         Ok(Command::Generate(words)) => generate(alloc, &words, out),
-        Err(WordsFault::Usage) => Outcome {
-            status: Status::Usage,
-            story: None,
-        },
-        Err(WordsFault::NoMemory) => Outcome {
-            status: Status::NoMemory,
-            story: None,
-        },
+        Err(WordsFault::Usage) => Outcome::ended(Status::Usage),
+        Err(WordsFault::NoMemory) => Outcome::ended(Status::NoMemory),
     }
 }

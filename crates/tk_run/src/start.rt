@@ -1,5 +1,6 @@
-ghost use Rattle.std.specs.Prelude.{IfOk};
+ghost use Rattle.std.specs.Prelude.{◌≡◌, IfOk};
 ghost use Rattle.tk_input.specs.Logs.{IsCut};
+ghost use Rattle.tk_run.specs.Ends.{beginnings};
 
 use std::alloc::Global;
 use tk_base::{Cut, Mon, NoMemory, Places};
@@ -7,7 +8,8 @@ use tk_input::Logs;
 
 /// The places before the first change of each log.
 pub fn start_of(alloc: Global, logs: &Logs) -> Result<Cut, NoMemory>
-    ensures { IfOk result (λ cut. IsCut logs.now.logs cut) }
+    ensures value { IfOk result (λ cut. cut ≡ beginnings logs.now) }
+    ensures cut { IfOk result (λ cut. IsCut logs.now.logs cut) }
 {
     let mut list = Vec::new(alloc);
     for j in 0..logs.monitors() {

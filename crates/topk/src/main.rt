@@ -24,7 +24,7 @@ fn run_words(rt: &HostRuntime) -> Status {
     }
     let mut files = TrueFiles::new(alloc, rt);
     let mut out = StdSink::new(rt);
-    run(alloc, words.as_slice(), &mut files, &mut out).status
+    run(alloc, words.as_slice(), &mut files, &mut out).into_status()
 }
 
 /// Writes the fault of a status to standard error. Where that fails, the number alone tells it.

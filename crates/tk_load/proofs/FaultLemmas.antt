@@ -1,0 +1,30 @@
+-- Statuses that tell faults, and rules one after the other.
+use Rattle.std.proofs.Common.{◌≡◌, ℕ, ◌∙◌, ◌<◌, ◌≤◌, List, Result, Ok, Err, ap, sym, refl, subst, rules, arith}
+use Rattle.tk_load.specs.Faults.{Fault, after, telling}
+use Rattle.tk_load.specs.Reads.{Meets, Says, Tells}
+use Rattle.tk_load.specs.declared.status.Status.{Status}
+use Rattle.tk_load.specs.declared.status.Status.TheVariants as s
+
+-- a status that says the fault that there is tells it
+pub tells_of : {V : Type 0} (status : Status) (fault : Fault) (meant : Result V Fault) → Says status fault → meant ≡ Err fault → Tells status meant
+tells_of (s.ReadFault file) fault meant says is = is ∙ ap (λ (f : Fault). Err f) says
+tells_of (s.BadInput file line kind) fault meant says is = is ∙ ap (λ (f : Fault). Err f) says
+tells_of (s.TooGreat mon obj) fault meant says is = is ∙ ap (λ (f : Fault). Err f) says
+tells_of s.NoMemory fault meant says is = tt
+tells_of s.Done fault meant says is = absurd says
+tells_of s.Usage fault meant says is = absurd says
+tells_of s.WriteFault fault meant says is = absurd says
+
+-- a fault is still that of a rule and those after it
+pub tells_on : {V W : Type 0} (status : Status) (meant : Result V Fault) (next : V → Result W Fault) → Tells status meant → Tells status (after meant next)
+tells_on (s.ReadFault file) meant next is = ap (λ (m : Result _ Fault). after m next) is
+tells_on (s.BadInput file line kind) meant next is = ap (λ (m : Result _ Fault). after m next) is
+tells_on (s.TooGreat mon obj) meant next is = ap (λ (m : Result _ Fault). after m next) is
+tells_on s.NoMemory meant next is = tt
+tells_on s.Done meant next is = absurd is
+tells_on s.Usage meant next is = absurd is
+tells_on s.WriteFault meant next is = absurd is
+
+-- what comes after a rule that gives something
+pub meets_after : {V W B : Type 0} (view : B → W) (meant : Result V Fault) (x : V) (next : V → Result W Fault) (answer : Result B Status) → meant ≡ Ok x → Meets view (next x) answer → Meets view (after meant next) answer
+meets_after view meant x next answer is meets = subst (λ (m : Result _ Fault). Meets view (after m next) answer) (sym is) meets

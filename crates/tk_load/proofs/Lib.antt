@@ -1,0 +1,8 @@
+mod FaultLemmas
+mod LoadLemmas
+mod LogsLemmas
+mod MakingLemmas
+mod NumberedLemmas
+mod ReadLemmas
+mod RetuneLemmas
+pub mod ToldLemmas

@@ -1,0 +1,112 @@
+-- What reads gave, over the counts of the whole.
+use Rattle.std.proofs.Common.{◌≡◌, ℕ, ◌+◌, ◌-◌, ◌^◌, ◌∙◌, ◌<◌, ◌≤◌, Bool, if◌then◌else◌, List, [], Option, Some, None, unwrap_or, IfSome, length, replicate, Result, Ok, Err, ap, sym, refl, subst, arith, inl, inr}
+use Rattle.std.proofs.lemmas.Bool.{cases_lt, le-ltb, lt-ltb}
+use Rattle.std.proofs.lemmas.List.{length-replicate}
+use Rattle.tk_input.specs.Files.{HasRisen}
+use Rattle.tk_load.specs.Faults.{Fault, after, bad_file}
+use Rattle.tk_load.specs.Faults.Fault.{Unread}
+use Rattle.tk_load.specs.Input.{File, bytes_from, bytes_in}
+use Rattle.tk_load.specs.Reads.{AreKept, Gave, IsRead, Meets, Reads, Says}
+use Rattle.tk_load.specs.declared.status.InputKind.TheVariants.{TooLong}
+use Rattle.tk_load.specs.declared.status.Status.{Status}
+use Rattle.tk_load.specs.declared.status.Status.TheVariants as s
+use Rattle.tk_load.proofs.FaultLemmas.{meets_after, tells_of, tells_on}
+
+-- what is told of a file, or nothing, counts as read
+pub gave_told : (told : Option (List ℕ)) (old new : ℕ) → Gave told old new (Some (unwrap_or told []))
+gave_told None old new = tt
+gave_told (Some content) old new = refl
+
+-- a count that rose after it did not fall rose in all
+rises_on : (a b c : ℕ) → a ≤ b → HasRisen b c → b ≤ c → HasRisen a c
+rises_on a b c first next last = λ below. elim (cases_lt b (2 ^ 64 - 1)) [
+  | inl lt ↦ let n = next lt in omega (arith, first, n)
+  | inr ge ↦ omega (arith, below, ge, last)
+]
+
+-- a read before others, and after others
+pub gave_before : (told : Option (List ℕ)) (a b c : ℕ) (content : Option (List ℕ)) → Gave told a b content → b ≤ c → Gave told a c content
+gave_before told a b c None gave kept = λ below. let rose = gave below in omega (arith, rose, kept)
+gave_before told a b c (Some bytes) gave kept = gave
+
+pub gave_after : (told : Option (List ℕ)) (a b c : ℕ) (content : Option (List ℕ)) → a ≤ b → Gave told b c content → b ≤ c → Gave told a c content
+gave_after told a b c None kept gave last = rises_on a b c kept gave last
+gave_after told a b c (Some bytes) kept gave last = gave
+
+-- kept twice
+pub kept_on : (told told2 told3 : List ℕ → Option (List ℕ)) (a b c : List ℕ → ℕ) → AreKept told told2 a b → AreKept told2 told3 b c → AreKept told told3 a c
+kept_on told told2 told3 a b c first next = record {
+  same = λ name. next.same name ∙ first.same name;
+  counts = λ name. let f = first.counts name in let n = next.counts name in omega (arith, f, n);
+}
+
+pub kept_all : (told : List ℕ → Option (List ℕ)) (a : List ℕ → ℕ) → AreKept told told a a
+kept_all told a = record { same = λ name. refl; counts = λ name. omega arith }
+
+pub read_before : (told told2 : List ℕ → Option (List ℕ)) (a b c : List ℕ → ℕ) (file : File) → IsRead told a b file → AreKept told told2 b c → IsRead told a c file
+read_before told told2 a b c file read kept = gave_before (told file.name) (a file.name) (b file.name) (c file.name) file.content read (kept.counts file.name)
+
+pub read_after : (told told2 told3 : List ℕ → Option (List ℕ)) (a b c : List ℕ → ℕ) (file : File) → AreKept told told2 a b → IsRead told2 b c file → AreKept told2 told3 b c → IsRead told a c file
+read_after told told2 told3 a b c file kept read last =
+    gave_after (told file.name) (a file.name) (b file.name) (c file.name) file.content (kept.counts file.name)
+    (subst (λ (t : Option (List ℕ)). Gave t (b file.name) (c file.name) file.content) (kept.same file.name) read)
+    (last.counts file.name)
+
+-- bytes within the limit, and over it
+pub bytes_fit : (name bytes : List ℕ) → length bytes ≤ 67108864 → bytes_from name (Some bytes) ≡ Ok bytes
+bytes_fit name bytes fit = ap (λ (b : Bool). if b then Err (bad_file name TooLong) else Ok bytes) (le-ltb 67108864 (length bytes) fit)
+
+pub bytes_pass : (name bytes : List ℕ) → 67108864 < length bytes → bytes_from name (Some bytes) ≡ Err (bad_file name TooLong)
+bytes_pass name bytes pass = ap (λ (b : Bool). if b then Err (bad_file name TooLong) else Ok bytes) (lt-ltb 67108864 (length bytes) pass)
+
+-- bytes that are too long, of a file that is told or not
+long_of : (n : ℕ) → (bytes : List ℕ) × (n < length bytes)
+long_of n = (replicate (n + 1) 0, omega (arith, length-replicate {A = ℕ} (n + 1) 0))
+
+long_bytes : (told : Option (List ℕ)) (old new : ℕ) → IfSome told (λ content. 67108864 < length content) → (bytes : List ℕ) × Gave told old new (Some bytes) × (67108864 < length bytes)
+long_bytes None old new long = let long_one = long_of 67108864 in (long_one.0, tt, long_one.1)
+long_bytes (Some content) old new long = (content, refl, long)
+
+-- a file that is too long
+pub reads_too_long : {A : Type 0} (view : A → List ℕ) (told : List ℕ → Option (List ℕ)) (old new : List ℕ → ℕ) (name : List ℕ) (status : Status)
+    → IfSome (told name) (λ content. 67108864 < length content) → Says status (bad_file name TooLong) → Reads told old new name view bytes_in (Err status)
+reads_too_long view told old new name status long says =
+    let some = long_bytes (told name) (old name) (new name) long in record {
+      content = Some some.0;
+      read = some.1;
+      meets = tells_of {V = List ℕ} status (bad_file name TooLong) _ says (bytes_pass name some.0 some.2);
+    }
+
+-- a file that was read
+pub reads_bytes : {A : Type 0} (view : A → List ℕ) (told : List ℕ → Option (List ℕ)) (old new : List ℕ → ℕ) (name : List ℕ) (bytes : A)
+    → IfSome (told name) (λ content. view bytes ≡ content) → length (view bytes) ≤ 67108864 → Reads told old new name view bytes_in (Ok bytes)
+reads_bytes view told old new name bytes is fit = record { content = Some (view bytes); read = is; meets = bytes_fit name (view bytes) fit }
+
+-- one that could not be read
+pub reads_failed : {A : Type 0} (view : A → List ℕ) (told : List ℕ → Option (List ℕ)) (old new : List ℕ → ℕ) (name : List ℕ) (status : Status)
+    → HasRisen (old name) (new name) → Says status (Unread name) → Reads told old new name view bytes_in (Err status)
+reads_failed view told old new name status rose says = record { content = None; read = rose; meets = tells_of {V = List ℕ} status (Unread name) _ says refl }
+
+-- want of memory, whatever the file gives
+pub reads_wanting : {A V : Type 0} (view : A → V) (meant : File → Result V Fault) (told : List ℕ → Option (List ℕ)) (old new : List ℕ → ℕ) (name : List ℕ)
+    → Reads told old new name view meant (Err s.NoMemory)
+reads_wanting view meant told old new name = record { content = Some (unwrap_or (told name) []); read = gave_told (told name) (old name) (new name); meets = tt }
+
+-- a file that is refused, whatever comes after
+pub reads_refused : {A B V W : Type 0} (view : A → V) (view' : B → W) (meant : File → Result V Fault) (next : File → V → Result W Fault) (told : List ℕ → Option (List ℕ)) (old new : List ℕ → ℕ) (name : List ℕ) (status : Status)
+    → Reads told old new name view meant (Err status) → Reads told old new name view' (λ file. after (meant file) (next file)) (Err status)
+reads_refused view view' meant next told old new name status reads = record {
+  content = reads.content;
+  read = reads.read;
+  meets = tells_on status (meant (record { name = name; content = reads.content })) (next (record { name = name; content = reads.content })) reads.meets;
+}
+
+-- what is made of a file that gave something
+pub reads_further : {A B V W : Type 0} (view : A → V) (view' : B → W) (meant : File → Result V Fault) (next : File → V → Result W Fault) (told : List ℕ → Option (List ℕ)) (old new : List ℕ → ℕ) (name : List ℕ) (x : A) (answer : Result B Status)
+    → Reads told old new name view meant (Ok x) → ((content : Option (List ℕ)) → Meets view' (next (record { name = name; content = content }) (view x)) answer)
+    → Reads told old new name view' (λ file. after (meant file) (next file)) answer
+reads_further view view' meant next told old new name x answer reads meets = record {
+  content = reads.content;
+  read = reads.read;
+  meets = meets_after view' (meant (record { name = name; content = reads.content })) (view x) (next (record { name = name; content = reads.content })) answer reads.meets (meets reads.content);
+}

@@ -1,0 +1,129 @@
+-- The input of a replay: what its words and its files give, or the first rule that fails in the order of work.
+use Rattle.std.specs.Prelude.{ℕ, ℤ, ◌+◌, max, ◌++◌, nat_lt, if◌then◌else◌, List, [], ◌∷◌, length, map, fold, sum_by, Option, Some, None, option_map, Result, Ok, Err}
+use Rattle.std.specs.List.{zip}
+use Rattle.tk_base.specs.Settings.{Setup, settings_of}
+use Rattle.tk_base.specs.declared.settings.SettingFault.{SettingFault}
+use Rattle.tk_input.specs.Catalog.{catalog_of}
+use Rattle.tk_input.specs.Judged.{Assigned, logs_of}
+use Rattle.tk_input.specs.Log.{log_of}
+use Rattle.tk_input.specs.Logs.{LogSet}
+use Rattle.tk_input.specs.Order.{Ordered, order_of}
+use Rattle.tk_input.specs.Records.{through}
+use Rattle.tk_input.specs.declared.event.Event.{Event}
+use Rattle.tk_input.specs.declared.event.Event.TheVariants.{Raise, Check, Up, Down, Retune}
+use Rattle.tk_words.specs.Words.{ReplayWords}
+use Rattle.tk_load.specs.Faults.{Fault, after, bad_file, catalog_fault, log_fault, logs_fault, order_fault, setting_fault, setting_kind, telling}
+use Rattle.tk_load.specs.Faults.Fault.{Bad, Unread}
+use Rattle.tk_load.specs.declared.input.Input.{Input}
+use Rattle.tk_load.specs.declared.status.InputKind.{InputKind}
+use Rattle.tk_load.specs.declared.status.InputKind.TheVariants.{TooLong, TooManyUpdates}
+
+-- a file of the words, and its content, unless it could not be read
+pub record File : Type 0 where
+  pub name : List ℕ
+  pub content : Option (List ℕ)
+
+-- the words of a replay with their files read
+pub record ReadWords : Type 0 where
+  pub k : ℕ
+  pub epsilon : ℕ
+  pub own_weight : ℕ
+  pub objects : File
+  pub order : Option File
+  pub logs : List (ℕ × File)
+
+-- the bytes of a file, at most 64 MiB
+abbrev pub bytes_from : List ℕ → Option (List ℕ) → Result (List ℕ) Fault
+bytes_from name None = Err (Unread name)
+bytes_from name (Some bytes) = if nat_lt 67108864 (length bytes) then Err (bad_file name TooLong) else Ok bytes
+
+abbrev pub bytes_in : File → Result (List ℕ) Fault
+bytes_in file = bytes_from file.name file.content
+
+-- the names of an objects file
+abbrev pub names_in : File → Result (List (List ℕ)) Fault
+names_in file = after (bytes_in file) (λ bytes. telling (catalog_fault file.name) (catalog_of bytes))
+
+-- the greatest monitor with a log
+abbrev pub greatest_monitor : {X : Type 0} → List (ℕ × X) → ℕ
+greatest_monitor logs = fold (λ last log. max last log.0) 0 logs
+
+-- the settings over so many objects and monitors
+abbrev pub settings_in : ℕ → ℕ → ℕ → ℕ → ℕ → Result Setup Fault
+settings_in k epsilon own_weight objects monitors = telling setting_fault (settings_of k epsilon own_weight objects monitors)
+
+-- the changes of a log over these names
+abbrev pub changes_in : List (List ℕ) → File → Result (List (ℕ × ℤ)) Fault
+changes_in names file = after (bytes_in file) (λ bytes. telling (log_fault file.name) (log_of names bytes))
+
+-- how many changes some logs have
+abbrev pub count_of : Assigned → ℕ
+count_of logs = sum_by (λ log. length log.1) logs
+
+-- the changes of a log, unless there are over 4,000,000 with those before it
+abbrev pub counted : ℕ → List ℕ → List (ℕ × ℤ) → Result (List (ℕ × ℤ)) Fault
+counted before name changes = if nat_lt 4000000 (before + length changes) then Err (bad_file name TooManyUpdates) else Ok changes
+
+abbrev pub changes_after : ℕ → List (List ℕ) → File → Result (List (ℕ × ℤ)) Fault
+changes_after before names file = after (changes_in names file) (counted before file.name)
+
+-- the logs before with a further one
+abbrev pub log_added : List (List ℕ) → Assigned → ℕ × File → Result Assigned Fault
+log_added names before log = after (changes_after (count_of before) names log.1) (λ changes. Ok (before ++ (record { 0 = log.0 }, changes) ∷ []))
+
+-- the logs in the order of the words
+abbrev pub logs_in : List (List ℕ) → List (ℕ × File) → Result Assigned Fault
+logs_in names logs = through (log_added names) [] logs
+
+-- the logs of all monitors together
+abbrev pub joined : Assigned → ℕ → Result LogSet Fault
+joined logs objects = telling logs_fault (logs_of logs objects)
+
+-- what is wrong with the k and epsilon that an event asks for, under the settings
+abbrev pub kind_in : {A : Type 0} → Result A SettingFault → Option InputKind
+kind_in (Ok settings) = None
+kind_in (Err fault) = Some (setting_kind fault)
+
+abbrev pub retune_kind : Setup → Event → Option InputKind
+retune_kind s (Retune asked) = kind_in (settings_of asked.k asked.epsilon 1 s.objects s.monitors)
+retune_kind s (Raise mon f) = None
+retune_kind s (Check mon) = None
+retune_kind s (Up mon) = None
+retune_kind s (Down mon) = None
+
+-- the event of a line, unless it is a retune past the limits
+abbrev pub bad_line : List ℕ → ℕ → Option InputKind → Result (Unit {0}) Fault
+bad_line name line None = Ok tt
+bad_line name line (Some kind) = Err (Bad name line kind)
+
+abbrev pub retune_tested : Setup → List ℕ → Unit {0} → Event × ℕ → Result (Unit {0}) Fault
+retune_tested s name done event = bad_line name event.1 (retune_kind s event.0)
+
+-- each retune of an order does
+abbrev pub retunes_tested : Setup → List ℕ → Ordered → Result (Unit {0}) Fault
+retunes_tested s name order = through (retune_tested s name) tt (zip order.events order.lines)
+
+-- the order of a file
+abbrev pub order_of_bytes : Setup → List ℕ → List ℕ → Result Ordered Fault
+order_of_bytes s name bytes =
+    after (telling (order_fault name) (order_of bytes)) (λ order.
+    after (retunes_tested s name order) (λ done. Ok order))
+
+abbrev pub order_from : Setup → File → Result Ordered Fault
+order_from s file = after (bytes_in file) (order_of_bytes s file.name)
+
+-- the order, where the words name a file of one
+abbrev pub order_in : Setup → Option File → Result (Option Ordered) Fault
+order_in s None = Ok None
+order_in s (Some file) = after (order_from s file) (λ order. Ok (Some order))
+
+-- the input of words whose files are read, or the first rule that fails: the objects, the settings, each log, the logs
+-- together, the order
+abbrev pub input_of : ReadWords → Result Input Fault
+input_of words =
+    after (names_in words.objects) (λ names.
+    after (settings_in words.k words.epsilon words.own_weight (length names) (greatest_monitor words.logs)) (λ settings.
+    after (logs_in names words.logs) (λ logs.
+    after (joined logs (length names)) (λ all.
+    after (order_in settings words.order) (λ order.
+    Ok (record { names = names; settings = settings; logs = all; order = order }))))))

@@ -1,0 +1,96 @@
+-- What reading the files of some words gave, and what is then answered.
+use Rattle.std.specs.Prelude.{ℕ, ◌≡◌, ◌≤◌, List, map, Option, Some, None, option_map, IfSome, All, Result, Ok, Err}
+use Rattle.tk_input.specs.Files.{HasRisen}
+use Rattle.tk_words.specs.Words.{ReplayWords}
+use Rattle.tk_load.specs.Faults.{Fault}
+use Rattle.tk_load.specs.Faults.Fault.{Bad, Great, Unread}
+use Rattle.tk_load.specs.Input.{File, ReadWords, input_of}
+use Rattle.tk_load.specs.declared.input.Input.{Input}
+use Rattle.tk_load.specs.declared.status.Status.{Status}
+use Rattle.tk_load.specs.declared.status.Status.TheVariants as s
+
+-- the words themselves
+abbrev pub log_of : ℕ × File → ℕ × List ℕ
+log_of log = (log.0, log.1.name)
+
+abbrev pub words_of : ReadWords → ReplayWords
+words_of read = record {
+  k = read.k;
+  epsilon = read.epsilon;
+  own_weight = read.own_weight;
+  objects = read.objects.name;
+  order = option_map (λ file. file.name) read.order;
+  logs = map log_of read.logs;
+}
+
+-- a read gave the content that is told, or it failed, and then the faults rose
+abbrev pub Gave : Option (List ℕ) → ℕ → ℕ → Option (List ℕ) → Type 0
+Gave told old new (Some bytes) = IfSome told (λ content. bytes ≡ content)
+Gave told old new None = HasRisen old new
+
+-- the same of a file, by what is told and counted of its name
+abbrev pub IsRead : (List ℕ → Option (List ℕ)) → (List ℕ → ℕ) → (List ℕ → ℕ) → File → Type 0
+IsRead told old new file = Gave (told file.name) (old file.name) (new file.name) file.content
+
+-- each file of the words was read
+pub record AreRead (told : List ℕ → Option (List ℕ)) (old new : List ℕ → ℕ) (words : ReplayWords) (read : ReadWords) : Type 0 where
+  pub same : words_of read ≡ words
+  pub objects : IsRead told old new read.objects
+  pub logs : All (λ log. IsRead told old new log.1) read.logs
+  pub order : IfSome read.order (IsRead told old new)
+
+-- a status tells the fault; want of memory is free
+abbrev pub Tells : {A : Type 0} → Status → Result A Fault → Type 0
+Tells (s.ReadFault file) meant = meant ≡ Err (Unread file.items)
+Tells (s.BadInput file line kind) meant = meant ≡ Err (Bad file.items line kind)
+Tells (s.TooGreat mon obj) meant = meant ≡ Err (Great mon obj)
+Tells s.NoMemory meant = Unit
+Tells s.Done meant = ⊥
+Tells s.Usage meant = ⊥
+Tells s.WriteFault meant = ⊥
+
+-- the same of a fault that there is
+abbrev pub Says : Status → Fault → Type 0
+Says (s.ReadFault file) fault = fault ≡ Unread file.items
+Says (s.BadInput file line kind) fault = fault ≡ Bad file.items line kind
+Says (s.TooGreat mon obj) fault = fault ≡ Great mon obj
+Says s.NoMemory fault = Unit
+Says s.Done fault = ⊥
+Says s.Usage fault = ⊥
+Says s.WriteFault fault = ⊥
+
+-- what is answered is what is meant, or its fault is told
+abbrev pub Meets : {A V : Type 0} → (A → V) → Result V Fault → Result A Status → Type 0
+Meets view meant (Ok x) = meant ≡ Ok (view x)
+Meets view meant (Err status) = Tells status meant
+
+-- a file was read, and what it gives is answered
+pub record Reads {A V : Type 0} (told : List ℕ → Option (List ℕ)) (old new : List ℕ → ℕ) (name : List ℕ) (view : A → V) (meant : File → Result V Fault) (answer : Result A Status) : Type 0 where
+  pub content : Option (List ℕ)
+  pub read : IsRead told old new (record { name = name; content = content })
+  pub meets : Meets view (meant (record { name = name; content = content })) answer
+
+-- the files of the words were read, and the answer is their input, or the first rule that fails
+pub record Loads (told : List ℕ → Option (List ℕ)) (old new : List ℕ → ℕ) (words : ReplayWords) (answer : Result Input Status) : Type 0 where
+  pub read : ReadWords
+  pub are_read : AreRead told old new words read
+  pub meets : Meets (λ input. input) (input_of read) answer
+
+-- logs were read one after the other, and what they give is answered
+pub record ReadsLogs {A V : Type 0} (told : List ℕ → Option (List ℕ)) (old new : List ℕ → ℕ) (names : List (ℕ × List ℕ)) (view : A → V) (meant : List (ℕ × File) → Result V Fault) (answer : Result A Status) : Type 0 where
+  pub logs : List (ℕ × File)
+  pub are_of : map log_of logs ≡ names
+  pub read : All (λ log. IsRead told old new log.1) logs
+  pub meets : Meets view (meant logs) answer
+
+-- an order file was read, where the words name one, and what it gives is answered
+pub record ReadsOrder {A : Type 0} (told : List ℕ → Option (List ℕ)) (old new : List ℕ → ℕ) (name : Option (List ℕ)) (meant : Option File → Result (Option A) Fault) (answer : Result (Option A) Status) : Type 0 where
+  pub file : Option File
+  pub is_of : option_map (λ f. f.name) file ≡ name
+  pub read : IfSome file (IsRead told old new)
+  pub meets : Meets (λ order. order) (meant file) answer
+
+-- reading changes nothing of what is told of the files, and no count of faults falls
+pub record AreKept (told told_then : List ℕ → Option (List ℕ)) (old new : List ℕ → ℕ) : Type 0 where
+  pub same : (name : List ℕ) → told_then name ≡ told name
+  pub counts : (name : List ℕ) → old name ≤ new name

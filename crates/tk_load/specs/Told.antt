@@ -1,0 +1,34 @@
+-- The input over files that tell what they hold.
+use Rattle.std.specs.Prelude.{ℕ, ◌≡◌, List, [], ◌∷◌, ◌++◌, map, Option, Some, None, option_map, All}
+use Rattle.tk_input.specs.Files.{HasRisen}
+use Rattle.tk_words.specs.Words.{ReplayWords}
+use Rattle.tk_load.specs.Input.{File, ReadWords}
+
+-- a file with what stands under its name
+abbrev pub file_by : (List ℕ → List ℕ) → List ℕ → File
+file_by contents name = record { name = name; content = Some (contents name) }
+
+-- some words with what stands under the names of their files
+abbrev pub read_by : (List ℕ → List ℕ) → ReplayWords → ReadWords
+read_by contents words = record {
+  k = words.k;
+  epsilon = words.epsilon;
+  own_weight = words.own_weight;
+  objects = file_by contents words.objects;
+  order = option_map (file_by contents) words.order;
+  logs = map (λ log. (log.0, file_by contents log.1)) words.logs;
+}
+
+-- the file of an order, where there is one
+abbrev pub only : Option (List ℕ) → List (List ℕ)
+only None = []
+only (Some name) = name ∷ []
+
+-- the files of some words, in the order of work
+abbrev pub files_of : ReplayWords → List (List ℕ)
+files_of words = words.objects ∷ (map (λ log. log.1) words.logs ++ only words.order)
+
+-- each file of the words tells what stands under its name, and no read of it failed
+pub record AreTold (told : List ℕ → Option (List ℕ)) (old new : List ℕ → ℕ) (contents : List ℕ → List ℕ) (words : ReplayWords) : Type 0 where
+  pub content : All (λ name. told name ≡ Some (contents name)) (files_of words)
+  pub unfailed : All (λ name. HasRisen (old name) (new name) → ⊥) (files_of words)

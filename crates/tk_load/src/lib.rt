@@ -1,0 +1,24 @@
+//! The input of a run: what its words and the files that they name give, or the first rule that refuses them.
+//!
+//! It promises that an input is exactly what the definition gives to the words and to what each read of a file gave, in
+//! the order of work: the objects, the settings, each log, the logs together, the order; that any other answer but want of
+//! memory is the first rule that fails there; and that the line on standard error is exactly the text of a status. It stands
+//! on tk_input and tk_words, and knows no story. Of a file that does not tell its content, the content is some bytes.
+#![tactic(auto)]
+
+mod changes;
+mod generate;
+mod input;
+mod laws;
+mod making;
+mod reading;
+mod retunes;
+mod settings;
+mod status;
+mod telling;
+
+pub use generate::make;
+pub use input::{Input, load};
+pub use laws::what_is_told_is_meant;
+pub use status::{InputKind, Status};
+pub use telling::fault_line;

@@ -1,0 +1,38 @@
+-- How runs end.
+use Rattle.std.proofs.Common.{◌≡◌, ℕ, List, map, Option, Some, None, Result, Ok, Err, refl, sym, ap, subst, inl, inr}
+use Rattle.tk_input.specs.Sink.{Grows, GrowsByFront}
+use Rattle.tk_words.specs.Words.{Asked, GenerateWords, ReplayWords, words_of}
+use Rattle.tk_words.specs.Words.Asked.{Generates, Replays}
+use Rattle.tk_load.specs.Faults.{Fault}
+use Rattle.tk_load.specs.Reads.{Tells}
+use Rattle.tk_load.specs.declared.input.Input.{Input}
+use Rattle.tk_load.specs.declared.status.Status.{Status}
+use Rattle.tk_load.specs.declared.status.Status.TheVariants as s
+use Rattle.tk_story.specs.Kept.{KeptStory}
+use Rattle.tk_story.specs.Story.{StoryView}
+use Rattle.tk_run.specs.Ends.{Ends, HasRun, IsCutShort, IsStoryOf}
+
+-- a status that tells a fault of the input is not that of a run, nor of its output
+pub not_done : {V : Type 0} (status : Status) (meant : Result V Fault) → Tells status meant → status ≡ s.Done → ⊥
+not_done status meant tells is = subst (λ (status : Status). Tells status meant) is tells
+
+pub not_written : {V : Type 0} (status : Status) (meant : Result V Fault) → Tells status meant → status ≡ s.WriteFault → ⊥
+not_written status meant tells is = subst (λ (status : Status). Tells status meant) is tells
+
+module _ (gives : Result Input Status → Type 0) (text : List (List ℕ) → StoryView → List ℕ) where
+  -- where there is no input, nothing is written
+  pub refused : {V : Type 0} (old : Option (List ℕ)) (status : Status) (meant : Result V Fault) → Tells status meant → gives (Err status) → Ends gives text old old status
+  refused old (s.ReadFault file) meant tells given = (given, refl)
+  refused old (s.BadInput file line kind) meant tells given = (given, refl)
+  refused old (s.TooGreat mon obj) meant tells given = (given, refl)
+  refused old s.NoMemory meant tells given = inl refl
+  refused old s.Done meant tells given = absurd tells
+  refused old s.Usage meant tells given = absurd tells
+  refused old s.WriteFault meant tells given = absurd tells
+
+  module _ (old new : Option (List ℕ)) (input : Input) (given : gives (Ok input)) (kept : KeptStory) (story : IsStoryOf input kept) (names : List (List ℕ)) (same : names ≡ input.names) where
+    pub has_run : Grows old new (text names kept.story) → HasRun gives text old new kept
+    has_run grows = record { input = input; given = given; story = story; written = subst (λ (n : List (List ℕ)). Grows old new (text n kept.story)) same grows }
+
+    pub cut_short : GrowsByFront old new (text names kept.story) → IsCutShort gives text old new
+    cut_short grows = record { input = input; given = given; kept = kept; story = story; written = subst (λ (n : List (List ℕ)). GrowsByFront old new (text n kept.story)) same grows }
