@@ -15,9 +15,7 @@ use tk_coord::Coordinator;
 use tk_frames::Frame;
 use tk_input::{Catalog, Logs, Part};
 use tk_monitor::Monitor;
-use tk_story::{
-    CoordEnd, JoinFault, MonEnd, Received, Story, a_journal_begins_with_its_opening,
-};
+use tk_story::{CoordEnd, JoinFault, MonEnd, Received, Story, a_journal_begins_with_its_opening};
 use tk_trail::MonitorRefusal;
 
 /// What a run of two monitors with one feeder each is over.
