@@ -1,6 +1,6 @@
 -- Statuses that tell faults, and rules one after the other.
-use Rattle.std.proofs.Common.{◌≡◌, ℕ, ◌∙◌, ◌<◌, ◌≤◌, List, Result, Ok, Err, ap, sym, refl, subst, rules, arith}
-use Rattle.tk_load.specs.Faults.{Fault, after, telling}
+use Rattle.std.proofs.Common.{◌≡◌, ◌∙◌, Result, Ok, Err, ap, sym, subst}
+use Rattle.tk_load.specs.Faults.{Fault, after}
 use Rattle.tk_load.specs.Reads.{Meets, Says, Tells}
 use Rattle.tk_load.specs.declared.status.Status.{Status}
 use Rattle.tk_load.specs.declared.status.Status.TheVariants as s

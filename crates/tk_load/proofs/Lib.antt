@@ -1,3 +1,4 @@
+mod Examples
 mod FaultLemmas
 mod LoadLemmas
 mod LogsLemmas
@@ -6,3 +7,4 @@ mod NumberedLemmas
 mod ReadLemmas
 mod RetuneLemmas
 pub mod ToldLemmas
+mod UnreadLemmas

@@ -1,5 +1,5 @@
 -- The input, from what each stage of the work gave.
-use Rattle.std.proofs.Common.{◌≡◌, ℕ, max, ℤ, List, [], All, Option, Some, None, IfSome, unwrap_or, option_map, Result, Ok, Err, get_or, length, map, refl, ap, sym, subst, ◌∙◌, arith}
+use Rattle.std.proofs.Common.{◌≡◌, ℕ, max, List, [], All, Option, Some, None, IfSome, unwrap_or, option_map, Result, Ok, Err, get_or, length, map, refl, ap, sym, subst, ◌∙◌, arith}
 use Rattle.std.proofs.lemmas.List.Folds.{fold-map}
 use Rattle.tk_base.specs.Settings.{Setup}
 use Rattle.tk_input.specs.Judged.{Assigned}
@@ -9,7 +9,7 @@ use Rattle.tk_input.specs.Records.{and_then}
 use Rattle.tk_words.specs.Words.{ReplayWords}
 use Rattle.tk_load.specs.Faults.{Fault, after}
 use Rattle.tk_load.specs.Input.{File, ReadWords, greatest_monitor, input_of, joined, logs_in, names_in, order_in, settings_in}
-use Rattle.tk_load.specs.Reads.{AreKept, AreRead, IsRead, Loads, Meets, Reads, ReadsLogs, ReadsOrder, Tells, log_of, words_of}
+use Rattle.tk_load.specs.Reads.{AreKept, AreRead, IsRead, Loads, Reads, ReadsLogs, ReadsOrder, Tells, log_of, words_of}
 use Rattle.tk_load.specs.declared.input.Input.{Input}
 use Rattle.tk_load.specs.declared.status.Status.{Status}
 use Rattle.tk_load.proofs.FaultLemmas.{tells_on}

@@ -1,5 +1,5 @@
 -- Logs that are read one after the other.
-use Rattle.std.proofs.Common.{◌≡◌, ℕ, ◌+◌, ◌<◌, ◌≤◌, ℤ, List, [], ◌∷◌, ◌++◌, All, Bor, Option, Some, Result, Ok, Err, IsErrAnd, unwrap_or, get_or, length, map, max, take, drop, add-one, zero-add, refl, ap, sym, subst, ◌∙◌, arith}
+use Rattle.std.proofs.Common.{◌≡◌, ℕ, ◌+◌, ◌<◌, ℤ, List, [], ◌∷◌, ◌++◌, All, Bor, Option, Some, Result, Ok, Err, IsErrAnd, unwrap_or, get_or, length, map, max, take, drop, add-one, zero-add, refl, ap, sym, subst, ◌∙◌, arith}
 use Rattle.std.proofs.Math.Seq.{take-suc}
 use Rattle.std.proofs.lemmas.List.{map-append, take-append-drop}
 use Rattle.std.proofs.lemmas.List.Sums.{fold_push, sum_by-append}
@@ -10,7 +10,7 @@ use Rattle.tk_input.specs.Records.{and_then, through}
 use Rattle.tk_words.specs.Asked.{asked_logs}
 use Rattle.tk_load.specs.Faults.{Fault}
 use Rattle.tk_load.specs.Input.{File, changes_after, count_of, greatest_monitor, log_added, logs_in}
-use Rattle.tk_load.specs.Reads.{AreKept, IsRead, Meets, Reads, ReadsLogs, Tells, log_of}
+use Rattle.tk_load.specs.Reads.{AreKept, IsRead, Reads, ReadsLogs, Tells, log_of}
 use Rattle.tk_load.specs.declared.status.Status.{Status}
 use Rattle.tk_load.specs.declared.status.Status.TheVariants as s
 use Rattle.tk_load.proofs.FaultLemmas.{tells_on}

@@ -1,10 +1,10 @@
 -- The catalogue of the names o1, o2, .., one a line, is those names.
-use Rattle.std.proofs.Common.{◌≡◌, ℕ, zero, suc, ◌+◌, ◌-◌, ◌^◌, ◌<◌, ◌≤◌, Bool, true, false, not, ◌&&◌, ◌||◌, ◌==◌, List, [], ◌∷◌, ◌++◌, All, length, map, get_or, Option, Some, None, Result, Ok, Err, add-zero, zero-add, codes, decimal, refl, ap, sym, subst, ◌∙◌, arith, inl, inr}
+use Rattle.std.proofs.Common.{◌≡◌, ℕ, zero, suc, ◌+◌, ◌^◌, ◌<◌, ◌≤◌, Bool, true, false, ◌&&◌, List, [], ◌∷◌, ◌++◌, length, map, Some, None, Ok, add-zero, zero-add, codes, decimal, refl, ap, sym, subst, ◌∙◌, arith}
 use Rattle.std.specs.Prelude.{bytes_eq, flat_map, nat_le}
 use Rattle.std.specs.List.{list_all, list_any, range_with_len}
 use Rattle.std.specs.Int.Digits.{AllBelowBase, digits_of}
 use Rattle.std.proofs.lemmas.Bool.{le-leb, lt-leb, lt-ltb, ne_eqb}
-use Rattle.std.proofs.lemmas.Fmt.{decimal-digits_of, decimal_injective, decimal_nonempty, length-decimal-le}
+use Rattle.std.proofs.lemmas.Fmt.{decimal-digits_of, decimal_injective, length-decimal-le}
 use Rattle.std.proofs.lemmas.Int.Digits.{all_below_base_digits_of}
 use Rattle.std.proofs.lemmas.List.{append-nil, append_assoc, length-append, length-map}
 use Rattle.std.proofs.lemmas.List.Elements.{All-map}
@@ -16,8 +16,7 @@ use Rattle.csv.specs.Reading.{default_config, records_from, records_next, strip_
 use Rattle.csv.specs.Writing.{default_writer, needs_byte}
 use Rattle.csv.specs.declared.parser.State.TheVariants as st
 use Rattle.csv.proofs.RoundTrip.{plain-run, record-same, start-same}
-use Rattle.tk_input.specs.Catalog.{catalog_of, is_name, name_added, some_names, with_name}
-use Rattle.tk_input.specs.declared.catalog.CatalogFault.{CatalogFault}
+use Rattle.tk_input.specs.Catalog.{catalog_of, is_name, name_added, some_names}
 use Rattle.tk_input.specs.Records.{and_then, records_in, through}
 use Rattle.tk_input.proofs.ThroughLemmas.{through-none, through-some}
 use Rattle.tk_load.specs.Generated.{name_of, names_made, names_text}

@@ -1,5 +1,5 @@
 -- What reads gave, over the counts of the whole.
-use Rattle.std.proofs.Common.{◌≡◌, ℕ, ◌+◌, ◌-◌, ◌^◌, ◌∙◌, ◌<◌, ◌≤◌, Bool, if◌then◌else◌, List, [], Option, Some, None, unwrap_or, IfSome, length, replicate, Result, Ok, Err, ap, sym, refl, subst, arith, inl, inr}
+use Rattle.std.proofs.Common.{◌≡◌, ℕ, ◌+◌, ◌-◌, ◌^◌, ◌∙◌, ◌<◌, ◌≤◌, Bool, if◌then◌else◌, List, [], Option, Some, None, unwrap_or, IfSome, length, replicate, Result, Ok, Err, ap, refl, subst, arith, inl, inr}
 use Rattle.std.proofs.lemmas.Bool.{cases_lt, le-ltb, lt-ltb}
 use Rattle.std.proofs.lemmas.List.{length-replicate}
 use Rattle.tk_input.specs.Files.{HasRisen}

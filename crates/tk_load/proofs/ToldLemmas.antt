@@ -1,11 +1,11 @@
 -- Files that tell what they hold are read as they tell.
-use Rattle.std.proofs.Common.{◌≡◌, ℕ, suc, ◌<◌, List, [], ◌∷◌, ◌++◌, All, Option, Some, None, IfSome, option_map, Result, length, map, refl, ap, sym, subst, ◌∙◌, arith}
+use Rattle.std.proofs.Common.{◌≡◌, ℕ, suc, List, [], ◌∷◌, ◌++◌, All, Option, Some, None, IfSome, option_map, Result, map, refl, ap, sym, subst, ◌∙◌, arith}
 use Rattle.std.proofs.lemmas.List.Elements.{All-head}
 use Rattle.tk_input.specs.Files.{HasRisen}
 use Rattle.tk_words.specs.Words.{ReplayWords}
 use Rattle.tk_load.specs.Input.{File, ReadWords, input_of}
 use Rattle.tk_load.specs.Reads.{AreRead, Gave, IsRead, Loads, Meets, log_of, words_of}
-use Rattle.tk_load.specs.Told.{AreTold, file_by, files_of, only, read_by}
+use Rattle.tk_load.specs.Told.{AreTold, file_by, only, read_by}
 use Rattle.tk_load.specs.declared.input.Input.{Input}
 use Rattle.tk_load.specs.declared.status.Status.{Status}
 

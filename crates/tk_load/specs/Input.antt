@@ -1,5 +1,5 @@
 -- The input of a replay: what its words and its files give, or the first rule that fails in the order of work.
-use Rattle.std.specs.Prelude.{ℕ, ℤ, ◌+◌, max, ◌++◌, nat_lt, if◌then◌else◌, List, [], ◌∷◌, length, map, fold, sum_by, Option, Some, None, option_map, Result, Ok, Err}
+use Rattle.std.specs.Prelude.{ℕ, ℤ, ◌+◌, max, ◌++◌, nat_lt, if◌then◌else◌, List, [], ◌∷◌, length, fold, sum_by, Option, Some, None, Result, Ok, Err}
 use Rattle.std.specs.List.{zip}
 use Rattle.tk_base.specs.Settings.{Setup, settings_of}
 use Rattle.tk_base.specs.declared.settings.SettingFault.{SettingFault}
@@ -11,7 +11,6 @@ use Rattle.tk_input.specs.Order.{Ordered, order_of}
 use Rattle.tk_input.specs.Records.{through}
 use Rattle.tk_input.specs.declared.event.Event.{Event}
 use Rattle.tk_input.specs.declared.event.Event.TheVariants.{Raise, Check, Up, Down, Retune}
-use Rattle.tk_words.specs.Words.{ReplayWords}
 use Rattle.tk_load.specs.Faults.{Fault, after, bad_file, catalog_fault, log_fault, logs_fault, order_fault, setting_fault, setting_kind, telling}
 use Rattle.tk_load.specs.Faults.Fault.{Bad, Unread}
 use Rattle.tk_load.specs.declared.input.Input.{Input}

@@ -1,8 +1,10 @@
 -- The input over files that tell what they hold.
-use Rattle.std.specs.Prelude.{ℕ, ◌≡◌, List, [], ◌∷◌, ◌++◌, map, Option, Some, None, option_map, All}
+use Rattle.std.specs.Prelude.{ℕ, ◌≡◌, List, [], ◌∷◌, ◌++◌, map, Option, Some, None, option_map, All, Contains}
 use Rattle.tk_input.specs.Files.{HasRisen}
 use Rattle.tk_words.specs.Words.{ReplayWords}
 use Rattle.tk_load.specs.Input.{File, ReadWords}
+use Rattle.tk_load.specs.declared.status.Status.{Status}
+use Rattle.tk_load.specs.declared.status.Status.TheVariants as s
 
 -- a file with what stands under its name
 abbrev pub file_by : (List ℕ → List ℕ) → List ℕ → File
@@ -32,3 +34,13 @@ files_of words = words.objects ∷ (map (λ log. log.1) words.logs ++ only words
 pub record AreTold (told : List ℕ → Option (List ℕ)) (old new : List ℕ → ℕ) (contents : List ℕ → List ℕ) (words : ReplayWords) : Type 0 where
   pub content : All (λ name. told name ≡ Some (contents name)) (files_of words)
   pub unfailed : All (λ name. HasRisen (old name) (new name) → ⊥) (files_of words)
+
+-- a file that is told to be unreadable is one of the words, and its faults rose
+abbrev pub IsCounted : ReplayWords → (List ℕ → ℕ) → (List ℕ → ℕ) → Status → Type 0
+IsCounted words old new (s.ReadFault file) = Contains (files_of words) file.items × HasRisen (old file.items) (new file.items)
+IsCounted words old new s.Done = Unit
+IsCounted words old new s.Usage = Unit
+IsCounted words old new (s.BadInput file line kind) = Unit
+IsCounted words old new (s.TooGreat mon obj) = Unit
+IsCounted words old new s.WriteFault = Unit
+IsCounted words old new s.NoMemory = Unit

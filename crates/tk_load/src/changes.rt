@@ -22,7 +22,8 @@ fn read_part<F: Files>(
 ) -> Result<Part, Status>
     ensures objects { IfOk result (λ p. All (λ c. IsObject (length names.now) c.0) p) }
     ensures most { IfOk result (λ p. length p ≤ 1000000) }
-    ensures read { Reads (F.content files.old) (F.fault_count files.old) (F.fault_count files.new) file.now (λ p. p) (changes_in names.now) result }
+    ensures read { Reads (F.content files.old) (F.fault_count files.old) (F.fault_count files.new)
+        file.now (λ p. p) (changes_in names.now) result }
     ensures kept { AreKept (F.content files.old) (F.content files.new) (F.fault_count files.old) (F.fault_count files.new) }
 {
     match read(alloc, files, file) {
@@ -43,7 +44,8 @@ fn next_part<F: Files>(
     ensures objects { IfOk result (λ p. All (λ c. IsObject (length names.now) c.0) p) }
     ensures most { IfOk result (λ p. length p ≤ 1000000) }
     ensures few { IfOk result (λ p. before + length p ≤ 4000000) }
-    ensures read { Reads (F.content files.old) (F.fault_count files.old) (F.fault_count files.new) file.now (λ p. p) (changes_after before names.now) result }
+    ensures read { Reads (F.content files.old) (F.fault_count files.old) (F.fault_count files.new)
+        file.now (λ p. p) (changes_after before names.now) result }
     ensures kept { AreKept (F.content files.old) (F.content files.new) (F.fault_count files.old) (F.fault_count files.new) }
 {
     let part = match read_part(alloc, names, files, file) {
@@ -68,7 +70,8 @@ pub fn parts_of<F: Files>(
     ensures last { IfOk result (λ parts. last_monitor parts.items ≡ greatest_monitor (asked_logs words.now)) }
     ensures objects { IfOk result (λ parts. All (λ p. All (λ c. IsObject (length names.now) c.0) p.1) parts.items) }
     ensures lengths { IfOk result (λ parts. All (λ p. length p.1 ≤ 1000000) parts.items) }
-    ensures read { ReadsLogs (F.content files.old) (F.fault_count files.old) (F.fault_count files.new) (asked_logs words.now) (λ parts. parts.items) (logs_in names.now) result }
+    ensures read { ReadsLogs (F.content files.old) (F.fault_count files.old) (F.fault_count files.new)
+        (asked_logs words.now) (λ parts. parts.items) (logs_in names.now) result }
     ensures kept { AreKept (F.content files.old) (F.content files.new) (F.fault_count files.old) (F.fault_count files.new) }
 {
     let mut parts = Vec::new(alloc);

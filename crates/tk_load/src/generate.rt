@@ -65,7 +65,8 @@ fn made_logs(alloc: Global, words: &Generate, settings: &Settings) -> Result<Log
     requires few { words.now.updates ≤ 1000000 }
     ensures objects { IfOk result (λ s. s.objects ≡ settings.now.objects) }
     ensures monitors { IfOk result (λ s. length s.logs ≡ settings.now.monitors) }
-    ensures meets { Meets (λ s. s) (joined (logs_made words.now.monitors (made words.now.monitors words.now.objects words.now.updates words.now.seed)) words.now.objects) result }
+    ensures meets { Meets (λ s. s)
+        (joined (logs_made words.now.monitors (made words.now.monitors words.now.objects words.now.updates words.now.seed)) words.now.objects) result }
 {
     let count = words.updates as u32;
     let monitors = settings.monitors();

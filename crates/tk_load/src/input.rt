@@ -31,7 +31,8 @@ fn monitors_of(logs: &[(Mon, &str)]) -> u32
 }
 
 fn read_names<F: Files>(alloc: Global, files: &mut F, file: &str) -> Result<Catalog, Status>
-    ensures read { Reads (F.content files.old) (F.fault_count files.old) (F.fault_count files.new) file.now (λ names. names) names_in result }
+    ensures read { Reads (F.content files.old) (F.fault_count files.old) (F.fault_count files.new)
+        file.now (λ names. names) names_in result }
     ensures kept { AreKept (F.content files.old) (F.content files.new) (F.fault_count files.old) (F.fault_count files.new) }
 {
     match read(alloc, files, file) {
@@ -43,7 +44,8 @@ fn read_names<F: Files>(alloc: Global, files: &mut F, file: &str) -> Result<Cata
 fn settings_of(alloc: Global, words: &Replay<'_>, names: &Catalog) -> Result<Settings, Status>
     ensures objects { IfOk result (λ s. s.objects ≡ length names.now) }
     ensures monitors { IfOk result (λ s. s.monitors ≡ greatest_monitor (asked_logs words.now.logs.items)) }
-    ensures meets { Meets (λ s. s) (settings_in words.now.k words.now.epsilon words.now.own_weight (length names.now) (greatest_monitor (asked_logs words.now.logs.items))) result }
+    ensures meets { Meets (λ s. s)
+        (settings_in words.now.k words.now.epsilon words.now.own_weight (length names.now) (greatest_monitor (asked_logs words.now.logs.items))) result }
 {
     let monitors = u64::from(monitors_of(words.logs.as_slice()));
     let objects = names.len() as u64;
@@ -61,7 +63,8 @@ fn settings_of(alloc: Global, words: &Replay<'_>, names: &Catalog) -> Result<Set
 pub fn load<F: Files>(alloc: Global, words: &Replay<'_>, files: &mut F) -> Result<Input, Status>
     requires { AreOfMonitors words.now.logs.items }
     ensures agreed { IfOk result (λ input. AreAgreed input.names input.settings input.logs) }
-    ensures read { Loads (F.content files.old) (F.fault_count files.old) (F.fault_count files.new) (asked_replay words.now) result }
+    ensures read { Loads (F.content files.old) (F.fault_count files.old) (F.fault_count files.new)
+        (asked_replay words.now) result }
     ensures kept { AreKept (F.content files.old) (F.content files.new) (F.fault_count files.old) (F.fault_count files.new) }
 {
     let names = match read_names(alloc, files, words.objects) {

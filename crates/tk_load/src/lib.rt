@@ -19,6 +19,6 @@ mod telling;
 
 pub use generate::make;
 pub use input::{Input, load};
-pub use laws::what_is_told_is_meant;
+pub use laws::{an_unreadable_file_is_counted, what_is_told_is_meant};
 pub use status::{InputKind, Status};
 pub use telling::fault_line;

@@ -35,7 +35,8 @@ pub fn bad_whole(alloc: Global, kind: InputKind) -> Status
 
 /// The whole content of a file.
 pub fn read<F: Files>(alloc: Global, files: &mut F, file: &str) -> Result<Vec<u8>, Status>
-    ensures read { Reads (F.content files.old) (F.fault_count files.old) (F.fault_count files.new) file.now (λ v. v.items) bytes_in result }
+    ensures read { Reads (F.content files.old) (F.fault_count files.old) (F.fault_count files.new)
+        file.now (λ v. v.items) bytes_in result }
     ensures kept { AreKept (F.content files.old) (F.content files.new) (F.fault_count files.old) (F.fault_count files.new) }
 {
     match files.read_all(alloc, file) {

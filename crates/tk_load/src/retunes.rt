@@ -67,7 +67,8 @@ fn order_from_file<F: Files>(
     files: &mut F,
     file: &str,
 ) -> Result<Order, Status>
-    ensures read { Reads (F.content files.old) (F.fault_count files.old) (F.fault_count files.new) file.now (λ order. order) (order_from settings.now) result }
+    ensures read { Reads (F.content files.old) (F.fault_count files.old) (F.fault_count files.new)
+        file.now (λ order. order) (order_from settings.now) result }
     ensures kept { AreKept (F.content files.old) (F.content files.new) (F.fault_count files.old) (F.fault_count files.new) }
 {
     match read(alloc, files, file) {
@@ -83,7 +84,8 @@ pub fn read_order<F: Files>(
     files: &mut F,
     file: Option<&str>,
 ) -> Result<Option<Order>, Status>
-    ensures read { ReadsOrder (F.content files.old) (F.fault_count files.old) (F.fault_count files.new) (option_map (λ s. s.now) file.entry) (order_in settings.now) result }
+    ensures read { ReadsOrder (F.content files.old) (F.fault_count files.old) (F.fault_count files.new)
+        (option_map (λ s. s.now) file.entry) (order_in settings.now) result }
     ensures kept { AreKept (F.content files.old) (F.content files.new) (F.fault_count files.old) (F.fault_count files.new) }
 {
     let Some(file) = file else {

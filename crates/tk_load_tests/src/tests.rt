@@ -27,10 +27,10 @@ const FILES: [(&str, &str); 18] = [
     ("both.txt", "retune 0 0\nraise\n"),
 ];
 
-/// What is told of these words, which single spaces part.
-fn told(alloc: Global, words: &str, files: &mut MapFiles) -> Result<Vec<u8>, Fail> {
+/// What is told of these words, which spaces part.
+fn told_of(alloc: Global, words: &str, files: &mut MapFiles) -> Result<Vec<u8>, Fail> {
     let mut list = Vec::new(alloc);
-    for word in words.split(' ') {
+    for word in words.split_whitespace() {
         list.push(String::from_str(alloc, word)?)?;
     }
     let outcome = match read(alloc, list.as_slice()) {
@@ -153,7 +153,7 @@ fn what_is_refused_is_told(rt: HostRuntime) -> Result<(), Fail> {
     let mut files = small_files(rt.alloc())?;
     for (words, line) in rows {
         let words = format!(in rt.alloc(); "replay --epsilon 0 {words}")?;
-        let told = told(rt.alloc(), words.as_str(), &mut files)?;
+        let told = told_of(rt.alloc(), words.as_str(), &mut files)?;
         assert_eq!(rt; told.as_slice(), line.as_bytes(), "{words}");
     }
     Ok(())
@@ -202,7 +202,7 @@ fn of_two_faults_the_first_in_the_order_of_work_is_told(rt: HostRuntime) -> Resu
     let mut files = small_files(rt.alloc())?;
     for (words, line) in rows {
         let words = format!(in rt.alloc(); "replay --epsilon 0 {words}")?;
-        let told = told(rt.alloc(), words.as_str(), &mut files)?;
+        let told = told_of(rt.alloc(), words.as_str(), &mut files)?;
         assert_eq!(rt; told.as_slice(), line.as_bytes(), "{words}");
     }
     Ok(())
@@ -235,7 +235,7 @@ fn what_a_generated_run_refuses_is_told(rt: HostRuntime) -> Result<(), Fail> {
     let mut files = small_files(rt.alloc())?;
     for (words, line) in rows {
         let words = format!(in rt.alloc(); "gen --seed 7 {words}")?;
-        let told = told(rt.alloc(), words.as_str(), &mut files)?;
+        let told = told_of(rt.alloc(), words.as_str(), &mut files)?;
         assert_eq!(rt; told.as_slice(), line.as_bytes(), "{words}");
     }
     Ok(())
@@ -274,7 +274,7 @@ fn what_is_too_long_is_told(rt: HostRuntime) -> Result<(), Fail> {
     ];
     for (words, line) in rows {
         let words = format!(in alloc; "replay --k 1 --epsilon 0 --objects {words}")?;
-        let told = told(alloc, words.as_str(), &mut files)?;
+        let told = told_of(alloc, words.as_str(), &mut files)?;
         assert_eq!(rt; told.as_slice(), line.as_bytes(), "{words}");
     }
     Ok(())

@@ -39,7 +39,8 @@ pub fn an_input_has_one_story()
 /// Where the words of a replay and the contents of its files give an input, no read of these files fails and the output
 /// is written, the run is done, or no memory was found.
 pub fn an_input_is_run()
-    ensures { (words : List (List ℕ)) (asked : ReplayWords) (told : List ℕ → Option (List ℕ)) (old new : List ℕ → ℕ) (before after : Option (List ℕ)) (contents : List ℕ → List ℕ) (input : Input) (status : Status)
+    ensures { (words : List (List ℕ)) (asked : ReplayWords) (told : List ℕ → Option (List ℕ)) (old new : List ℕ → ℕ)
+        (before after : Option (List ℕ)) (contents : List ℕ → List ℕ) (input : Input) (status : Status)
         → words_of words ≡ Some (Replays asked) → AreTold told old new contents asked → input_of (read_by contents asked) ≡ Ok input
         → (status ≡ NotWritten → ⊥) → EndsWords words told old new before after status → IsDone status }
 {}

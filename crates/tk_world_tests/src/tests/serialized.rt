@@ -1,17 +1,50 @@
 //! A story comes back from the list of its events.
 
 use super::{Does, play, settle, world};
+use std::alloc::Global;
 use std::test::Fail;
 use tk_base::Mon;
 use tk_journal::Noted;
+use tk_story::Story;
 use tk_trail::Entry;
-use tk_world::{Moved, serialize};
+use tk_world::{Moved, World, serialize};
+
+fn fresh(alloc: Global) -> Result<World, Fail> {
+    world(alloc, b"a,5\n", b"b,3\n", &[0, 0])
+}
+
+/// A story of both changes, with a list of events of `serialize`.
+fn listed(alloc: Global) -> Result<Story, Fail> {
+    let mut world = fresh(alloc)?;
+    settle(alloc, &mut world)?;
+    play(alloc, &mut world, &[Does::Raise(1, 1), Does::Raise(2, 1)])?;
+    settle(alloc, &mut world)?;
+    let story = world.into_story()?;
+    match serialize(alloc, story) {
+        Ok(story) => Ok(story),
+        Err(_) => Err("out of memory")?,
+    }
+}
+
+/// What a new world does with its events.
+fn again(alloc: Global, story: &Story) -> Result<Story, Fail> {
+    let mut world = fresh(alloc)?;
+    for event in story.events() {
+        let event = event.try_clone()?;
+        if world.step(event)? == Moved::Idle {
+            return Err("idle")?;
+        }
+    }
+    let story = world.into_story()?;
+    Ok(story)
+}
 
 fn is_same_entry(one: &Noted, other: &Noted) -> bool {
     match (one, other) {
         (Noted::Got(from, frame), Noted::Got(by, same)) => from == by && frame.get() == same.get(),
-        (Noted::Sent(to, frame), Noted::Sent(also, same)) => to == also
-            && frame.get() == same.get(),
+        (Noted::Sent(to, frame), Noted::Sent(also, same)) => {
+            to == also && frame.get() == same.get()
+        }
         (Noted::Published(said), Noted::Published(same)) => said.get().number == same.get().number,
         _ => false,
     }
@@ -42,28 +75,20 @@ fn are_same_trails(one: &[Entry], other: &[Entry]) -> bool {
     same
 }
 
+/// Whether their journals are the same, and the trails of both monitors.
+fn are_same(one: &Story, other: &Story) -> bool {
+    if one.settings().monitors() != 2 || other.settings().monitors() != 2 {
+        return false;
+    }
+    are_same_journals(one.journal(), other.journal())
+        && are_same_trails(one.trail(Mon(1)), other.trail(Mon(1)))
+        && are_same_trails(one.trail(Mon(2)), other.trail(Mon(2)))
+}
+
 #[test]
 fn its_events_give_the_same_journal_and_trails(rt: HostRuntime) -> Result<(), Fail> {
-    let alloc = rt.alloc();
-    let mut first = world(alloc, b"a,5\n", b"b,3\n", &[0, 0])?;
-    settle(alloc, &mut first)?;
-    play(alloc, &mut first, &[Does::Raise(1, 1), Does::Raise(2, 1)])?;
-    settle(alloc, &mut first)?;
-    let Ok(story) = serialize(alloc, first.into_story()?) else {
-        return Err("out of memory")?;
-    };
-    let mut again = world(alloc, b"a,5\n", b"b,3\n", &[0, 0])?;
-    for event in story.events() {
-        if again.step(event.try_clone()?)? == Moved::Idle {
-            return Err("idle")?;
-        }
-    }
-    let other = again.into_story()?;
-    assert!(rt; are_same_journals(story.journal(), other.journal()));
-    if story.settings().monitors() != 2 || other.settings().monitors() != 2 {
-        return Err("other settings")?;
-    }
-    assert!(rt; are_same_trails(story.trail(Mon(1)), other.trail(Mon(1))));
-    assert!(rt; are_same_trails(story.trail(Mon(2)), other.trail(Mon(2))));
+    let story = listed(rt.alloc())?;
+    let other = again(rt.alloc(), &story)?;
+    assert!(rt; are_same(&story, &other));
     Ok(())
 }

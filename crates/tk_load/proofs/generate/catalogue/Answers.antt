@@ -1,6 +1,5 @@
-use Rattle.std.proofs.Common.{◌≡◌, ℕ, List, Ok, ap, sym, ◌∙◌}
+use Rattle.std.proofs.Common.{ℕ, List, ap, ◌∙◌}
 use Rattle.tk_input.specs.Catalog.{catalog_of}
-use Rattle.tk_load.specs.Generated.{names_made}
 use Rattle.tk_load.proofs.NumberedLemmas.{catalog_numbered}
 use Rattle.tk_load.proofs.generate.catalogue.Goals as goal
 

@@ -1,8 +1,8 @@
-use Rattle.std.proofs.Common.{◌≡◌, ℕ, List, IfOk, length, ap, sym, subst, ◌∙◌, refl}
+use Rattle.std.proofs.Common.{◌≡◌, ℕ, List, IfOk, length, ap, subst, ◌∙◌, refl}
 use Rattle.std.specs.Prelude.{map}
 use Rattle.tk_input.specs.Judged.{Assigned, last_monitor}
 use Rattle.tk_input.specs.Logs.{LogSet}
-use Rattle.tk_load.specs.Generated.{Update, made, shown}
+use Rattle.tk_load.specs.Generated.{shown}
 use Rattle.tk_load.specs.Input.{joined}
 use Rattle.tk_load.specs.Reads.{Meets}
 use Rattle.tk_load.specs.declared.making.Update.{Update as Made}

@@ -1,4 +1,4 @@
-use Rattle.std.proofs.Common.{◌≡◌, ℕ, List, Bor, Ok, length, ap, subst, sym}
+use Rattle.std.proofs.Common.{◌≡◌, ℕ, List, Bor, Ok, ap, subst}
 use Rattle.tk_base.specs.declared.ids.Mon.{Mon}
 use Rattle.tk_words.specs.Asked.{asked_logs, asked_replay}
 use Rattle.tk_load.specs.Input.{joined}

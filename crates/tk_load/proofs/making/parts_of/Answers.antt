@@ -1,9 +1,7 @@
-use Rattle.std.proofs.Common.{◌≡◌, ℕ, ◌+◌, ◌≤◌, ◌∷◌, [], ◌++◌, ℤ, List, All, length, map, ap, ◌∙◌, rules, arith}
+use Rattle.std.proofs.Common.{◌≡◌, ℕ, ◌+◌, ◌≤◌, ◌∷◌, [], ◌++◌, ℤ, List, All, length, ◌∙◌, arith}
 use Rattle.std.proofs.lemmas.List.Elements.{All-push}
 use Rattle.tk_base.specs.declared.ids.Mon.{Mon}
-use Rattle.tk_input.specs.Judged.{Assigned}
 use Rattle.tk_input.specs.Logs.{IsObject}
-use Rattle.tk_load.specs.Generated.{shown}
 use Rattle.tk_load.proofs.MakingLemmas.{one_log}
 use Rattle.tk_load.proofs.making.parts_of.Goals as goal
 
