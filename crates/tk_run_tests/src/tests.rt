@@ -1,6 +1,7 @@
 //! Runs of two monitors over the objects a and b, k 1 and epsilon 0.
 
 use std::alloc::Global;
+use std::process::Abort;
 use std::test::Fail;
 use tk_input::{MapFiles, VecSink};
 use tk_run::{fault_line, run};
@@ -57,20 +58,19 @@ fn two_monitors(rt: HostRuntime) -> Result<(), Fail> {
     Ok(())
 }
 
+/// Where this read fails, the run tells so and writes nothing.
+fn tells_of_read(rt: &impl Abort, alloc: Global, read: u64, text: &[u8]) -> Result<(), Fail> {
+    let (line, sink) = ran(alloc, read, TEXT.len(), 0)?;
+    assert_eq!(rt; (line.as_slice(), sink.written()), (text, b"".as_slice()));
+    Ok(())
+}
+
 #[test]
 fn a_failed_read_writes_nothing(rt: HostRuntime) -> Result<(), Fail> {
-    let rows = [
-        (1, "topk: objects.csv: cannot be read"),
-        (2, "topk: one.csv: cannot be read"),
-        (3, "topk: two.csv: cannot be read"),
-    ];
-    for (read, text) in rows {
-        let (line, sink) = ran(rt.alloc(), read, TEXT.len(), 0)?;
-        assert_eq!(rt;
-            (line.as_slice(), sink.written()),
-            (text.as_bytes(), b"".as_slice())
-        );
-    }
+    let alloc = rt.alloc();
+    tells_of_read(&rt, alloc, 1, b"topk: objects.csv: cannot be read")?;
+    tells_of_read(&rt, alloc, 2, b"topk: one.csv: cannot be read")?;
+    tells_of_read(&rt, alloc, 3, b"topk: two.csv: cannot be read")?;
     Ok(())
 }
 
