@@ -61,13 +61,13 @@ fn two_monitors(rt: HostRuntime) -> Result<(), Fail> {
 fn a_failed_read_writes_nothing(rt: HostRuntime) -> Result<(), Fail> {
     let (line, sink) = ran(rt.alloc(), 1, TEXT.len(), 0)?;
     let told = line.as_slice() == b"topk: objects.csv: cannot be read".as_slice();
-    assert_eq!(rt; (told, sink.written()), (true, b"".as_slice()));
+    assert_eq!(rt; (told, sink.written().len()), (true, 0));
     let (line, sink) = ran(rt.alloc(), 2, TEXT.len(), 0)?;
     let told = line.as_slice() == b"topk: one.csv: cannot be read".as_slice();
-    assert_eq!(rt; (told, sink.written()), (true, b"".as_slice()));
+    assert_eq!(rt; (told, sink.written().len()), (true, 0));
     let (line, sink) = ran(rt.alloc(), 3, TEXT.len(), 0)?;
     let told = line.as_slice() == b"topk: two.csv: cannot be read".as_slice();
-    assert_eq!(rt; (told, sink.written()), (true, b"".as_slice()));
+    assert_eq!(rt; (told, sink.written().len()), (true, 0));
     Ok(())
 }
 
