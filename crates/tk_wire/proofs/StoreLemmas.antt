@@ -1,6 +1,6 @@
 -- Bytes between two places of a list, as bytes come behind them and leave before them.
 use Rattle.std.proofs.Common.{◌≡◌, ◌≤◌, ℕ, ◌+◌, ◌-◌, ◌++◌, List, length, take, drop, ap, sym, ◌∙◌, refl, arith, Bool, true}
-use Rattle.std.proofs.lemmas.List.{drop-drop, drop-take, length-take, length-take-le, length-drop, take_at}
+use Rattle.std.proofs.lemmas.List.{drop-drop, drop-take, take-take, length-take, length-take-le, length-drop, take_at}
 use Rattle.std.specs.List.{slice_range}
 use Rattle.tk_wire.specs.Meanings.{Traffic, Takes, Arrives}
 use Rattle.tk_wire.specs.Buffered.{Gains}
@@ -53,3 +53,14 @@ fills_nothing (t.Bytes n) tells slice old new before after other same told = abs
 fills_nothing t.NotYet tells slice old new before after other same told = (same, told)
 fills_nothing t.End tells slice old new before after other same told = (same, told)
 fills_nothing t.Failed tells slice old new before after other same told = (same, told)
+
+-- some of them
+pub range_within : {X : Type 0} (from to start end : ℕ) (xs : List X) → from ≤ to → to ≤ end - start → take (to - from) (drop (start + from) xs) ≡ slice_range (slice_range xs start end) from to
+range_within from to start end xs ordered within =
+    let left : ℕ = end - start - from in
+    let is : end - start ≡ from + left = omega arith in
+    sym
+    (ap (λ n. take (to - from) (drop from (take n (drop start xs)))) is
+    ∙ ap (take (to - from)) (drop-take from left (drop start xs))
+    ∙ take-take (to - from) left (drop from (drop start xs)) (omega arith)
+    ∙ ap (take (to - from)) (drop-drop from start xs))

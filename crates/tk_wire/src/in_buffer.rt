@@ -1,4 +1,4 @@
-ghost use Rattle.std.specs.Prelude.{◌≡◌, [], IfOk, OnErr};
+ghost use Rattle.std.specs.Prelude.{◌≡◌, ◌≤◌, [], IfOk, OnErr, length, slice_range};
 ghost use Rattle.tk_frames.specs.declared.answer.Next.{Next};
 ghost use Rattle.tk_frames.specs.Answer.{Answers, HasKind};
 ghost use Rattle.tk_frames.specs.Spelling.{IsVersion};
@@ -103,5 +103,13 @@ impl InBuffer {
             self.store.remove(*size);
         }
         Ok(next)
+    }
+
+    /// What stands between two places of the bytes that are not read, without memory.
+    pub fn into_range(self, from: usize, to: usize) -> Vec<u8>
+        requires { (from ≤ to) × (to ≤ length self.bytes) }
+        ensures { result.items ≡ slice_range self.bytes from to }
+    {
+        self.store.into_range(from, to)
     }
 }

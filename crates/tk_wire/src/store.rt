@@ -1,4 +1,4 @@
-ghost use Rattle.std.specs.Prelude.{◌≡◌, ◌≤◌, ◌+◌, ◌-◌, [], true, OnOk, length, take, drop, slice_range};
+ghost use Rattle.std.specs.Prelude.{◌≡◌, ◌≤◌, ◌+◌, ◌-◌, [], true, OnOk, length, take, drop, slice_range, vec_len};
 ghost use Rattle.tk_wire.specs.Meanings.{FitsSlice, Takes, counts_taken};
 ghost use Rattle.tk_wire.specs.Store.{Fills};
 
@@ -37,6 +37,15 @@ pub fn move_to_front(bytes: &mut [u8], start: usize, end: usize)
 {
     let (front, back) = bytes.split_at_mut(start);
     front[..end - start].copy_from_slice(&back[..end - start]);
+}
+
+// Keeps so many bytes from a place on.
+fn keep_range(bytes: &mut Vec<u8>, start: usize, count: usize)
+    requires { start + count ≤ vec_len bytes.old }
+    ensures { bytes.new.items ≡ take count (drop start bytes.old.items) }
+{
+    bytes.as_mut_slice().copy_within(start..start + count, 0);
+    bytes.truncate(count);
 }
 
 // One take, to the places from `end` on.
@@ -111,5 +120,16 @@ impl Store {
             self.start = 0;
             self.end = 0;
         }
+    }
+
+    /// What stands between two places of the bytes, without memory.
+    pub fn into_range(self, from: usize, to: usize) -> Vec<u8>
+        requires { (from ≤ to) × (to ≤ length self.held) }
+        ensures { result.items ≡ slice_range self.held from to }
+    {
+        let start = self.start + from;
+        let mut bytes = self.bytes;
+        keep_range(&mut bytes, start, to - from);
+        bytes
     }
 }
