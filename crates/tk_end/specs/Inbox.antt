@@ -1,10 +1,12 @@
 -- Bytes that came, of which the first frame may be read already. No public clause cites it but for what a read leaves.
-use Rattle.std.specs.Prelude.{◌≡◌, ℕ, List, [], ◌++◌, Option, Some, None, Result, Ok, Err}
+use Rattle.std.specs.Prelude.{◌≡◌, ℕ, List, [], ◌++◌, length, take, Option, Some, None, Result, Ok, Err}
 use Rattle.tk_base.specs.declared.memory.NoMemory.{NoMemory}
 use Rattle.tk_frames.specs.declared.frame.Frame.{Frame}
 use Rattle.tk_frames.specs.declared.answer.Next.TheVariants as n
-use Rattle.tk_frames.specs.Answer.{Answers}
-use Rattle.tk_frames.specs.Spelling.{IsSpelling, spelling}
+use Rattle.tk_frames.specs.declared.answer.BadFrame.{BadFrame}
+use Rattle.tk_frames.specs.declared.answer.BadFrame.TheVariants.{BadLength, BadKind, BadFields}
+use Rattle.tk_frames.specs.Answer.{Answers, HasBadLength, HasPayload}
+use Rattle.tk_frames.specs.Spelling.{IsFrame, IsSpelling, payload, spelling}
 use Rattle.tk_end.specs.declared.inbox.Reading.{Reading}
 use Rattle.tk_end.specs.declared.inbox.Reading.TheVariants as r
 
@@ -36,3 +38,18 @@ Reads (Ok (r.Whole frame)) version old new = Leaves version frame old new
 Reads (Ok r.Part) version old new = Answers version old n.Part × (new ≡ old)
 Reads (Ok (r.Bad fault)) version old new = Answers version old (n.Bad fault) × (new ≡ old)
 Reads (Err e) version old new = new ≡ old
+
+-- a whole payload stands at the front
+pub record HasSome (unread : List ℕ) : Type 0 where
+  pub bytes : List ℕ
+  pub stands : HasPayload bytes unread
+
+-- bytes at the front that are no frame: the four bytes of a length that none has, or a whole payload that is none's
+pub record IsOddPayload (version : ℕ) (unread odd : List ℕ) : Type 0 where
+  pub stands : HasPayload odd unread
+  pub no_frame : (frame : Frame) → IsFrame frame → odd ≡ payload version frame → ⊥
+
+abbrev pub IsOdd : ℕ → BadFrame → List ℕ → List ℕ → Type 0
+IsOdd version (BadLength size) unread odd = HasBadLength size odd × (length odd ≡ 4) × (odd ≡ take 4 unread)
+IsOdd version (BadKind code) unread odd = IsOddPayload version unread odd
+IsOdd version (BadFields kind) unread odd = IsOddPayload version unread odd

@@ -93,4 +93,4 @@ pub record Passes {W : Type 0} (least : ℕ) (old new : LinkView W) : Type 0 whe
 
 -- a wire in memory in place of the one before
 abbrev pub over : MemoryWire → LinkView MemoryWire → LinkView MemoryWire
-over wire link = record link { wire = wire; traffic = wire.traffic; counts = wire.counts }
+over wire link = record link { wire = wire; traffic = wire.traffic }

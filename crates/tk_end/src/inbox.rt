@@ -1,8 +1,11 @@
-ghost use Rattle.std.specs.Prelude.{◌≡◌, ◌++◌, Some, None};
+ghost use Rattle.std.specs.Prelude.{◌≡◌, ◌++◌, ℕ, List, Some, None};
 ghost use Rattle.tk_frames.specs.Spelling.{IsSpelling, spelling};
 ghost use Rattle.tk_wire.specs.Buffered.{Pulls, counts_pulled};
-ghost use Rattle.tk_end.specs.Inbox.{Reads};
+ghost use Rattle.tk_frames.specs.declared.answer.Next.TheVariants as n;
+ghost use Rattle.tk_frames.specs.Answer.{Answers, HasPayload};
+ghost use Rattle.tk_end.specs.Inbox.{HasSome, IsOdd, Reads};
 
+use byteorder::{BigEndian, ByteOrder};
 use std::marker::Model;
 use tk_base::NoMemory;
 use tk_frames::{BadFrame, Frame, Next};
@@ -50,6 +53,15 @@ fn read(buffer: &mut InBuffer) -> Result<Reading, NoMemory>
     }
 }
 
+/// The payload at the front, without its length.
+fn payload(buffer: InBuffer) -> Vec<u8>
+    requires { HasSome buffer.bytes }
+    ensures { (bytes : List ℕ) → HasPayload bytes buffer.bytes → result.items ≡ bytes }
+{
+    let size = BigEndian::read_u32(buffer.bytes()) as usize;
+    buffer.into_range(4, 4 + size)
+}
+
 impl Inbox {
     /// Goes on with what came so far.
     pub fn new(buffer: InBuffer) -> Inbox
@@ -90,5 +102,25 @@ impl Inbox {
         ensures version { self.new.version ≡ self.old.version }
     {
         self.front = Some(frame);
+    }
+
+    /// The frame at the front, where one was read and found no taker.
+    pub fn into_frame(self) -> Option<Frame>
+        ensures { result ≡ self.front }
+    {
+        self.front
+    }
+
+    /// The bytes at the front that are no frame: a length that no payload has, or a payload. It takes no memory.
+    pub fn into_odd(self, fault: BadFrame) -> Vec<u8>
+        requires bad { Answers self.version self.unread (n.Bad fault) }
+        requires nothing { self.front ≡ None }
+        ensures { IsOdd self.version fault self.unread result.items }
+    {
+        match fault {
+            BadFrame::BadLength { .. } => self.buffer.into_range(0, 4),
+            BadFrame::BadKind { .. } => payload(self.buffer),
+            BadFrame::BadFields { .. } => payload(self.buffer),
+        }
     }
 }

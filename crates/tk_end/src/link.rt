@@ -1,7 +1,10 @@
-ghost use Rattle.std.specs.Prelude.{◌≡◌, [], false, None, OnErr, OnOk};
+ghost use Rattle.std.specs.Prelude.{◌≡◌, ◌↔◌, [], false, None, IsTrue, OnErr, OnOk};
+ghost use Rattle.tk_frames.specs.declared.answer.Next.TheVariants as n;
+ghost use Rattle.tk_frames.specs.Answer.{Answers};
 ghost use Rattle.tk_frames.specs.Encoding.{Appends};
 ghost use Rattle.tk_frames.specs.Spelling.{IsVersion};
 ghost use Rattle.tk_end.specs.Actor.{CanBeSent};
+ghost use Rattle.tk_end.specs.Inbox.{IsOdd};
 ghost use Rattle.tk_end.specs.Link.{IsShut};
 
 mod hearing;
@@ -12,7 +15,7 @@ use crate::inbox::Inbox;
 use std::alloc::Global;
 use std::marker::Model;
 use tk_base::NoMemory;
-use tk_frames::{EncodeFault, Frame};
+use tk_frames::{BadFrame, EncodeFault, Frame};
 use tk_wire::{InBuffer, OutBuffer, Wire};
 
 /// One end of a connection: its wire, the bytes that came and are not taken as frames, and those that are to be given.
@@ -99,6 +102,13 @@ impl<W: Wire> Link<W> {
         self.shut
     }
 
+    /// Whether so many of the actor's frames were written, and all that was written is given.
+    pub fn has_said(&self, count: usize) -> bool
+        ensures { IsTrue result ↔ ((self.now.written ≡ count) × (self.now.output ≡ [])) }
+    {
+        self.written == count && self.output.bytes().is_empty()
+    }
+
     /// Shuts the wire, which is used no more. It takes no memory.
     pub fn shut(&mut self)
         ensures { IsShut self.old self.new }
@@ -114,5 +124,23 @@ impl<W: Wire> Link<W> {
         ensures { result ≡ self.wire }
     {
         self.wire
+    }
+
+    /// Its wire, and the frame at the front, where one was read and found no taker.
+    pub fn into_frame(self) -> (W, Option<Frame>)
+        ensures wire { result.0 ≡ self.wire }
+        ensures frame { result.1 ≡ self.front }
+    {
+        (self.wire, self.inbox.into_frame())
+    }
+
+    /// Its wire, and the bytes at the front that are no frame. It takes no memory.
+    pub fn into_odd(self, fault: BadFrame) -> (W, Vec<u8>)
+        requires bad { Answers self.version self.unread (n.Bad fault) }
+        requires nothing { self.front ≡ None }
+        ensures wire { result.0 ≡ self.wire }
+        ensures odd { IsOdd self.version fault self.unread result.1.items }
+    {
+        (self.wire, self.inbox.into_odd(fault))
     }
 }
