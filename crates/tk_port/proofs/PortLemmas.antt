@@ -5,6 +5,7 @@ use Rattle.tk_monitor.specs.declared.outcome.Checked.{Checked}
 use Rattle.tk_base.specs.declared.ids.Feeder.{Feeder}
 use Rattle.tk_frames.specs.declared.frame.Frame.{Frame}
 use Rattle.tk_frames.specs.declared.frame.Frame.TheVariants as f
+use Rattle.tk_frames.specs.Spelling.{IsVersion}
 use Rattle.tk_monitor.specs.Monitored.{MonitorView, Raises}
 use Rattle.tk_monitor.specs.declared.outcome.Raised.{Raised as Outcome}
 use Rattle.tk_monitor.specs.declared.outcome.Raised.TheVariants.{Done, Ended}
@@ -15,7 +16,10 @@ use Rattle.tk_trail.specs.Readings.{sent_by, taken_by}
 use Rattle.tk_trail.specs.Setup.{IsSetup}
 use Rattle.tk_trail.specs.declared.entry.Entry.TheVariants.{Raised}
 use Rattle.tk_end.specs.Hearing.{IsRefused}
-use Rattle.tk_end.specs.Link.{IsEnd, IsShut, LinkView, Passes, Says}
+use Rattle.tk_end.specs.Link.{IsEnd, IsShut, LinkView, Passes, Says, over}
+use Rattle.tk_wire.specs.Meanings.{Traffic}
+use Rattle.tk_wire.specs.Parse.{IsEncoding, IsParse}
+use Rattle.tk_wire.specs.PipeWire.{MemoryWire, with_traffic}
 use Rattle.tk_end.proofs.EndLemmas.{shut_end}
 use Rattle.tk_port.specs.Port.{IsOnCourse, IsPort, PortView, Shuts, course_of}
 use Rattle.tk_port.specs.Side.{refuses, taking}
@@ -42,6 +46,7 @@ port_raised : {W : Type 0} (run : ℕ) (m : MonitorView) (link : LinkView W) (co
 port_raised run m link course feeder p legal =
     let sent = sent_by-raised m.trail feeder in
     record {
+      version = p.version;
       setup = p.setup;
       legal = legal;
       written = subst (λ fs. link.written ≤ length fs) (sym sent) p.written;
@@ -72,6 +77,7 @@ port_exchanged {W} run least x y a b before course p e on =
     let number = ap (λ s. s.number) e.setup in
     let ends = e.ends (f.Hello run x.version (record { 0 = a.monitor.setup.number }) ∷ []) p.written p.ends in
     record {
+      version = subst IsVersion (sym e.passes.version) p.version;
       setup = subst IsSetup (sym e.setup) p.setup;
       legal = reaches_legal a.monitor b.monitor p.setup e.reaches p.legal;
       written = e.within p.written;
@@ -84,6 +90,7 @@ port_exchanged {W} run least x y a b before course p e on =
 -- a port whose wire is shut
 pub port_shut : {W : Type 0} (run : ℕ) (x y : LinkView W) (m : MonitorView) (before course : Course) → IsPort (record { run = run; monitor = m; link = x; course = before }) → IsShut x y → IsOnCourse y m course → IsPort (record { run = run; monitor = m; link = y; course = course })
 port_shut run x y m before course p s on = record {
+  version = subst IsVersion (sym s.version) p.version;
   setup = p.setup;
   legal = p.legal;
   written = subst (λ n. n ≤ length (sent_by m.trail)) (sym s.written) p.written;
@@ -109,3 +116,29 @@ pub port_after_push : {W : Type 0} (run : ℕ) (m : MonitorView) (x y : LinkView
 port_after_push run m x y course p open_ says =
     let on : IsOnCourse y m course = subst (IsOnCourse y m) (sym open_) (says.shut ∙ subst (IsOnCourse x m) open_ p.course) in
     port_exchanged run 0 x y (record { monitor = m }) (record { monitor = m }) course course p (exchanges_said x y (record { monitor = m }) says) on
+
+-- bytes that leave or reach the wire in memory change nothing that was heard or said
+course_piped : (x : LinkView MemoryWire) (w : MemoryWire) (t : Traffic) (m : MonitorView) (course : Course) → IsOnCourse x m course → IsOnCourse (over (with_traffic t w) x) m course
+course_piped x w t m c.Open is = is
+course_piped x w t m c.Halted is = is
+course_piped x w t m c.Failed is = is
+course_piped x w t m (c.Refused why) is = is
+course_piped x w t m (c.Bad fault) is = is
+
+pub port_piped : (run : ℕ) (m : MonitorView) (x y : LinkView MemoryWire) (w : MemoryWire) (t : Traffic) (course : Course) → IsPort (record { run = run; monitor = m; link = x; course = course }) → y ≡ over (with_traffic t w) x → t.came ≡ x.traffic.came → t.went ≡ x.traffic.went → IsPort (record { run = run; monitor = m; link = y; course = course })
+port_piped run m x y w t course p is came went =
+    let Kept : LinkView MemoryWire → Type 0 = λ l. IsPort (record { run = run; monitor = m; link = l; course = course }) in
+    let heard = taken_by m.trail in
+    let said = f.Hello run x.version (record { 0 = m.setup.number }) ∷ take x.written (sent_by m.trail) in
+    subst Kept (sym is) (record {
+      version = p.version;
+      setup = p.setup;
+      legal = p.legal;
+      written = p.written;
+      ends = record {
+        came = λ tells. subst (λ xs. IsParse x.version heard xs x.unread) (sym came) (p.ends.came tells);
+        went = λ tells. subst (λ xs. IsEncoding x.version said xs x.output) (sym went) (p.ends.went tells);
+        covered = p.ends.covered;
+      };
+      course = course_piped x w t m course p.course;
+    })

@@ -8,7 +8,7 @@ use Rattle.tk_trail.specs.Readings.{is_stopped}
 use Rattle.tk_wire.specs.Meanings.{Counts, Traffic}
 use Rattle.tk_end.specs.Hearing.{IsRefused}
 use Rattle.tk_end.specs.Inbox.{Leaves}
-use Rattle.tk_end.specs.Link.{IsShut, LinkView, Passes}
+use Rattle.tk_end.specs.Link.{IsShut, Keeps, LinkView, Passes}
 use Rattle.tk_end.proofs.PassingLemmas.{passes_nothing, passes_on, passes_shut}
 use Rattle.tk_port.specs.Port.{EndsOne, IsOnCourse, IsPort, PortView, Shuts, TakesUpTo, Turns, TurnsOne, answer_of, course_of}
 use Rattle.tk_port.specs.Side.{refuses}
@@ -36,6 +36,8 @@ answers_shut y z next s a = subst (λ v. Answers v z.unread next) (sym s.version
 record Leaves_on {W : Type 0} (turn : Turn) (y z : LinkView W) (side : Side) : Type 0 where
   passes : Passes 0 y z
   counts : z.counts ≡ y.counts
+  written : z.written ≡ y.written
+  output : z.output ≡ y.output
   ends : Ends y side turn → Ends z side turn
   on : y.shut ≡ false → EndsOne y side.monitor turn → IsOnCourse z side.monitor (course_of turn)
   rest : goes_on turn ≡ true → IsAtRest y side.monitor → IsAtRest z side.monitor
@@ -44,6 +46,8 @@ stays : {W : Type 0} (turn : Turn) (y z : LinkView W) (side : Side) → course_o
 stays turn y z side open_ is = subst (λ x. Leaves_on turn y x side) (sym is) (record {
   passes = passes_nothing y;
   counts = refl;
+  written = refl;
+  output = refl;
   ends = λ e. e;
   on = λ shut e. subst (IsOnCourse y side.monitor) (sym open_) shut;
   rest = λ _ r. r;
@@ -54,11 +58,13 @@ leaves_on t.Quiet y z side s = stays t.Quiet y z side refl s
 leaves_on t.More y z side s = stays t.More y z side refl s
 leaves_on t.Stopped y z side s = stays t.Stopped y z side refl s
 leaves_on t.NoMemory y z side s = stays t.NoMemory y z side refl s
-leaves_on t.Failed y z side s = record { passes = passes_shut y z s; counts = s.counts; ends = λ e. e; on = λ shut e. s.shut; rest = λ goes r. absurd (cc) }
-leaves_on (t.Refused why) y z side s = record { passes = passes_shut y z s; counts = s.counts; ends = refused_shut y z side why s; on = λ shut e. (s.shut, refused_shut y z side why s e); rest = λ goes r. absurd (cc) }
+leaves_on t.Failed y z side s = record { passes = passes_shut y z s; counts = s.counts; written = s.written; output = s.output; ends = λ e. e; on = λ shut e. s.shut; rest = λ goes r. absurd (cc) }
+leaves_on (t.Refused why) y z side s = record { passes = passes_shut y z s; counts = s.counts; written = s.written; output = s.output; ends = refused_shut y z side why s; on = λ shut e. (s.shut, refused_shut y z side why s e); rest = λ goes r. absurd (cc) }
 leaves_on (t.Bad fault) y z side s = record {
   passes = passes_shut y z s;
   counts = s.counts;
+  written = s.written;
+  output = s.output;
   ends = λ e. (answers_shut y z (n.Bad fault) s e.0, s.front ∙ e.1);
   on = λ shut e. (s.shut, answers_shut y z (n.Bad fault) s e.0, s.front ∙ e.1);
   rest = λ goes r. absurd (cc);
@@ -99,6 +105,31 @@ turns_concluded run turn x y z a b before course e ends counts rest s is =
       rest = λ goes. left.rest goes (rest goes);
     }
 
+ends_left : {W : Type 0} (turn : Turn) (y z : LinkView W) (m : MonitorView) → Shuts (course_of turn) y z → EndsOne y m turn → EndsOne z m turn
+ends_left t.Quiet y z m s e = (leaves_on t.Quiet y z (record { monitor = m }) s).ends e
+ends_left t.More y z m s e = tt
+ends_left t.Stopped y z m s e = tt
+ends_left t.Failed y z m s e = tt
+ends_left (t.Refused why) y z m s e = (leaves_on (t.Refused why) y z (record { monitor = m }) s).ends e
+ends_left (t.Bad fault) y z m s e = (leaves_on (t.Bad fault) y z (record { monitor = m }) s).ends e
+ends_left t.NoMemory y z m s e = tt
+
+-- what a turn of one frame did
+pub turns_one_concluded : {W : Type 0} (run : ℕ) (turn : Turn) (x y z : LinkView W) (a b : Side) (before course : Course) → Exchanges 0 x y a b → TakesUpTo turn a.monitor b.monitor → Keeps x y → EndsOne y b.monitor turn → CountsTurned turn x.counts y.counts → Shuts (course_of turn) y z → course ≡ course_of turn
+    → TurnsOne turn (record { run = run; monitor = a.monitor; link = x; course = before }) (record { run = run; monitor = b.monitor; link = z; course = course })
+turns_one_concluded run turn x y z a b before course e takes keeps ends counts s is =
+    let left = leaves_on turn y z b s in
+    record {
+      run = refl;
+      course = is;
+      passes = passes_on 0 0 0 x y z (omega arith) e.passes left.passes;
+      takes = takes;
+      written = left.written ∙ keeps.written;
+      output = left.output ∙ keeps.output;
+      ends = ends_left turn y z b.monitor s ends;
+      counts = counts_same turn x.counts y.counts z.counts left.counts counts;
+    }
+
 -- a port that was stopped does nothing
 pub turns_stopped : {W : Type 0} (p : PortView W) → p.course ≡ c.Open → is_stopped p.monitor.trail ≡ true → Turns t.Stopped p p
 turns_stopped p open_ stopped = record {
@@ -127,3 +158,12 @@ goes c.Halted open_ none = absurd (open_ refl)
 goes c.Failed open_ none = absurd (cc)
 goes (c.Refused why) open_ none = absurd (cc)
 goes (c.Bad fault) open_ none = absurd (cc)
+
+pub never_halts : (turn : Turn) → course_of turn ≡ c.Halted → ⊥
+never_halts t.Quiet is = absurd (cc)
+never_halts t.More is = absurd (cc)
+never_halts t.Stopped is = absurd (cc)
+never_halts t.Failed is = absurd (cc)
+never_halts (t.Refused why) is = absurd (cc)
+never_halts (t.Bad fault) is = absurd (cc)
+never_halts t.NoMemory is = absurd (cc)

@@ -2,6 +2,7 @@ pub mod Port
 pub mod Side
 pub mod Turn
 pub use Rattle.tk_end.specs.Hearing
+pub use Rattle.tk_end.specs.Inbox
 pub use Rattle.tk_end.specs.Link
 pub use Rattle.tk_monitor.specs.Monitored
 pub use Rattle.tk_trail.specs.Legal
@@ -10,4 +11,5 @@ pub use Rattle.tk_trail.specs.Refusal
 pub use Rattle.tk_trail.specs.Setup
 pub use Rattle.tk_wire.specs.Buffered
 pub use Rattle.tk_wire.specs.Meanings
+pub use Rattle.tk_wire.specs.Pipe
 pub use Rattle.tk_wire.specs.PipeWire

@@ -1,14 +1,20 @@
 -- A port, as contracts see it, and what its type keeps.
-use Rattle.std.specs.Prelude.{◌≡◌, ◌≤◌, ℕ, List, ◌∷◌, length, take, true, false, Option, Some, None, ⊤}
+use Rattle.std.specs.Prelude.{◌≡◌, ◌≤◌, ℕ, List, ◌∷◌, length, take, true, false, Option, Some, None, IfSome, is_some, ⊤}
 use Rattle.tk_frames.specs.declared.frame.Frame.{Frame}
 use Rattle.tk_frames.specs.declared.frame.Frame.TheVariants as f
 use Rattle.tk_frames.specs.declared.answer.Next.TheVariants as n
 use Rattle.tk_frames.specs.Answer.{Answers}
+use Rattle.tk_frames.specs.Spelling.{IsVersion}
 use Rattle.tk_monitor.specs.Monitored.{MonitorView}
 use Rattle.tk_trail.specs.Legal.{IsLegal}
 use Rattle.tk_trail.specs.Readings.{is_stopped, sent_by, taken_by}
 use Rattle.tk_trail.specs.Setup.{IsSetup}
 use Rattle.tk_end.specs.Hearing.{IsRefused}
+use Rattle.tk_end.specs.Inbox.{IsOdd}
+use Rattle.tk_frames.specs.declared.answer.BadFrame.{BadFrame}
+use Rattle.tk_story.specs.declared.ends.received.Received.{Received}
+use Rattle.tk_story.specs.declared.ends.received.Received.TheVariants as r
+use Rattle.std.specs.Option.{option_map}
 use Rattle.tk_end.specs.Link.{IsEnd, IsShut, LinkView, Passes}
 use Rattle.tk_port.specs.Turn.{CountsTurned, Ends, IsAtRest, Reaches, goes_on, pieces_of}
 use Rattle.tk_trail.specs.Refusal.{refusal_of}
@@ -44,6 +50,7 @@ IsOnCourse link monitor (c.Bad fault) = (link.shut ≡ true) × Answers link.ver
 -- the monitor's trail is legal, what it took is a front of the parse of what came, and what went is a front of the bytes
 -- of Hello and the frames that it sent
 pub record IsPort {W : Type 0} (port : PortView W) : Type 0 where
+  pub version : IsVersion port.link.version
   pub setup : IsSetup port.monitor.setup
   pub legal : IsLegal port.monitor.setup port.monitor.trail
   pub written : port.link.written ≤ length (sent_by port.monitor.trail)
@@ -127,5 +134,32 @@ pub record TurnsOne {W : Type 0} (turn : Turn) (old new : PortView W) : Type 0 w
   pub course : new.course ≡ course_of turn
   pub passes : Passes 0 old.link new.link
   pub takes : TakesUpTo turn old.monitor new.monitor
+  pub written : new.link.written ≡ old.link.written
+  pub output : new.link.output ≡ old.link.output
   pub ends : EndsOne new.link new.monitor turn
   pub counts : CountsTurned turn old.link.counts new.link.counts
+
+-- on a course of bad bytes these stand at the front
+abbrev pub IsStanding : {W : Type 0} → LinkView W → Course → Type 0
+IsStanding link (c.Bad fault) = Answers link.version link.unread (n.Bad fault) × (link.front ≡ None)
+IsStanding link c.Open = ⊤
+IsStanding link c.Halted = ⊤
+IsStanding link c.Failed = ⊤
+IsStanding link (c.Refused why) = ⊤
+
+-- the bytes that are no frame
+abbrev pub IsOddBytes : ℕ → BadFrame → List ℕ → Received → Type 0
+IsOddBytes version fault unread (r.Frame frame) = ⊥
+IsOddBytes version fault unread (r.Bytes bytes) = IsOdd version fault unread bytes
+
+-- what is left on a course: the refused frame, or the bytes that are none
+abbrev pub LeavesOdd : {W : Type 0} → Course → LinkView W → Option Received → Type 0
+LeavesOdd c.Open link odd = odd ≡ None
+LeavesOdd c.Halted link odd = odd ≡ None
+LeavesOdd c.Failed link odd = odd ≡ None
+LeavesOdd (c.Refused why) link odd = odd ≡ option_map r.Frame link.front
+LeavesOdd (c.Bad fault) link odd = IfSome odd (IsOddBytes link.version fault link.unread) × (is_some odd ≡ true)
+
+-- what a port was given next and did not take: the refused frame, or the bytes that are none
+abbrev pub IsLeft : {W : Type 0} → PortView W → Option Received → Type 0
+IsLeft port odd = LeavesOdd port.course port.link odd

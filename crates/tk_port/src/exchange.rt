@@ -3,6 +3,7 @@
 ghost use Rattle.std.specs.Prelude.{◌≡◌, ◌≤◌, length, false, true, IfNone, IfSome, unwrap_or};
 ghost use Rattle.tk_trail.specs.Readings.{is_stopped, sent_by};
 ghost use Rattle.tk_trail.specs.Setup.{IsSetup};
+ghost use Rattle.tk_end.specs.Link.{Keeps};
 ghost use Rattle.tk_port.specs.Port.{EndsOne, Shuts, TakesUpTo, course_of};
 ghost use Rattle.tk_port.specs.Turn.{CountsTurned, Ends, Exchanges, HasSaid, IsAtRest, goes_on, pieces_of};
 
@@ -104,6 +105,7 @@ pub fn hear_one<W: Wire>(link: &mut Link<W>, side: &mut Side) -> Turn
     requires not_stopped { is_stopped side.old.monitor.trail ≡ false }
     ensures exchanges { Exchanges 0 link.old link.new side.old side.new }
     ensures takes { TakesUpTo result side.old.monitor side.new.monitor }
+    ensures keeps { Keeps link.old link.new }
     ensures ends { EndsOne link.new side.new.monitor result }
     ensures counts { CountsTurned result link.old.counts link.new.counts }
 {

@@ -1,11 +1,14 @@
-ghost use Rattle.std.specs.Prelude.{◌≡◌, ◌<◌, ◌≤◌, ◌↔◌, [], true, false, Some, IfOk, OnOk, OnErr, length};
+ghost use Rattle.std.specs.Prelude.{◌≡◌, ◌<◌, ◌≤◌, ◌↔◌, [], true, false, Some, IfOk, OnOk, OnErr, length, min, take};
+ghost use Rattle.tk_frames.specs.Encoding.{Appends};
 ghost use Rattle.tk_frames.specs.Spelling.{IsVersion};
 ghost use Rattle.tk_monitor.specs.Monitored.{IsFeederOf, Raises, checked_at};
-ghost use Rattle.tk_trail.specs.Readings.{is_stopped, sent_by};
+ghost use Rattle.tk_trail.specs.Readings.{is_stopped, sent_by, taken_by};
 ghost use Rattle.tk_trail.specs.Setup.{IsSetup};
 ghost use Rattle.tk_wire.specs.Buffered.{IsFull, counts_pushed};
-ghost use Rattle.tk_end.specs.Link.{IsShut, Says};
-ghost use Rattle.tk_port.specs.Port.{IsPort, Turns, TurnsOne, answer_of, halted_of};
+ghost use Rattle.tk_wire.specs.Pipe.{free, with_more, without};
+ghost use Rattle.tk_wire.specs.PipeWire.{drained, filled, left_in, with_traffic};
+ghost use Rattle.tk_end.specs.Link.{Covers, IsShut, Says, over};
+ghost use Rattle.tk_port.specs.Port.{IsLeft, IsPort, IsStanding, LeavesOdd, Turns, TurnsOne, answer_of, halted_of, hello_of};
 ghost use Rattle.tk_port.specs.Turn.{checking};
 ghost use Rattle.tk_port.specs.declared.turn.Turn.{Turn as Turned};
 
@@ -19,7 +22,8 @@ use tk_base::{Feeder, NoMemory};
 use tk_end::Link;
 use tk_frames::Frame;
 use tk_monitor::{Checked, Monitor, Raised};
-use tk_wire::{InBuffer, Pushed, Wire};
+use tk_story::{Bytes, MonEnd, Received};
+use tk_wire::{InBuffer, Pipe, PipeWire, Pushed, Wire};
 
 /// A monitor and its end of the connection to the coordinator.
 #[derive(Drop)]
@@ -50,6 +54,27 @@ impl<W: Wire> Model for Port<W> {
     }) };
 }
 
+/// The end of a link on its course: what came next and was not taken, and the wire.
+fn left<W: Wire>(link: Link<W>, course: Course) -> (Option<Received>, W)
+    requires { IsStanding link course }
+    ensures odd { LeavesOdd course link result.0 }
+    ensures wire { result.1 ≡ link.wire }
+{
+    match course {
+        Course::Refused(_) => {
+            let (wire, frame) = link.into_frame();
+            (frame.map(Received::Frame), wire)
+        }
+        Course::Bad(fault) => {
+            let (wire, bytes) = link.into_odd(fault);
+            (Some(Received::Bytes(Bytes::new(bytes))), wire)
+        }
+        Course::Open => (None, link.into_wire()),
+        Course::Halted => (None, link.into_wire()),
+        Course::Failed => (None, link.into_wire()),
+    }
+}
+
 impl<W: Wire + Drop> Port<W> {
     /// A port that begins with the Hello of its monitor, in a run and in a version, 1 or 2.
     pub fn new(
@@ -69,6 +94,7 @@ impl<W: Wire + Drop> Port<W> {
         ensures monitor { IfOk result (λ port. port.monitor ≡ monitor) }
         ensures wire { IfOk result (λ port. port.link.wire ≡ wire) }
         ensures version { IfOk result (λ port. port.link.version ≡ version) }
+        ensures hello { IfOk result (λ port. Appends version (hello_of port) [] port.link.output) }
         ensures course { IfOk result (λ port. port.course ≡ Course.Open) }
         ensures kept { IfOk result IsPort }
     {
@@ -159,6 +185,7 @@ impl<W: Wire> Port<W> {
         requires { self.old.course ≡ Course.Halted → ⊥ }
         ensures closed { (turn : Turned) → answer_of self.old.course ≡ Some turn → (result ≡ turn) × (self.new ≡ self.old) }
         ensures open { self.old.course ≡ Course.Open → Turns result self.old self.new }
+        ensures not_halted { self.new.course ≡ Course.Halted → ⊥ }
         ensures kept { IsPort self.new }
     {
         if let Some(turn) = self.course.answer() {
@@ -178,6 +205,7 @@ impl<W: Wire> Port<W> {
         requires not_stopped { is_stopped self.old.monitor.trail ≡ false }
         ensures closed { (turn : Turned) → answer_of self.old.course ≡ Some turn → (result ≡ turn) × (self.new ≡ self.old) }
         ensures open { self.old.course ≡ Course.Open → TurnsOne result self.old self.new }
+        ensures not_halted { self.new.course ≡ Course.Halted → ⊥ }
         ensures kept { IsPort self.new }
     {
         if let Some(turn) = self.course.answer() {
@@ -186,5 +214,47 @@ impl<W: Wire> Port<W> {
         let turn = hear_one(&mut self.link, &mut self.side);
         self.course = conclude(&mut self.link, turn);
         turn
+    }
+
+    /// The monitor with what it was given next and did not take, and the wire. It takes no memory.
+    pub fn into_end(self) -> (MonEnd, W)
+        ensures monitor { result.0.monitor ≡ self.monitor }
+        ensures odd { IsLeft self result.0.odd }
+        ensures wire { result.1 ≡ self.link.wire }
+        ensures covered { Covers self.link.version (taken_by self.monitor.trail) self.link.unread (W.counts result.1).taken }
+        ensures kept { IsPort self }
+    {
+        let Port {
+            side,
+            link,
+            course,
+            ..
+        } = self;
+        let (odd, wire) = left(link, course);
+        (MonEnd::new(side.monitor, odd), wire)
+    }
+}
+
+impl Port<PipeWire> {
+    /// As the drain of its wire; where it is shut nothing moves.
+    pub fn drain(&mut self, to: &mut Pipe) -> usize
+        ensures shut { self.old.link.shut ≡ true → result ≡ 0 }
+        ensures value { self.old.link.shut ≡ false → result ≡ min self.old.link.wire.piece (min (length self.old.link.traffic.held) (free to.old)) }
+        ensures wire { self.new ≡ record self.old { link = over (with_traffic (drained result self.old.link.traffic) self.old.link.wire) self.old.link } }
+        ensures pipe { to.new ≡ with_more (take result self.old.link.traffic.held) to.old }
+        ensures kept { IsPort self.new }
+    {
+        self.link.drain(to)
+    }
+
+    /// As the fill of its wire; where it is shut nothing moves.
+    pub fn fill(&mut self, from: &mut Pipe) -> usize
+        ensures shut { self.old.link.shut ≡ true → result ≡ 0 }
+        ensures value { self.old.link.shut ≡ false → result ≡ min self.old.link.wire.piece (min (length from.old.bytes) (left_in self.old.link.traffic)) }
+        ensures wire { self.new ≡ record self.old { link = over (with_traffic (filled (take result from.old.bytes) self.old.link.traffic) self.old.link.wire) self.old.link } }
+        ensures pipe { from.new ≡ without result from.old }
+        ensures kept { IsPort self.new }
+    {
+        self.link.fill(from)
     }
 }

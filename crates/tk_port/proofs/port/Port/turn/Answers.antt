@@ -1,7 +1,7 @@
 use Rattle.std.proofs.Common.{◌≡◌, ap, sym, ◌∙◌, None}
 use Rattle.tk_trail.specs.Readings.{is_stopped}
 use Rattle.tk_port.specs.declared.course.Course.TheVariants as k
-use Rattle.tk_port.proofs.TurnLemmas.{ends_one, goes, port_concluded, turns_stopped}
+use Rattle.tk_port.proofs.TurnLemmas.{ends_one, goes, never_halts, port_concluded, turns_stopped}
 use Rattle.tk_port.proofs.port.Port.turn.Goals as goal
 
 pub invariant_of-self : goal.invariant_of-self
@@ -20,3 +20,6 @@ returns-clause-kept g c =
 
 pub returns-then-stopped-clause-open : goal.returns-then-stopped-clause-open
 returns-then-stopped-clause-open g c = λ open_. turns_stopped c.args.self.now open_ (ap (λ v. is_stopped v.monitor.trail) (sym c.self.view_is) ∙ sym c.stopped.ensures ∙ c.if-stopped.true)
+
+pub returns-clause-not_halted : goal.returns-clause-not_halted
+returns-clause-not_halted g c = λ is. never_halts c.exchange-turn.result (sym c.conclude-self-inside.ensures.course ∙ is)
