@@ -1,0 +1,15 @@
+pub mod DeskLemmas
+pub mod HearLemmas
+pub mod HubLemmas
+pub mod KeptLemmas
+pub mod LeavingLemmas
+pub mod LinesLemmas
+pub mod LobbyLemmas
+pub mod PipingLemmas
+pub mod RetuneLemmas
+pub mod SayLemmas
+pub mod SeatsLemmas
+pub mod TakenLemmas
+pub mod TurnLemmas
+pub mod VisitorLemmas
+pub mod WriteLemmas

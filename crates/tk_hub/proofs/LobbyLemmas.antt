@@ -1,0 +1,85 @@
+-- Connections that are greeted, key by key.
+use Rattle.std.proofs.Common.{◌≡◌, ◌≢◌, ◌⊎◌, ◌↔◌, ◌<◌, ◌≤◌, ◌+◌, ℕ, zero, suc, List, [], length, get_or, set, Option, Some, None, Result, Ok, Err, refl, sym, ap, ◌∙◌, subst, arith, inl, inr}
+use Rattle.std.specs.Prelude.{IsErr, OnOk}
+use Rattle.slab.specs.Slab.{Slab, Updates, get, slab_len}
+use Rattle.tk_base.specs.declared.ids.Mon.{Mon}
+use Rattle.tk_base.specs.declared.memory.NoMemory.{NoMemory}
+use Rattle.tk_end.specs.Link.{LinkView}
+use Rattle.tk_wire.specs.Meanings.{raised_by}
+use Rattle.tk_hub.specs.Door.{DoorView, GreetsAt, GreetsSlot, GreetsUpTo, IsAnswered, IsTakenOut, IsTurnedAway, IsWelcomed, LobbyView, StaysHeld}
+use Rattle.tk_hub.specs.Seats.{SeatsView}
+use Rattle.tk_hub.specs.Visitor.{Gathers, Greets, VisitorView}
+use Rattle.tk_hub.specs.declared.visitor.Greeting.{Greeting}
+use Rattle.tk_hub.specs.declared.visitor.Greeting.TheVariants as g
+
+pub updates_on : {T : Type 0} (a b c : Slab T) (key other : ℕ) (slot : Option T) → Updates a b key None → other ≡ key → Updates b c other slot → Updates a c key slot
+updates_on a b c key other slot p same q = record {
+  changed = ap (get c) (sym same) ∙ q.changed;
+  others = λ k apart. q.others k (λ e. apart (e ∙ same)) ∙ p.others k apart;
+}
+
+-- a connection is taken out, and held on under the same key
+pub stays_held : {W : Type 0} (key strangers : ℕ) (after : VisitorView W) (held mid : Slab (VisitorView W)) (s t : LobbyView W) (links : List (Option (LinkView W))) → record { held = held; strangers = strangers } ≡ s → Updates held mid key None → slab_len mid + 1 ≡ slab_len held → mid.vacant_key ≡ key → Updates mid t.held mid.vacant_key (Some after) → slab_len t.held ≡ slab_len mid + 1 → t.strangers ≡ strangers → StaysHeld key after (record { lobby = s; links = links }) (record { lobby = t; links = links })
+stays_held key strangers after held mid s t links is p n k q m e =
+    subst (λ x. StaysHeld key after (record { lobby = x; links = links }) (record { lobby = t; links = links })) is (record {
+      updates = updates_on held mid t.held key mid.vacant_key (Some after) p k q;
+      count = m ∙ n;
+      strangers = e;
+      links = refl;
+    })
+
+-- a connection is taken out, closed and counted
+pub turned_away : {W : Type 0} (key strangers : ℕ) (held mid : Slab (VisitorView W)) (s t : LobbyView W) (links : List (Option (LinkView W))) → record { held = held; strangers = strangers } ≡ s → Updates held mid key None → slab_len mid + 1 ≡ slab_len held → t ≡ record { held = mid; strangers = raised_by 1 strangers } → IsTakenOut key (record { lobby = s; links = links }) (record { lobby = t; links = links }) × IsTurnedAway (record { lobby = s; links = links }) (record { lobby = t; links = links })
+turned_away {W} key strangers held mid s t links is p n e =
+    subst (λ y. IsTakenOut key (record { lobby = s; links = links }) (record { lobby = y; links = links }) × IsTurnedAway (record { lobby = s; links = links }) (record { lobby = y; links = links })) (sym e)
+    (subst (λ x. IsTakenOut {W = W} key (record { lobby = x; links = links }) (record { lobby = record { held = mid; strangers = raised_by 1 strangers }; links = links }) × IsTurnedAway {W = W} (record { lobby = x; links = links }) (record { lobby = record { held = mid; strangers = raised_by 1 strangers }; links = links })) is
+    (record { updates = p; count = n }, record { strangers = refl; links = refl }))
+
+-- a welcome looks at the count of strangers and at the links alone
+pub welcomed : {W : Type 0} (run monitors : ℕ) (mon : Mon) (after : VisitorView W) (held mid : Slab (VisitorView W)) (strangers : ℕ) (links : List (Option (LinkView W))) (new : DoorView W) → IsWelcomed run monitors mon after (record { lobby = record { held = mid; strangers = strangers }; links = links }) new → IsWelcomed run monitors mon after (record { lobby = record { held = held; strangers = strangers }; links = links }) new
+welcomed run monitors mon after held mid strangers links new w =
+    elim w [
+      | inl a ↦ inl (a.0, record { strangers = a.1.strangers; link = a.1.link; goes_on = a.1.goes_on; greeted = a.1.greeted; links = a.1.links })
+      | inr a ↦ inr (a.0, record { strangers = a.1.strangers; links = a.1.links })
+    ]
+
+-- a connection is taken out and welcomed
+pub taken_out : {W : Type 0} (run monitors key strangers : ℕ) (mon : Mon) (after : VisitorView W) (held mid : Slab (VisitorView W)) (s t : LobbyView W) (links later : List (Option (LinkView W))) → record { held = held; strangers = strangers } ≡ s → Updates held mid key None → slab_len mid + 1 ≡ slab_len held → t.held ≡ mid → IsWelcomed run monitors mon after (record { lobby = record { held = mid; strangers = strangers }; links = links }) (record { lobby = t; links = later }) → IsTakenOut key (record { lobby = s; links = links }) (record { lobby = t; links = later }) × IsWelcomed run monitors mon after (record { lobby = s; links = links }) (record { lobby = t; links = later })
+taken_out run monitors key strangers mon after held mid s t links later is p n e w =
+    subst (λ x. IsTakenOut key (record { lobby = x; links = links }) (record { lobby = t; links = later }) × IsWelcomed run monitors mon after (record { lobby = x; links = links }) (record { lobby = t; links = later })) is
+    (record { updates = subst (λ h. Updates held h key None) (sym e) p; count = subst (λ h. slab_len h + 1 ≡ slab_len held) (sym e) n }, welcomed run monitors mon after held mid strangers links (record { lobby = t; links = later }) w)
+
+-- the connection that is held there is greeted, and answered
+pub greets_here : {W : Type 0} (run told monitors key strangers : ℕ) (result : Result (Unit {0}) NoMemory) (greeting : Greeting) (v after : VisitorView W) (held : Slab (VisitorView W)) (s : LobbyView W) (links : List (Option (LinkView W))) (new : DoorView W) → record { held = held; strangers = strangers } ≡ s → Some v ≡ get held key → told ≡ run → Greets told greeting v after → Gathers v after → IsAnswered run monitors key greeting after (record { lobby = s; links = links }) new → IsErr result ↔ (greeting ≡ g.NoMemory) → GreetsAt run monitors key result (record { lobby = s; links = links }) new
+greets_here {W} run told monitors key strangers result greeting v after held s links new is at same p q a m =
+    let old : DoorView W = record { lobby = s; links = links } in
+    subst (λ slot. GreetsSlot run monitors key result slot old new) (at ∙ ap (λ x. get x.held key) is) (record {
+      after = after;
+      greeting = greeting;
+      greets = subst (λ n. Greets n greeting v after) same p;
+      gathers = q;
+      answered = a;
+      memory = m;
+    })
+
+pub greets_more : {W : Type 0} (run monitors key : ℕ) (result : Result (Unit {0}) NoMemory) (old mid new : DoorView W) → GreetsUpTo run monitors key old mid → GreetsAt run monitors key result mid new → GreetsUpTo run monitors (key + 1) old new
+greets_more run monitors key result old mid new p q =
+    let next : suc key ≡ key + 1 = omega arith in
+    subst (λ k. GreetsUpTo run monitors k old new) next (mid, p, (result, q))
+
+-- one more key, over seats whose run and settings are as they were
+pub greets_step : {W : Type 0} (seats now : SeatsView W) (key : ℕ) (result : Result (Unit {0}) NoMemory) (old mid new : DoorView W) → now ≡ record seats { links = now.links } → GreetsUpTo seats.run seats.coordinator.settings.monitors key old mid → GreetsAt now.run now.coordinator.settings.monitors key result mid new → GreetsUpTo seats.run seats.coordinator.settings.monitors (key + 1) old new
+greets_step seats now key result old mid new is p q =
+    let run = ap (λ s. s.run) is in
+    let monitors = ap (λ s. s.coordinator.settings.monitors) is in
+    greets_more seats.run seats.coordinator.settings.monitors key result old mid new p
+    (subst (λ n. GreetsAt n seats.coordinator.settings.monitors key result mid new) run (subst (λ m. GreetsAt now.run m key result mid new) monitors q))
+
+-- what holds of a value alone holds of an error
+pub never_ok : (r : Result (Unit {0}) NoMemory) (P : Type 0) → IsErr r → OnOk r P
+never_ok (Ok x) P e = absurd (cc)
+never_ok (Err x) P e = tt
+
+-- seats that twice changed in their links alone
+pub links_alone : {W : Type 0} (a b c : SeatsView W) → b ≡ record a { links = b.links } → c ≡ record b { links = c.links } → c ≡ record a { links = c.links }
+links_alone {W} a b c p q = q ∙ ap (λ (s : SeatsView W). record s { links = c.links }) p

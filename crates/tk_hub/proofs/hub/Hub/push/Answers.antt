@@ -1,0 +1,19 @@
+use Rattle.std.proofs.Common.{◌≡◌, sym, subst}
+use Rattle.tk_journal.specs.Laws.{IsMonitor}
+use Rattle.tk_hub.specs.declared.course.Course.TheVariants as cs
+use Rattle.tk_hub.proofs.KeptLemmas.{hub_pushed}
+use Rattle.tk_hub.proofs.hub.Hub.push.Goals as goal
+
+pub invariant_of-self : goal.invariant_of-self
+invariant_of-self g c =
+    let s = c.self.inside in
+    let is = subst (λ v. IsMonitor v.coordinator.settings c.args.mon.0) (sym c.self.view_is) c.requires.monitor in
+    let going = subst (λ v. v.course ≡ cs.Open) (sym c.self.view_is) c.requires.going in
+    hub_pushed c.args.mon.0 s.seats c.say_at.new.self s.lobby s.lines s.course c.say_at.result going is c.self.invariant c.say_at.ensures.says c.say_at.ensures.rest c.say_at.ensures.kept
+
+pub returns-clause-kept : goal.returns-clause-kept
+returns-clause-kept g c =
+    let s = c.self.inside in
+    let is = subst (λ v. IsMonitor v.coordinator.settings c.args.mon.0) (sym c.self.view_is) c.requires.monitor in
+    let going = subst (λ v. v.course ≡ cs.Open) (sym c.self.view_is) c.requires.going in
+    hub_pushed c.args.mon.0 s.seats c.say_at.new.self s.lobby s.lines s.course c.say_at.result going is c.self.invariant c.say_at.ensures.says c.say_at.ensures.rest c.say_at.ensures.kept

@@ -1,0 +1,30 @@
+use Rattle.std.proofs.Common.{◌≡◌, ◌-◌, set, sym, subst}
+use Rattle.tk_journal.specs.Laws.{IsMonitor}
+use Rattle.tk_hub.specs.Seats.{link_at}
+use Rattle.tk_hub.specs.Slot.{SeatHearsOne}
+use Rattle.tk_hub.proofs.SeatsLemmas.{is_within, read_at, seats_heard_one, seen_at}
+use Rattle.tk_hub.proofs.seats.Seats.hear_one.Goals as goal
+
+pub invariant_of-self : goal.invariant_of-self
+invariant_of-self g c =
+    let s = c.self.inside in
+    let is = subst (λ v. IsMonitor v.coordinator.settings c.args.mon.0) (sym c.self.view_is) c.requires in
+    let within = is_within c.args.mon.0 (record { run = s.run; coordinator = s.desk.coordinator; links = s.links.items }) is c.self.invariant in
+    seats_heard_one s.run c.args.mon.0 c.hear_one.result s.links.items c.hear_one.new.seat s.desk c.hear_one.new.desk is c.self.invariant
+    (read_at s.links.items (c.args.mon.0 - 1) c.index_mut.result.now c.hear_one.new.seat (λ o p. SeatHearsOne c.args.mon.0 c.hear_one.result o p s.desk c.hear_one.new.desk) within c.index_mut.ensures.value c.hear_one.ensures)
+
+pub returns-clause-kept : goal.returns-clause-kept
+returns-clause-kept g c =
+    let s = c.self.inside in
+    let is = subst (λ v. IsMonitor v.coordinator.settings c.args.mon.0) (sym c.self.view_is) c.requires in
+    let within = is_within c.args.mon.0 (record { run = s.run; coordinator = s.desk.coordinator; links = s.links.items }) is c.self.invariant in
+    seats_heard_one s.run c.args.mon.0 c.hear_one.result s.links.items c.hear_one.new.seat s.desk c.hear_one.new.desk is c.self.invariant
+    (read_at s.links.items (c.args.mon.0 - 1) c.index_mut.result.now c.hear_one.new.seat (λ o p. SeatHearsOne c.args.mon.0 c.hear_one.result o p s.desk c.hear_one.new.desk) within c.index_mut.ensures.value c.hear_one.ensures)
+
+pub returns-clause-hears : goal.returns-clause-hears
+returns-clause-hears g c =
+    let s = c.self.inside in
+    let is = subst (λ v. IsMonitor v.coordinator.settings c.args.mon.0) (sym c.self.view_is) c.requires in
+    let within = is_within c.args.mon.0 (record { run = s.run; coordinator = s.desk.coordinator; links = s.links.items }) is c.self.invariant in
+    subst (λ v. SeatHearsOne c.args.mon.0 c.hear_one.result (link_at v.links (c.args.mon.0 - 1)) (link_at (set s.links.items (c.args.mon.0 - 1) c.hear_one.new.seat) (c.args.mon.0 - 1)) (record { coordinator = v.coordinator }) c.hear_one.new.desk) c.self.view_is
+    (seen_at s.links.items (c.args.mon.0 - 1) c.index_mut.result.now c.hear_one.new.seat (λ o p. SeatHearsOne c.args.mon.0 c.hear_one.result o p s.desk c.hear_one.new.desk) within c.index_mut.ensures.value c.hear_one.ensures)

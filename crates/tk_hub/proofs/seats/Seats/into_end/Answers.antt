@@ -1,0 +1,17 @@
+use Rattle.std.proofs.Common.{sym, subst}
+use Rattle.tk_hub.proofs.LeavingLemmas.{odd_up, standing_of}
+use Rattle.tk_hub.specs.Leaving.{AreCounted, IsLeftOn}
+use Rattle.tk_hub.proofs.seats.Seats.into_end.Goals as goal
+
+pub leave-odd-requires-clause-standing : goal.leave-odd-requires-clause-standing
+leave-odd-requires-clause-standing g c =
+    let s = c.self.inside in
+    standing_of c.args.course (record { run = s.run; coordinator = s.desk.coordinator; links = s.links.items }) (subst (λ v. IsLeftOn c.args.course v) (sym c.self.view_is) c.requires.course)
+
+pub new-requires : goal.new-requires
+new-requires g c =
+    let s = c.self.inside in
+    odd_up c.args.course (record { run = s.run; coordinator = s.desk.coordinator; links = s.links.items }) c.leave-odd.result.0 c.self.invariant (subst (λ v. IsLeftOn c.args.course v) (sym c.self.view_is) c.requires.course) c.leave-odd.ensures.odd
+
+pub returns-clause-counted : goal.returns-clause-counted
+returns-clause-counted g c = subst (λ v. AreCounted g.W.Wire.counts v.links) c.self.view_is c.leave-odd.ensures.counted

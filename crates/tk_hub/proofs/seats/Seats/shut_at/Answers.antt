@@ -1,0 +1,21 @@
+use Rattle.std.proofs.Common.{◌≡◌, ◌-◌, sym, subst}
+use Rattle.tk_journal.specs.Laws.{IsMonitor}
+use Rattle.tk_hub.specs.Seats.{SeatShuts}
+use Rattle.tk_hub.proofs.SeatsLemmas.{is_within, read_at, seats_shut}
+use Rattle.tk_hub.proofs.seats.Seats.shut_at.Goals as goal
+
+pub invariant_of-self : goal.invariant_of-self
+invariant_of-self g c =
+    let s = c.self.inside in
+    let is = subst (λ v. IsMonitor v.coordinator.settings c.args.mon.0) (sym c.self.view_is) c.requires in
+    let within = is_within c.args.mon.0 (record { run = s.run; coordinator = s.desk.coordinator; links = s.links.items }) is c.self.invariant in
+    seats_shut c.args.mon.0 (record { run = s.run; coordinator = s.desk.coordinator; links = s.links.items }) c.shut.new.seat is c.self.invariant
+    (read_at s.links.items (c.args.mon.0 - 1) c.index_mut.result.now c.shut.new.seat SeatShuts within c.index_mut.ensures.value c.shut.ensures)
+
+pub returns-clause-kept : goal.returns-clause-kept
+returns-clause-kept g c =
+    let s = c.self.inside in
+    let is = subst (λ v. IsMonitor v.coordinator.settings c.args.mon.0) (sym c.self.view_is) c.requires in
+    let within = is_within c.args.mon.0 (record { run = s.run; coordinator = s.desk.coordinator; links = s.links.items }) is c.self.invariant in
+    seats_shut c.args.mon.0 (record { run = s.run; coordinator = s.desk.coordinator; links = s.links.items }) c.shut.new.seat is c.self.invariant
+    (read_at s.links.items (c.args.mon.0 - 1) c.index_mut.result.now c.shut.new.seat SeatShuts within c.index_mut.ensures.value c.shut.ensures)

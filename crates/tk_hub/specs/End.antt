@@ -1,0 +1,88 @@
+-- What is left of a hub that is done with, and what its wires in memory give and get.
+use Rattle.std.specs.Prelude.{◌≡◌, ◌<◌, ◌≤◌, ◌-◌, ℕ, List, [], length, map, filter_map, take, min, true, false, Option, Some, None, IfSome, is_some, ⊤}
+use Rattle.std.specs.Option.{option_map}
+use Rattle.tk_base.specs.declared.ids.Mon.{Mon}
+use Rattle.tk_frames.specs.declared.answer.BadFrame.{BadFrame}
+use Rattle.tk_frames.specs.declared.frame.Frame.{Frame}
+use Rattle.tk_journal.specs.declared.noted.Noted.{Noted}
+use Rattle.tk_story.specs.declared.ends.received.Received.{Received}
+use Rattle.tk_story.specs.declared.ends.received.Received.TheVariants as r
+use Rattle.tk_wire.specs.Meanings.{Counts}
+use Rattle.tk_wire.specs.Pipe.{Queue, free, with_more, without}
+use Rattle.tk_wire.specs.PipeWire.{MemoryWire, drained, filled, left_in, with_traffic}
+use Rattle.tk_end.specs.Inbox.{IsOdd}
+use Rattle.tk_end.specs.Link.{Covers, LinkView, over}
+use Rattle.tk_hub.specs.Hub.{HubView}
+use Rattle.tk_hub.specs.Seats.{heard_at, link_at}
+use Rattle.tk_hub.specs.Turn.{HoldsAt}
+use Rattle.tk_hub.specs.declared.course.Course.{Course}
+use Rattle.tk_hub.specs.declared.course.Course.TheVariants as cs
+
+-- ---- the wires
+
+abbrev pub wire_of : {W : Type 0} → Option (LinkView W) → Option W
+wire_of link = option_map (λ link. link.wire) link
+
+-- those of the monitors that were admitted, ascending
+abbrev pub wires_of : {W : Type 0} → List (Option (LinkView W)) → List W
+wires_of links = filter_map wire_of links
+
+-- the wire of a monitor took no fewer bytes than Hello has, with the frames that the journal got of it and what came since
+abbrev pub CoversHeard : {W : Type 0} → (W → Counts) → ℕ → List Noted → ℕ → LinkView W → Type 0
+CoversHeard counts run journal mon link = Covers link.version (heard_at run journal mon link) link.unread (counts link.wire).taken
+
+-- ---- what came next and was not taken
+
+-- a frame of a monitor
+abbrev pub frame_of : Mon → Frame → Mon × Received
+frame_of mon frame = (mon, r.Frame frame)
+
+-- the next frame of a monitor
+abbrev pub IsOddFrame : {W : Type 0} → Mon → LinkView W → Option (Mon × Received) → Type 0
+IsOddFrame mon link odd = odd ≡ option_map (frame_of mon) link.front
+
+-- the next bytes of a monitor, which are no frame
+pub record IsOddBytes {W : Type 0} (mon : Mon) (fault : BadFrame) (link : LinkView W) (odd : Option (Mon × Received)) : Type 0 where
+  pub bytes : List ℕ
+  pub is : odd ≡ Some (mon, r.Bytes bytes)
+  pub odd_ones : IsOdd link.version fault link.unread bytes
+
+-- what is left on a course: the refused frame of its monitor, or the bytes that are none
+abbrev pub LeavesOdd : {W : Type 0} → Course → List (Option (LinkView W)) → Option (Mon × Received) → Type 0
+LeavesOdd cs.Open links odd = odd ≡ None
+LeavesOdd cs.Halted links odd = odd ≡ None
+LeavesOdd cs.Failed links odd = odd ≡ None
+LeavesOdd (cs.Refused mon why) links odd = HoldsAt links mon.0 (λ link. IsOddFrame mon link odd)
+LeavesOdd (cs.Bad mon fault) links odd = HoldsAt links mon.0 (λ link. IsOddBytes mon fault link odd)
+LeavesOdd cs.WriteFailed links odd = odd ≡ None
+
+-- what a hub was given next and did not take
+abbrev pub IsLeft : {W : Type 0} → HubView W → Option (Mon × Received) → Type 0
+IsLeft hub odd = LeavesOdd hub.course hub.links odd
+
+-- ---- wires in memory
+
+-- bytes went from the front of the wire's outbox to the end of a pipe, as many as both let; none where the link is shut
+pub record Drains (moved : ℕ) (x y : LinkView MemoryWire) (before now : Queue) : Type 0 where
+  pub shut : x.shut ≡ true → moved ≡ 0
+  pub value : x.shut ≡ false → moved ≡ min x.wire.piece (min (length x.traffic.held) (free before))
+  pub wire : y ≡ over (with_traffic (drained moved x.traffic) x.wire) x
+  pub pipe : now ≡ with_more (take moved x.traffic.held) before
+
+-- bytes went from the front of a pipe to the end of the wire's inbox, as many as both let; none where the link is shut
+pub record Fills (moved : ℕ) (x y : LinkView MemoryWire) (before now : Queue) : Type 0 where
+  pub shut : x.shut ≡ true → moved ≡ 0
+  pub value : x.shut ≡ false → moved ≡ min x.wire.piece (min (length before.bytes) (left_in x.traffic))
+  pub wire : y ≡ over (with_traffic (filled (take moved before.bytes) x.traffic) x.wire) x
+  pub pipe : now ≡ without moved before
+
+-- at a seat that is free nothing moves
+abbrev pub SeatDrains : ℕ → Option (LinkView MemoryWire) → Option (LinkView MemoryWire) → Queue → Queue → Type 0
+SeatDrains moved None new before now = (new ≡ None) × (moved ≡ 0) × (now ≡ before)
+SeatDrains moved (Some x) None before now = ⊥
+SeatDrains moved (Some x) (Some y) before now = Drains moved x y before now
+
+abbrev pub SeatFills : ℕ → Option (LinkView MemoryWire) → Option (LinkView MemoryWire) → Queue → Queue → Type 0
+SeatFills moved None new before now = (new ≡ None) × (moved ≡ 0) × (now ≡ before)
+SeatFills moved (Some x) None before now = ⊥
+SeatFills moved (Some x) (Some y) before now = Fills moved x y before now

@@ -1,0 +1,14 @@
+pub mod Desk
+pub mod Door
+pub mod End
+pub mod Hub
+pub mod Leaving
+pub mod Lines
+pub mod Seats
+pub mod Slot
+pub mod Turn
+pub mod Visitor
+pub mod VisitorInside
+pub mod Writing
+pub use Rattle.tk_end.specs.Hearing
+pub use Rattle.tk_end.specs.Link

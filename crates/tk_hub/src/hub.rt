@@ -1,0 +1,280 @@
+ghost use Rattle.std.specs.Prelude.{◌≡◌, ◌≤◌, ◌-◌, ◌↔◌, [], true, false, None, Ok, Some, IfOk, IsTrue, length, replicate, slice_set};
+ghost use Rattle.slab.specs.Slab.{Updates, slab_len};
+ghost use Rattle.tk_input.specs.Files.{HasRisen};
+ghost use Rattle.tk_journal.specs.Laws.{IsMonitor};
+ghost use Rattle.tk_journal.specs.Legal.{inputs_of};
+ghost use Rattle.tk_hub.specs.Door.{GreetsHeld};
+ghost use Rattle.tk_hub.specs.Hub.{Closes, EachOpen, IsFinished, IsFinishedBy, IsHub, Turns, TurnsOne, Works, door_of};
+ghost use Rattle.tk_hub.specs.Lines.{IsAt};
+ghost use Rattle.tk_hub.specs.Writing.{CutsLine, WritesLines};
+ghost use Rattle.tk_hub.specs.Seats.{AreSeats, EachShuts, link_at};
+ghost use Rattle.tk_hub.specs.Slot.{SeatSays};
+ghost use Rattle.tk_hub.specs.Turn.{HoldsAt, answer_of, course_of, halted_of, is_open};
+ghost use Rattle.tk_hub.specs.Visitor.{IsUnused};
+ghost use Rattle.tk_hub.specs.declared.course.HubTurn.{HubTurn as Turned};
+
+mod ending;
+mod piping;
+mod retuning;
+
+use crate::course::{Course, HubTurn};
+use crate::lines::{LineFault, Lines};
+use crate::lobby::{Admitted, Lobby};
+use crate::room::Room;
+use crate::seats::Seats;
+use std::alloc::Global;
+use std::marker::Model;
+use tk_base::{Mon, NoMemory};
+use tk_coord::Coordinator;
+use tk_input::{Catalog, Sink};
+use tk_wire::{Pushed, Wire};
+
+/// The coordinator and its ends of the connections: one for each monitor that has said Hello, and those that have not.
+#[derive(Drop)]
+pub struct Hub<W: Wire> {
+    alloc: Global,
+    seats: Seats<W>,
+    lobby: Lobby<W>,
+    lines: Lines,
+    course: Course,
+    room: Room<W>,
+}
+
+impl<W: Wire> Model for Hub<W> {
+    ghost use Rattle.tk_hub.specs.Hub.{HubView, IsHub};
+
+    ghost Value = { HubView W };
+
+    ghost view = { λ h. record {
+      run = h.seats.run;
+      coordinator = h.seats.coordinator;
+      links = h.seats.links;
+      held = h.lobby.held;
+      strangers = h.lobby.strangers;
+      lines = h.lines;
+      course = h.course;
+    } };
+
+    ghost invariant = { λ h. IsHub (record {
+      run = h.seats.run;
+      coordinator = h.seats.coordinator;
+      links = h.seats.links;
+      held = h.lobby.held;
+      strangers = h.lobby.strangers;
+      lines = h.lines;
+      course = h.course;
+    }) };
+}
+
+/// Whether the final line is written, and all output is given.
+fn is_finished<W: Wire + Drop>(seats: &Seats<W>, lines: Lines) -> bool
+    ensures { IsTrue result ↔ IsFinishedBy seats.now lines }
+{
+    seats.coordinator().finished()
+        && lines.passed == seats.coordinator().journal().len()
+        && seats.has_said_all()
+}
+
+/// Greets, exchanges frames with each monitor, and writes new lines.
+fn exchange<W: Wire + Drop, O: Sink>(
+    alloc: Global,
+    seats: &mut Seats<W>,
+    lobby: &mut Lobby<W>,
+    lines: &mut Lines,
+    names: &Catalog,
+    out: &mut O,
+) -> HubTurn
+    requires seats { AreSeats seats.old }
+    requires at { IsAt seats.old.coordinator.journal lines.old }
+    requires named { seats.old.coordinator.settings.objects ≤ length names.now }
+    ensures works { Works result seats.old lobby.old seats.new lobby.new lines.new }
+    ensures seats { AreSeats seats.new }
+    ensures at { IsAt seats.new.coordinator.journal lines.new }
+    ensures going { EachOpen seats.old.links → EachOpen seats.new.links }
+    ensures few { slab_len lobby.new.held ≤ 64 }
+    ensures lines { (result ≡ HubTurn.WriteFailed → ⊥) → WritesLines names.now seats.new.coordinator.journal lines.old lines.new (O.written out.old) (O.written out.new) }
+    ensures cut { result ≡ HubTurn.WriteFailed → CutsLine names.now seats.new.coordinator.journal lines.old lines.new (O.written out.old) (O.written out.new) }
+    ensures failed { result ≡ HubTurn.WriteFailed → HasRisen (O.fault_count out.old) (O.fault_count out.new) }
+{
+    if lobby.greet(seats).is_err() {
+        return HubTurn::NoMemory;
+    }
+    let turn = seats.exchange();
+    if !turn.goes_on() {
+        return turn;
+    }
+    match lines.write(alloc, seats.coordinator().journal(), names, out) {
+        Err(LineFault::WriteFailed) => return HubTurn::WriteFailed,
+        Err(LineFault::NoMemory) => return HubTurn::NoMemory,
+        Ok(()) => {}
+    }
+    if is_finished(seats, *lines) {
+        HubTurn::Finished
+    } else {
+        turn
+    }
+}
+
+/// The course after a turn, for which all wires are shut where it is closed.
+fn conclude<W: Wire + Drop>(seats: &mut Seats<W>, lobby: &mut Lobby<W>, turn: HubTurn) -> Course
+    requires { slab_len lobby.old.held ≤ 64 }
+    ensures course { result ≡ course_of turn }
+    ensures closes { Closes (is_open (course_of turn)) (record { lobby = lobby.old; links = seats.old.links }) (record { lobby = lobby.new; links = seats.new.links }) }
+    ensures rest { seats.new ≡ record seats.old { links = seats.new.links } }
+    ensures kept { AreSeats seats.old → AreSeats seats.new }
+    ensures few { slab_len lobby.new.held ≤ 64 }
+{
+    let course = Course::after(turn);
+    if !course.is_open() {
+        seats.shut();
+        lobby.clear();
+    }
+    course
+}
+
+impl<W: Wire + Drop> Hub<W> {
+    /// A hub without connections.
+    pub fn new(alloc: Global, coordinator: Coordinator, run: u64) -> Result<Hub<W>, NoMemory>
+        requires { inputs_of coordinator.journal ≡ [] }
+        ensures run { IfOk result (λ hub. hub.run ≡ run) }
+        ensures coordinator { IfOk result (λ hub. hub.coordinator ≡ coordinator) }
+        ensures links { IfOk result (λ hub. hub.links ≡ replicate coordinator.settings.monitors None) }
+        ensures held { IfOk result (λ hub. hub.held.slots ≡ []) }
+        ensures strangers { IfOk result (λ hub. hub.strangers ≡ 0) }
+        ensures lines { IfOk result (λ hub. hub.lines.passed ≡ 0) }
+        ensures course { IfOk result (λ hub. hub.course ≡ Course.Open) }
+        ensures kept { IfOk result IsHub }
+    {
+        let seats = Seats::new(alloc, coordinator, run)?;
+        let room = Room::new(alloc)?;
+        // The coordinator is read for its clause, that each seat is that of its monitor.
+        let _ = seats.coordinator();
+        Ok(Hub {
+            alloc,
+            seats,
+            lobby: Lobby::new(alloc),
+            lines: Lines::new(),
+            course: Course::Open,
+            room,
+        })
+    }
+
+    /// The coordinator.
+    pub fn coordinator(&self) -> &Coordinator
+        ensures value { result.now ≡ self.now.coordinator }
+        ensures kept { IsHub self.now }
+    {
+        self.seats.coordinator()
+    }
+
+    /// How many connections were closed since they were no monitor's of this run.
+    pub fn strangers(&self) -> u64
+        ensures { result ≡ self.now.strangers }
+    {
+        self.lobby.strangers()
+    }
+
+    /// Holds a connection until its Hello, or closes it. Where there is no memory, it is dropped.
+    pub fn admit(&mut self, wire: W) -> Result<Admitted, NoMemory>
+        requires unused { IsUnused W.tells (W.traffic wire) }
+        requires going { self.old.course ≡ Course.Open }
+        ensures closed { (result ≡ Ok Admitted.Closed) ↔ (slab_len self.old.held ≡ 64) }
+        ensures kept { result ≡ Ok Admitted.Kept → Updates self.old.held self.new.held self.old.held.vacant_key (Some (record {
+          wire = wire;
+          tells = W.tells;
+          traffic = W.traffic wire;
+          counts = W.counts wire;
+          bytes = [];
+          front = None;
+        })) }
+        ensures same { (result ≡ Ok Admitted.Kept → ⊥) → self.new.held.slots ≡ self.old.held.slots }
+        ensures rest { self.new ≡ record self.old { held = self.new.held } }
+        ensures hub { IsHub self.new }
+    {
+        self.lobby.admit(wire)
+    }
+
+    /// Pulls from each connection without a Hello until its first frame is whole, and admits or closes it.
+    pub fn greet(&mut self) -> Result<(), NoMemory>
+        requires { self.old.course ≡ Course.Open }
+        ensures greets { GreetsHeld self.old.run self.old.coordinator.settings.monitors result (door_of self.old) (door_of self.new) }
+        ensures rest { self.new ≡ record self.old { held = self.new.held; strangers = self.new.strangers; links = self.new.links } }
+        ensures kept { IsHub self.new }
+    {
+        self.lobby.greet(&mut self.seats)
+    }
+
+    /// Greets, takes frames of each monitor, at most 64 pieces each, says what was sent and writes new lines.
+    /// Costs what came and what is sent, and over quiet connections one take each.
+    pub fn turn<O: Sink>(&mut self, names: &Catalog, out: &mut O) -> HubTurn
+        requires not_halted { self.old.course ≡ Course.Halted → ⊥ }
+        requires written { self.old.course ≡ Course.WriteFailed → ⊥ }
+        requires named { self.old.coordinator.settings.objects ≤ length names.now }
+        // A hub that failed gives the same answer, and one that has finished too.
+        ensures closed { (turn : Turned) → answer_of self.old.course ≡ Some turn → (result ≡ turn) × (self.new ≡ self.old) × (out.new ≡ out.old) }
+        ensures finished { self.old.course ≡ Course.Open → IsFinished self.old → (result ≡ HubTurn.Finished) × (self.new ≡ self.old) × (out.new ≡ out.old) }
+        ensures goes { self.old.course ≡ Course.Open → (IsFinished self.old → ⊥) → Turns result self.old self.new }
+        // The lines of the publications that were passed are written, and only WriteFailed leaves a part of one.
+        ensures lines { (result ≡ HubTurn.WriteFailed → ⊥)
+            → WritesLines names.now self.new.coordinator.journal self.old.lines self.new.lines (O.written out.old) (O.written out.new) }
+        ensures cut { result ≡ HubTurn.WriteFailed
+            → CutsLine names.now self.new.coordinator.journal self.old.lines self.new.lines (O.written out.old) (O.written out.new) }
+        ensures failed { result ≡ HubTurn.WriteFailed → HasRisen (O.fault_count out.old) (O.fault_count out.new) }
+        ensures kept { IsHub self.new }
+    {
+        if let Some(turn) = self.course.answer() {
+            return turn;
+        }
+        if is_finished(&self.seats, self.lines) {
+            return HubTurn::Finished;
+        }
+        let turn = exchange(
+            self.alloc,
+            &mut self.seats,
+            &mut self.lobby,
+            &mut self.lines,
+            names,
+            out,
+        );
+        self.course = conclude(&mut self.seats, &mut self.lobby, turn);
+        turn
+    }
+
+    /// Pulls until a frame of this monitor is whole, and takes that one.
+    pub fn take_one(&mut self, mon: Mon) -> HubTurn
+        requires going { self.old.course ≡ Course.Open }
+        requires monitor { IsMonitor self.old.coordinator.settings mon.0 }
+        requires admitted { HoldsAt self.old.links mon.0 (λ link. link.shut ≡ false) }
+        ensures turns { TurnsOne mon.0 result self.old self.new }
+        ensures kept { IsHub self.new }
+    {
+        let turn = self.seats.hear_one(mon);
+        self.course = conclude(&mut self.seats, &mut self.lobby, turn);
+        turn
+    }
+
+    /// Writes the frames for this monitor that are not written, then gives until nothing is left to give.
+    pub fn push(&mut self, mon: Mon) -> Result<Pushed, NoMemory>
+        requires going { self.old.course ≡ Course.Open }
+        requires monitor { IsMonitor self.old.coordinator.settings mon.0 }
+        requires admitted { HoldsAt self.old.links mon.0 (λ link. link.shut ≡ false) }
+        ensures says { SeatSays mon.0 self.old.coordinator result (link_at self.old.links (mon.0 - 1)) (link_at self.new.links (mon.0 - 1)) }
+        ensures rest { self.new ≡ record self.old { links = slice_set self.old.links (mon.0 - 1) (link_at self.new.links (mon.0 - 1)) } }
+        ensures kept { IsHub self.new }
+    {
+        self.seats.say_at(mon)
+    }
+
+    /// Shuts the admitted wires, keeps them unused and drops the others. It takes no memory.
+    pub fn halt(&mut self)
+        ensures shut { EachShuts self.old.links self.new.links }
+        ensures dropped { self.new.held.slots ≡ [] }
+        ensures course { self.new.course ≡ halted_of self.old.course }
+        ensures rest { self.new ≡ record self.old { links = self.new.links; held = self.new.held; course = self.new.course } }
+        ensures kept { IsHub self.new }
+    {
+        self.seats.shut();
+        self.lobby.clear();
+        self.course = self.course.halted();
+    }
+}
