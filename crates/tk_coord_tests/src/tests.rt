@@ -147,3 +147,8 @@ fn own(c: &Coordinator) -> Option<(i128, i128)> {
     }
     Some((c.own(Obj(1)), c.own(Obj(2))))
 }
+
+/// Whether an object is a member.
+fn leads(c: &Coordinator, o: u32) -> bool {
+    c.members().has(Obj(o))
+}

@@ -43,73 +43,41 @@ fn leads(world: &World, obj: u32) -> bool {
 /// The log of monitor 1, in which b and a pass one another by turns.
 const TURNS: &[u8] = b"b,100\na,200\nb,200\na,200\nb,200\na,200\nb,200\na,200\nb,200\n";
 
-#[test]
-fn a_world_at_rest_sweeps_once(rt: HostRuntime) -> Result<(), Fail> {
-    let mut w = world(rt.alloc(), TURNS, b"")?;
-    let first = settle(&mut w)?.count;
-    assert!(rt; 1 < first && first <= 200 * 3);
-    assert!(rt; sweep(&mut w)? == Moved::Idle);
-    assert!(rt; settle(&mut w)?.count == 1);
-    Ok(())
+/// Whether a world that has settled sweeps once more, and moves nothing.
+fn is_at_rest(world: &mut World) -> Result<bool, NoMemory> {
+    let moved = sweep(world)?;
+    let sweeps = settle(world)?;
+    Ok(moved == Moved::Idle && sweeps.count == 1)
 }
 
-#[test]
-fn ninth_report(rt: HostRuntime) -> Result<(), Fail> {
-    let mut w = world(rt.alloc(), TURNS, b"")?;
-    let text = b"down 2\nup 2\nraise 1 1\ndown 1\nup 1\ndown 2\nup 2\n";
-    let turn = b"raise 1 1\ndown 1\ndown 2\nup 2\nup 1\ndown 2\nup 2\n";
-    let first = Order::read(rt.alloc(), text)?;
-    let next = Order::read(rt.alloc(), turn)?;
-    for i in 0..first.len() {
-        assert!(rt; w.step(first.at(i).try_clone()?)? == Moved::Yes);
+/// Settles in the midst of a round, which another report crosses.
+fn settled(world: &mut World) -> Result<bool, NoMemory> {
+    settle(world)?;
+    for mon in 1..3 {
+        world.step(Event::Raise(Mon(mon), Feeder(1)))?;
+        world.step(Event::Check(Mon(mon)))?;
     }
-    for _turn in 0..8 {
-        for i in 0..next.len() {
-            assert!(rt; w.step(next.at(i).try_clone()?)? == Moved::Yes);
-        }
-    }
-    let sweeps = settle(&mut w)?.count;
-    assert!(rt; 1 < sweeps && sweeps <= 200 * 3);
-    assert!(rt; leads(&w, 2));
-    Ok(())
+    // The first report opens a round, and the second one crosses its frames.
+    world.step(Event::Up(Mon(1)))?;
+    world.step(Event::Raise(Mon(2), Feeder(1)))?;
+    let sweeps = settle(world)?;
+    Ok(1 < sweeps.count)
+}
+
+/// Whether the first changes of both monitors were raised before.
+fn are_at_their_ends(world: &mut World) -> Result<bool, NoMemory> {
+    let one = world.step(Event::Raise(Mon(1), Feeder(1)))?;
+    let two = world.step(Event::Raise(Mon(2), Feeder(1)))?;
+    Ok((one, two) == (Moved::Idle, Moved::Idle))
 }
 
 #[test]
 fn settles_with_stale_reports_under_way(rt: HostRuntime) -> Result<(), Fail> {
     let mut w = world(rt.alloc(), TURNS, b"a,5\nb,500\n")?;
-    settle(&mut w)?;
-    for mon in 1..3 {
-        w.step(Event::Raise(Mon(mon), Feeder(1)))?;
-        w.step(Event::Check(Mon(mon)))?;
-    }
-    // The first report opens a round, and the second one crosses its frames.
-    w.step(Event::Up(Mon(1)))?;
-    w.step(Event::Raise(Mon(2), Feeder(1)))?;
-    assert!(rt; 1 < settle(&mut w)?.count);
-    assert!(rt; leads(&w, 2));
-    Ok(())
-}
-
-#[test]
-fn settles_in_the_midst_of_a_retune(rt: HostRuntime) -> Result<(), Fail> {
-    let mut w = world(rt.alloc(), TURNS, b"a,5\n")?;
-    settle(&mut w)?;
-    w.step(Event::Raise(Mon(1), Feeder(1)))?;
-    assert!(rt; w.step(Event::retune(rt.alloc(), 1, 50)?)? == Moved::Yes);
-    w.step(Event::Raise(Mon(2), Feeder(1)))?;
-    assert!(rt; 1 < settle(&mut w)?.count);
-    assert!(rt; sweep(&mut w)? == Moved::Idle);
-    Ok(())
-}
-
-#[test]
-fn finishes_with_parts_of_unlike_lengths(rt: HostRuntime) -> Result<(), Fail> {
-    let mut w = world(rt.alloc(), TURNS, b"a,5\n")?;
+    let rests = (settled(&mut w)?, is_at_rest(&mut w)?, leads(&w, 2));
     finish(rt.alloc(), &mut w)?;
-    for mon in 1..3 {
-        assert!(rt; w.step(Event::Raise(Mon(mon), Feeder(1)))? == Moved::Idle);
-    }
-    assert!(rt; leads(&w, 2));
+    let ends = (are_at_their_ends(&mut w)?, leads(&w, 2));
+    assert_eq!(rt; (rests, ends), ((true, true, true), (true, true)));
     Ok(())
 }
 
@@ -118,7 +86,7 @@ fn drives_an_order_to_the_ends(rt: HostRuntime) -> Result<(), Fail> {
     let mut w = world(rt.alloc(), TURNS, b"a,5\n")?;
     let order = Order::read(rt.alloc(), b"raise 1 1\nup 1\nraise 3 1\nretune 1 7\n")?;
     drive(rt.alloc(), &mut w, &order)?;
-    assert!(rt; w.step(Event::Raise(Mon(1), Feeder(1)))? == Moved::Idle);
-    assert!(rt; leads(&w, 2));
+    let ends = (are_at_their_ends(&mut w)?, is_at_rest(&mut w)?, leads(&w, 2));
+    assert_eq!(rt; ends, (true, true, true));
     Ok(())
 }

@@ -95,215 +95,233 @@ fn hello() -> Frame {
     }
 }
 
-/// Takes a frame, and answers why not where it is refused.
-fn refusal(m: &mut Monitor, frame: Frame) -> Option<MonitorRefusal>
+/// What is done with a monitor, in plain words.
+#[derive(Clone, Copy)]
+enum Does<'a> {
+    Raise,
+    Check,
+    /// An Assign's sequence number, members and changes.
+    Assign(u64, &'a [u32], &'a [(u32, i128)]),
+    /// The objects of a Collect of round 1.
+    Collect(&'a [u32]),
+    Stop,
+    Hello,
+}
+
+/// What a monitor makes of it.
+#[derive(Clone, Copy, PartialEq)]
+enum Answer {
+    Raised(Raised),
+    Checked(Checked),
+    Taken,
+    Refused(MonitorRefusal),
+}
+
+const CALM: Answer = Answer::Raised(Raised::Done { broken: false });
+
+const BROKEN: Answer = Answer::Raised(Raised::Done { broken: true });
+
+const NOTHING: Answer = Answer::Checked(Checked::Nothing);
+
+/// Assign 1 with the member a, and this factor of b.
+fn assigned(factor: &[(u32, i128)]) -> (Does<'_>, Answer) {
+    (Does::Assign(1, &[1], factor), Answer::Taken)
+}
+
+fn taken(m: &mut Monitor, frame: Frame) -> Answer
     ensures { m.new.setup ≡ m.old.setup }
 {
     match m.take(frame) {
-        Ok(()) => None,
-        Err((refusal, _)) => Some(refusal),
+        Ok(()) => Answer::Taken,
+        Err((refusal, _)) => Answer::Refused(refusal),
     }
 }
 
-fn raise(m: &mut Monitor) -> Raised
+fn done(alloc: Global, m: &mut Monitor, does: Does<'_>) -> Result<Answer, Fail>
     requires { length m.old.setup.parts ≡ 1 }
     ensures { m.new.setup ≡ m.old.setup }
 {
-    m.raise(Feeder(1))
+    Ok(match does {
+        Does::Raise => Answer::Raised(m.raise(Feeder(1))),
+        Does::Check => Answer::Checked(m.check()?),
+        Does::Assign(seq, members, changes) => taken(m, assign(alloc, seq, members, changes)?),
+        Does::Collect(asked) => taken(m, collect(alloc, asked)?),
+        Does::Stop => taken(m, Frame::Stop),
+        Does::Hello => taken(m, hello()),
+    })
 }
 
-fn check(m: &mut Monitor) -> Result<Checked, Fail>
+/// Whether a monitor answers so to each of these in turn.
+fn answers(alloc: Global, m: &mut Monitor, steps: &[(Does<'_>, Answer)]) -> Result<bool, Fail>
+    requires { length m.old.setup.parts ≡ 1 }
     ensures { m.new.setup ≡ m.old.setup }
 {
-    let checked = m.check()?;
-    Ok(checked)
-}
-
-fn level_of_b(m: &Monitor) -> i128
-    requires { m.now.setup.objects ≡ 2 }
-{
-    m.level(Obj(2))
-}
-
-fn has_sent(m: &Monitor, i: usize, frame: &Frame) -> bool {
-    i < m.sent() && *m.sent_at(i) == *frame
-}
-
-/// Such a monitor once it took Assign 1, with member a and this factor of b.
-fn assigned(alloc: Global, records: &[u8], factor: i128) -> Result<Monitor, Fail>
-    ensures objects { IfOk result (λ m. m.setup.objects ≡ 2) }
-    ensures feeder { IfOk result (λ m. length m.setup.parts ≡ 1) }
-{
-    let mut m = monitor(alloc, records)?;
-    let frame = assign(alloc, 1, &[1], &[(2, factor)])?;
-    match refusal(&mut m, frame) {
-        None => Ok(m),
-        Some(_) => Err("refused")?,
+    for (does, wanted) in steps {
+        if done(alloc, m, *does)? != *wanted {
+            return Ok(false);
+        }
     }
+    Ok(true)
+}
+
+/// A monitor in plain numbers: its sequence number, frames sent, entries and slack, and whether it has ended, is broken and was
+/// stopped.
+type Numbers = (u64, usize, usize, Option<i128>, [bool; 3]);
+
+fn numbers(m: &Monitor) -> Numbers {
+    let marks = [m.ended(), m.broken(), m.stopped()];
+    (m.seq(), m.sent(), m.trail().len(), m.slack(), marks)
+}
+
+/// Whether a new monitor over such records answers so, and its numbers then.
+fn played(
+    alloc: Global,
+    records: &[u8],
+    steps: &[(Does<'_>, Answer)],
+) -> Result<(bool, Numbers), Fail> {
+    let mut m = monitor(alloc, records)?;
+    let all = answers(alloc, &mut m, steps)?;
+    Ok((all, numbers(&m)))
 }
 
 #[test]
 fn refused_assigns(rt: HostRuntime) -> Result<(), Fail> {
-    let mut m = monitor(rt.alloc(), b"b,1\n")?;
-    let cases: [(u64, &[u32], &[(u32, i128)], MonitorRefusal); 5] = [
+    let early = MonitorRefusal::WrongSequence { has: 0, got: 2 };
+    let again = MonitorRefusal::WrongSequence { has: 1, got: 1 };
+    let steps = [
+        (Does::Assign(2, &[1], &[]), Answer::Refused(early)),
         (
-            2,
-            &[1],
-            &[],
-            MonitorRefusal::WrongSequence { has: 0, got: 2 },
+            Does::Assign(1, &[3], &[]),
+            Answer::Refused(MonitorRefusal::BadMembers),
         ),
-        (1, &[3], &[], MonitorRefusal::BadMembers),
-        (1, &[], &[], MonitorRefusal::BadMembers),
-        (1, &[1], &[(3, 0)], MonitorRefusal::BadChange(Obj(3))),
         (
-            1,
-            &[1],
-            &[(2, PAST_LIMIT)],
-            MonitorRefusal::BadChange(Obj(2)),
+            Does::Assign(1, &[], &[]),
+            Answer::Refused(MonitorRefusal::BadMembers),
         ),
+        (
+            Does::Assign(1, &[1], &[(3, 0)]),
+            Answer::Refused(MonitorRefusal::BadChange(Obj(3))),
+        ),
+        (
+            Does::Assign(1, &[1], &[(2, PAST_LIMIT)]),
+            Answer::Refused(MonitorRefusal::BadChange(Obj(2))),
+        ),
+        (Does::Assign(1, &[1], &[(2, 0)]), Answer::Taken),
+        (Does::Assign(1, &[1], &[]), Answer::Refused(again)),
     ];
-    for (seq, members, changes, wanted) in cases {
-        let frame = assign(rt.alloc(), seq, members, changes)?;
-        assert_eq!(rt; refusal(&mut m, frame), Some(wanted));
-    }
+    let numbers = (1, 1, 2, Some(0), [false; 3]);
+    assert_eq!(rt; played(rt.alloc(), b"b,1\n", &steps)?, (true, numbers));
     Ok(())
 }
 
 #[test]
-fn refused_collects(rt: HostRuntime) -> Result<(), Fail> {
-    let mut m = assigned(rt.alloc(), b"b,1\n", 0)?;
-    let cases: [&[u32]; 3] = [&[], &[2], &[1, 3]];
-    for asked in cases {
-        let frame = collect(rt.alloc(), asked)?;
-        assert_eq!(rt; refusal(&mut m, frame), Some(MonitorRefusal::BadCollect));
-    }
+fn refused_collects_and_others(rt: HostRuntime) -> Result<(), Fail> {
+    let bad = Answer::Refused(MonitorRefusal::BadCollect);
+    let early = (Does::Stop, Answer::Refused(MonitorRefusal::EarlyStop));
+    let hello = MonitorRefusal::NotForMonitor(Kind::Hello);
+    let steps = [
+        (Does::Collect(&[1]), bad),
+        (Does::Hello, Answer::Refused(hello)),
+        early,
+    ];
+    let numbers = (0, 0, 0, None, [false; 3]);
+    assert_eq!(rt; played(rt.alloc(), b"b,1\n", &steps)?, (true, numbers));
+    let steps = [
+        assigned(&[(2, 0)]),
+        (Does::Collect(&[]), bad),
+        (Does::Collect(&[2]), bad),
+        (Does::Collect(&[1, 3]), bad),
+        early,
+    ];
+    let numbers = (1, 1, 2, Some(0), [false; 3]);
+    assert_eq!(rt; played(rt.alloc(), b"b,1\n", &steps)?, (true, numbers));
     Ok(())
 }
 
 #[test]
-fn the_end_is_told_once(rt: HostRuntime) -> Result<(), Fail> {
-    let mut m = assigned(rt.alloc(), b"a,1\n", 0)?;
-    let early = check(&mut m)?;
-    let raised = raise(&mut m);
-    let told = check(&mut m)?;
-    let late = check(&mut m)?;
-    assert_eq!(rt; raised, Raised::Done { broken: false });
-    assert_eq!(rt;
-        (early, told, late),
-        (Checked::Nothing, Checked::ToldEnd, Checked::Nothing)
-    );
+fn ends_are_told_once(rt: HostRuntime) -> Result<(), Fail> {
+    let told = (Does::Check, Answer::Checked(Checked::ToldEnd));
+    let steps = [
+        assigned(&[(2, 0)]),
+        (Does::Check, NOTHING),
+        (Does::Raise, CALM),
+        told,
+        (Does::Check, NOTHING),
+    ];
+    let numbers = (1, 2, 4, Some(1), [true, false, false]);
+    assert_eq!(rt; played(rt.alloc(), b"a,1\n", &steps)?, (true, numbers));
+    let empty = [
+        assigned(&[(2, 0)]),
+        (Does::Check, NOTHING),
+        (Does::Stop, Answer::Taken),
+        (Does::Stop, Answer::Refused(MonitorRefusal::AfterStop)),
+    ];
+    let numbers = (1, 1, 3, Some(0), [true, false, true]);
+    assert_eq!(rt; played(rt.alloc(), b"", &empty)?, (true, numbers));
     Ok(())
 }
 
 #[test]
-fn refused_before_an_assign(rt: HostRuntime) -> Result<(), Fail> {
-    let mut m = monitor(rt.alloc(), b"b,1\n")?;
-    let asked = collect(rt.alloc(), &[1])?;
-    assert_eq!(rt; refusal(&mut m, asked), Some(MonitorRefusal::BadCollect));
-    assert_eq!(rt;
-        refusal(&mut m, hello()),
-        Some(MonitorRefusal::NotForMonitor(Kind::Hello))
-    );
-    assert_eq!(rt;
-        refusal(&mut m, Frame::Stop),
-        Some(MonitorRefusal::EarlyStop)
-    );
-    assert_eq!(rt; (m.slack(), m.trail().len()), (None, 0));
+fn nothing_is_told_within_the_slack(rt: HostRuntime) -> Result<(), Fail> {
+    let steps = [
+        assigned(&[(2, -3)]),
+        (Does::Raise, CALM),
+        (Does::Raise, CALM),
+        (Does::Check, NOTHING),
+    ];
+    let numbers = (1, 1, 4, Some(0), [false; 3]);
+    let records = b"b,1\nb,2\nb,1\n";
+    assert_eq!(rt; played(rt.alloc(), records, &steps)?, (true, numbers));
     Ok(())
 }
 
-#[test]
-fn refused_after_an_assign(rt: HostRuntime) -> Result<(), Fail> {
-    let mut m = assigned(rt.alloc(), b"b,1\n", 0)?;
-    let again = assign(rt.alloc(), 1, &[1], &[])?;
-    let wanted = MonitorRefusal::WrongSequence { has: 1, got: 1 };
-    assert_eq!(rt; refusal(&mut m, again), Some(wanted));
-    assert_eq!(rt;
-        refusal(&mut m, Frame::Stop),
-        Some(MonitorRefusal::EarlyStop)
-    );
-    assert_eq!(rt; (m.seq(), m.sent(), m.trail().len()), (1, 1, 2));
-    Ok(())
-}
-
-#[test]
-fn slack_law(rt: HostRuntime) -> Result<(), Fail> {
-    let mut m = assigned(rt.alloc(), b"b,1\nb,2\nb,1\n", -3)?;
-    assert_eq!(rt; m.slack(), Some(3));
-    let calm = Raised::Done { broken: false };
-    assert_eq!(rt; (raise(&mut m), raise(&mut m)), (calm, calm));
-    let checked = check(&mut m)?;
-    assert_eq!(rt; (checked, m.slack()), (Checked::Nothing, Some(0)));
-    let third = raise(&mut m);
-    let checked = check(&mut m)?;
-    assert_eq!(rt;
-        (third, checked),
-        (Raised::Done { broken: true }, Checked::Reported)
-    );
-    Ok(())
+/// Whether the last of these steps made a monitor over such records send this frame; and its places and the level of b.
+fn says(
+    alloc: Global,
+    records: &[u8],
+    steps: &[(Does<'_>, Answer)],
+    wanted: &Frame,
+) -> Result<(bool, Places, i128), Fail> {
+    let mut m = monitor(alloc, records)?;
+    let all = answers(alloc, &mut m, steps)?;
+    let sent = m.sent();
+    let is_said = sent > 0 && *m.sent_at(sent - 1) == *wanted;
+    Ok((all && is_said, m.places()?, m.level(Obj(2))))
 }
 
 #[test]
 fn a_report_holds_what_is_broken(rt: HostRuntime) -> Result<(), Fail> {
-    let mut m = assigned(rt.alloc(), b"b,4\n", -3)?;
-    let raised = raise(&mut m);
-    let checked = check(&mut m)?;
-    assert_eq!(rt;
-        (raised, checked),
-        (Raised::Done { broken: true }, Checked::Reported)
-    );
-    assert_eq!(rt; (raise(&mut m), level_of_b(&m)), (Raised::Ended, 1));
-    let failed = set(rt.alloc(), &[2])?;
-    let values = pairs(rt.alloc(), &[(1, 0), (2, 4)])?;
+    let steps = [
+        assigned(&[(2, -3)]),
+        (Does::Raise, BROKEN),
+        (Does::Check, Answer::Checked(Checked::Reported)),
+        (Does::Raise, Answer::Raised(Raised::Ended)),
+    ];
     let report = Frame::Report {
         seq: 1,
         border: 0,
-        failed,
-        values,
+        failed: set(rt.alloc(), &[2])?,
+        values: pairs(rt.alloc(), &[(1, 0), (2, 4)])?,
     };
-    assert!(rt; has_sent(&m, 1, &report));
+    let (is_said, places, level) = says(rt.alloc(), b"b,4\n", &steps, &report)?;
+    assert_eq!(rt; (is_said, level), (true, 1));
+    assert!(rt; places == Places::new(vec![in rt.alloc(); 1]?));
     Ok(())
 }
 
 #[test]
 fn a_collect_is_answered_by_values(rt: HostRuntime) -> Result<(), Fail> {
-    let mut m = assigned(rt.alloc(), b"b,4\n", -3)?;
-    let asked = collect(rt.alloc(), &[1, 2])?;
-    assert_eq!(rt; refusal(&mut m, asked), None);
-    let values = pairs(rt.alloc(), &[(1, 0), (2, 0)])?;
+    let steps = [
+        assigned(&[(2, -3)]),
+        (Does::Collect(&[1, 2]), Answer::Taken),
+    ];
     let answer = Frame::Values {
         round: 1,
         seq: 1,
         border: 0,
-        values,
+        values: pairs(rt.alloc(), &[(1, 0), (2, 0)])?,
     };
-    assert!(rt; has_sent(&m, 1, &answer));
-    Ok(())
-}
-
-#[test]
-fn an_empty_log_ends_at_once(rt: HostRuntime) -> Result<(), Fail> {
-    let mut m = assigned(rt.alloc(), b"", 0)?;
-    let checked = check(&mut m)?;
-    assert_eq!(rt; (m.ended(), checked), (true, Checked::Nothing));
-    assert_eq!(rt; refusal(&mut m, Frame::Stop), None);
-    assert_eq!(rt;
-        (m.stopped(), m.broken(), m.number()),
-        (true, false, Mon(1))
-    );
-    assert_eq!(rt;
-        refusal(&mut m, Frame::Stop),
-        Some(MonitorRefusal::AfterStop)
-    );
-    Ok(())
-}
-
-#[test]
-fn places_are_the_changes_raised(rt: HostRuntime) -> Result<(), Fail> {
-    let mut m = monitor(rt.alloc(), b"b,4\na,2\n")?;
-    let raised = raise(&mut m);
-    assert_eq!(rt; raised, Raised::Done { broken: false });
-    let places = m.places()?;
-    assert!(rt; places == Places::new(vec![in rt.alloc(); 1]?));
+    let (is_said, _, level) = says(rt.alloc(), b"b,4\n", &steps, &answer)?;
+    assert_eq!(rt; (is_said, level), (true, -3));
     Ok(())
 }

@@ -3,7 +3,6 @@
 ghost use Rattle.std.specs.Prelude.{IfOk};
 ghost use Rattle.tk_input.specs.Logs.{IsCut};
 
-mod idle_events;
 mod runs;
 mod serialized;
 

@@ -3,7 +3,7 @@
 ghost use Rattle.std.specs.Prelude.{◌≡◌, ◌≤ℤ◌, pos, [], ◌∷◌, length, IfOk};
 ghost use Rattle.tk_rows.specs.Factors.{factor_at};
 
-use super::{Said, factors, play, set};
+use super::{Said, factors, leads, play};
 use std::alloc::Global;
 use std::test::Fail;
 use tk_base::{Mon, Obj, ObjSet, Pairs, Settings};
@@ -97,25 +97,19 @@ const WIDE: [(u32, Said<'static>); 2] = [
     (2, Said::Values(2, 1, -FACTOR, &[(1, 0), (2, 30)])),
 ];
 
-#[test]
-fn a_wide_round_opens(rt: HostRuntime) -> Result<(), Fail> {
-    let mut c = far(rt.alloc())?;
-    play(rt.alloc(), &mut c, &FULL)?;
-    assert_eq!(rt;
-        (c.idle(), factors(&c, 2)),
-        (false, Some((0, FACTOR, -FACTOR)))
-    );
-    Ok(())
+/// Whether no round is open, and the factors of a and of b.
+fn dealt(c: &Coordinator) -> (bool, Option<(i128, i128, i128)>, Option<(i128, i128, i128)>) {
+    (c.idle(), factors(c, 1), factors(c, 2))
 }
 
 #[test]
-fn the_wide_round_ends(rt: HostRuntime) -> Result<(), Fail> {
+fn a_wide_round_in_its_place(rt: HostRuntime) -> Result<(), Fail> {
     let mut c = far(rt.alloc())?;
     play(rt.alloc(), &mut c, &FULL)?;
+    let far = Some((0, FACTOR, -FACTOR));
+    assert_eq!(rt; dealt(&c), (false, far, far));
     play(rt.alloc(), &mut c, &WIDE)?;
-    let wanted = (Some((0, 0, 0)), Some((11, 9, -20)));
-    assert_eq!(rt; (factors(&c, 1), factors(&c, 2)), wanted);
-    let members = set(rt.alloc(), &[2])?;
-    assert!(rt; *c.members() == members);
+    assert_eq!(rt; dealt(&c), (true, Some((0, 0, 0)), Some((11, 9, -20))));
+    assert!(rt; leads(&c, 2));
     Ok(())
 }

@@ -1,47 +1,64 @@
 //! When another k and epsilon are taken, and from when they hold.
 
-use super::{GREATEST, Said, coordinator, play, set};
+use super::{GREATEST, Said, coordinator, leads, play};
+use std::alloc::Global;
 use std::test::Fail;
-use tk_coord::RetuneRefusal;
+use tk_coord::{Coordinator, RetuneRefusal};
+
+/// What a coordinator of so many monitors answers to a retune after these turns.
+fn retuned(
+    alloc: Global,
+    monitors: u64,
+    turns: &[(u32, Said<'_>)],
+    k: u64,
+    epsilon: u128,
+) -> Result<Result<(), RetuneRefusal>, Fail> {
+    let mut c = coordinator(alloc, monitors, 0)?;
+    play(alloc, &mut c, turns)?;
+    Ok(c.retune(k, epsilon))
+}
 
 #[test]
-fn numbers_past_their_limits(rt: HostRuntime) -> Result<(), Fail> {
-    let mut c = coordinator(rt.alloc(), 2, 0)?;
-    assert_eq!(rt; c.retune(0, 0), Err(RetuneRefusal::BadK));
+fn refused_retunes(rt: HostRuntime) -> Result<(), Fail> {
     let past = GREATEST as u128 + 1;
-    assert_eq!(rt; c.retune(1, past), Err(RetuneRefusal::BadEpsilon));
-    assert_eq!(rt; (c.idle(), c.journal().len()), (true, 2));
+    let no_k = retuned(rt.alloc(), 2, &[], 0, 0)?;
+    let far = retuned(rt.alloc(), 2, &[], 1, past)?;
+    assert_eq!(rt;
+        (no_k, far),
+        (Err(RetuneRefusal::BadK), Err(RetuneRefusal::BadEpsilon))
+    );
+    let opens = (2, Said::Report(1, 0, &[2], &[(1, 0), (2, 3)]));
+    let during = retuned(rt.alloc(), 2, &[opens], 1, 4)?;
+    let last = (1, Said::Settled(1, true, &[0]));
+    let after = retuned(rt.alloc(), 1, &[last], 1, 0)?;
+    assert_eq!(rt;
+        (during, after),
+        (Err(RetuneRefusal::RoundOpen), Err(RetuneRefusal::AfterStop))
+    );
     Ok(())
 }
 
-#[test]
-fn during_a_round(rt: HostRuntime) -> Result<(), Fail> {
-    let mut c = coordinator(rt.alloc(), 2, 0)?;
-    let turns = [(2, Said::Report(1, 0, &[2], &[(1, 0), (2, 3)]))];
-    play(rt.alloc(), &mut c, &turns)?;
-    assert_eq!(rt; c.retune(1, 4), Err(RetuneRefusal::RoundOpen));
-    Ok(())
+/// The k and epsilon in force, and whether no round is open.
+fn in_force(c: &Coordinator) -> (u32, i128, bool) {
+    (c.k(), c.epsilon(), c.idle())
 }
 
-#[test]
-fn after_stop(rt: HostRuntime) -> Result<(), Fail> {
-    let mut c = coordinator(rt.alloc(), 1, 0)?;
-    play(rt.alloc(), &mut c, &[(1, Said::Settled(1, true, &[0]))])?;
-    assert_eq!(rt; c.retune(1, 0), Err(RetuneRefusal::AfterStop));
-    Ok(())
+/// What is in force in a retune's round and at its end, and whether a and b lead then.
+fn over_a_round(alloc: Global, c: &mut Coordinator) -> Result<[(u32, i128, bool); 2], Fail> {
+    c.retune(2, 4)?;
+    play(alloc, c, &[(1, Said::Values(1, 1, 0, &[(1, 0), (2, 0)]))])?;
+    let before = in_force(c);
+    play(alloc, c, &[(2, Said::Values(1, 1, 0, &[(1, 0), (2, 3)]))])?;
+    Ok([before, in_force(c)])
 }
 
 #[test]
 fn in_force_from_the_end_of_its_round(rt: HostRuntime) -> Result<(), Fail> {
     let mut c = coordinator(rt.alloc(), 2, 0)?;
-    assert_eq!(rt; c.retune(2, 4), Ok(()));
-    let first = [(1, Said::Values(1, 1, 0, &[(1, 0), (2, 0)]))];
-    play(rt.alloc(), &mut c, &first)?;
-    assert_eq!(rt; (c.k(), c.epsilon(), c.idle()), (1, 0, false));
-    let second = [(2, Said::Values(1, 1, 0, &[(1, 0), (2, 3)]))];
-    play(rt.alloc(), &mut c, &second)?;
-    assert_eq!(rt; (c.k(), c.epsilon(), c.idle()), (2, 4, true));
-    let wanted = set(rt.alloc(), &[1, 2])?;
-    assert!(rt; *c.members() == wanted);
+    assert_eq!(rt;
+        over_a_round(rt.alloc(), &mut c)?,
+        [(1, 0, false), (2, 4, true)]
+    );
+    assert_eq!(rt; (leads(&c, 1), leads(&c, 2)), (true, true));
     Ok(())
 }
