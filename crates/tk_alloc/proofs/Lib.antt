@@ -17,7 +17,6 @@ pub mod FullLemmas
 pub mod GatheredLemmas
 pub mod SizeLemmas
 pub mod WideLemmas
-pub mod TestLemmas
 pub mod CalmLemmas
 pub mod MendLemmas
 mod Examples

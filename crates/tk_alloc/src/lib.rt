@@ -19,8 +19,6 @@ mod reallocating;
 mod reported;
 mod short_round;
 mod terms;
-#[cfg(test)]
-mod tests;
 mod wide_round;
 
 pub use alloc_fault::AllocFault;

@@ -12,5 +12,3 @@ mod tree;
 
 pub use rank::Rank;
 
-#[cfg(test)]
-mod tests;

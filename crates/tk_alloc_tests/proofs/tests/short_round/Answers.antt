@@ -2,8 +2,8 @@ use Rattle.std.proofs.Common.{pos, sym, ap, ◌∙◌, arith, FitsSigned}
 use Rattle.std.specs.Int.{w128}
 use Rattle.std.proofs.lemmas.Int.{ints, to_z-of_z}
 use Rattle.tk_base.specs.Pairs.{objects_of}
-use Rattle.tk_alloc.proofs.TestLemmas.{two_border, two_ready, two_take}
-use Rattle.tk_alloc.proofs.tests.short_round.Goals as goal
+use Rattle.tk_alloc_tests.proofs.TestLemmas.{two_border, two_ready, two_take}
+use Rattle.tk_alloc_tests.proofs.tests.short_round.Goals as goal
 
 pub short_test-requires-clause-ready : goal.short_test-requires-clause-ready
 short_test-requires-clause-ready g c =

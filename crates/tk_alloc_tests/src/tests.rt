@@ -1,10 +1,10 @@
 ghost use Rattle.std.specs.Prelude.{◌≡◌, ◌≤ℤ◌, pos, [], ◌∷◌, IfOk};
 
-use crate::{
-    AllocFault, Reported, full, full_with_border, pick, short, short_test, short_with_border, wide,
-};
 use std::alloc::Global;
 use std::test::Fail;
+use tk_alloc::{
+    AllocFault, Reported, full, full_with_border, pick, short, short_test, short_with_border, wide,
+};
 use tk_base::{Mon, Obj, ObjSet, Pairs, Settings};
 use tk_rows::{MonChange, Reallocation, Table};
 

@@ -2,8 +2,8 @@ use Rattle.std.proofs.Common.{pos, sym, ◌∙◌, arith, FitsSigned}
 use Rattle.std.specs.Int.{w128}
 use Rattle.std.proofs.lemmas.Int.{ints, to_z-of_z}
 use Rattle.tk_alloc.specs.Resolving.{objects_over}
-use Rattle.tk_alloc.proofs.TestLemmas.{both_reports, both_take, over_both, two_border, two_ready, two_take}
-use Rattle.tk_alloc.proofs.tests.full_round.Goals as goal
+use Rattle.tk_alloc_tests.proofs.TestLemmas.{both_reports, both_take, over_both, two_border, two_ready, two_take}
+use Rattle.tk_alloc_tests.proofs.tests.full_round.Goals as goal
 
 pub full-requires-clause-ready : goal.full-requires-clause-ready
 full-requires-clause-ready g c =

@@ -1,9 +1,9 @@
-use super::*;
 use std::alloc::Global;
 use std::process::Abort;
 use std::test::Fail;
 use tk_base::{Obj, ObjSet};
 use tk_border::{are_members, border, failed, resolution};
+use tk_rank::Rank;
 
 fn set(alloc: Global, numbers: &[u32]) -> Result<ObjSet, Fail> {
     let mut list = Vec::new(alloc);
@@ -13,81 +13,31 @@ fn set(alloc: Global, numbers: &[u32]) -> Result<ObjSet, Fail> {
     Ok(ObjSet::new(list)?)
 }
 
+/// Four objects, of which a and b are members.
 fn four<R: Abort>(rt: &R, alloc: Global) -> Result<Rank, Fail> {
     let members = set(alloc, &[1, 2])?;
     assert!(rt; are_members(4, &members));
     Ok(Rank::new(alloc, &[5, 4, 9, 1], &members)?)
 }
 
-#[test]
-fn levels(rt: HostRuntime) -> Result<(), Fail> {
-    let rank = four(&rt, rt.alloc())?;
-    assert_eq!(rt; rank.least_member(), 4);
-    assert_eq!(rt; rank.greatest_outsider(), Some(9));
-    assert!(rt; rank.above(rt.alloc(), 0)? == set(rt.alloc(), &[3, 4])?);
-    assert_eq!(rt; rank.len(), 4);
-    assert_eq!(rt; rank.level(Obj(4)), 1);
-    Ok(())
+/// The least member's level, the greatest outsider's, and whether these objects are above a level.
+fn shown(
+    alloc: Global,
+    rank: &Rank,
+    level: i128,
+    above: &[u32],
+) -> Result<(i128, Option<i128>, bool), Fail> {
+    let is_above = rank.above(alloc, level)? == set(alloc, above)?;
+    Ok((rank.least_member(), rank.greatest_outsider(), is_above))
 }
 
 #[test]
 fn a_level_that_falls(rt: HostRuntime) -> Result<(), Fail> {
     let mut rank = four(&rt, rt.alloc())?;
+    assert_eq!(rt; shown(rt.alloc(), &rank, 0, &[3, 4])?, (4, Some(9), true));
     assert_eq!(rt; rank.len(), 4);
     rank.set(Obj(3), 4);
-    assert!(rt; rank.above(rt.alloc(), 4)? == set(rt.alloc(), &[])?);
-    Ok(())
-}
-
-#[test]
-fn borders(rt: HostRuntime) -> Result<(), Fail> {
-    let rank = four(&rt, rt.alloc())?;
-    let all = set(rt.alloc(), &[1, 2, 3])?;
-    assert!(rt; rank.is_held_by(&all));
-    assert_eq!(rt; rank.border(&all), 1);
-    assert_eq!(rt; rank.greatest_outside(&all), Some(1));
-    Ok(())
-}
-
-#[test]
-fn border_over_the_members(rt: HostRuntime) -> Result<(), Fail> {
-    let rank = four(&rt, rt.alloc())?;
-    let members = set(rt.alloc(), &[1, 2])?;
-    assert!(rt; rank.is_held_by(&members));
-    assert_eq!(rt; rank.border(&members), 4);
-    Ok(())
-}
-
-#[test]
-fn own_factors(rt: HostRuntime) -> Result<(), Fail> {
-    let members = set(rt.alloc(), &[1])?;
-    assert!(rt; are_members(2, &members));
-    let rank = Rank::new(rt.alloc(), &[0, 4], &members)?;
-    let all = set(rt.alloc(), &[1, 2])?;
-    assert!(rt; rank.is_held_by(&all));
-    assert_eq!(rt; rank.own_border(4, &all), 4);
-    Ok(())
-}
-
-#[test]
-fn other_members(rt: HostRuntime) -> Result<(), Fail> {
-    let mut rank = four(&rt, rt.alloc())?;
-    let members = set(rt.alloc(), &[3])?;
-    assert_eq!(rt; rank.len(), 4);
-    assert!(rt; are_members(4, &members));
-    rank.set_members(&members);
-    assert_eq!(rt; rank.least_member(), 9);
-    assert_eq!(rt; rank.greatest_outsider(), Some(5));
-    Ok(())
-}
-
-#[test]
-fn one_object_that_is_a_member(rt: HostRuntime) -> Result<(), Fail> {
-    let members = set(rt.alloc(), &[1])?;
-    assert!(rt; are_members(1, &members));
-    let rank = Rank::new(rt.alloc(), &[3], &members)?;
-    assert_eq!(rt; rank.greatest_outsider(), None);
-    assert!(rt; rank.above(rt.alloc(), -1)? == set(rt.alloc(), &[])?);
+    assert_eq!(rt; shown(rt.alloc(), &rank, 4, &[])?, (4, Some(4), true));
     Ok(())
 }
 
@@ -96,9 +46,8 @@ fn equal_levels(rt: HostRuntime) -> Result<(), Fail> {
     let members = set(rt.alloc(), &[2])?;
     assert!(rt; are_members(2, &members));
     let rank = Rank::new(rt.alloc(), &[7, 7], &members)?;
-    assert_eq!(rt; rank.greatest_outsider(), Some(7));
-    assert!(rt; rank.above(rt.alloc(), 7)? == set(rt.alloc(), &[])?);
-    assert!(rt; rank.above(rt.alloc(), 6)? == set(rt.alloc(), &[1])?);
+    assert_eq!(rt; shown(rt.alloc(), &rank, 7, &[])?, (7, Some(7), true));
+    assert_eq!(rt; shown(rt.alloc(), &rank, 6, &[1])?, (7, Some(7), true));
     Ok(())
 }
 

@@ -4,8 +4,8 @@ use Rattle.tk_rows.specs.declared.mon_change.MonChange.{MonChange}
 use Rattle.tk_rows.specs.Factors.{factor_at}
 use Rattle.tk_rows.specs.Replacing.{changes_of, factor_in}
 use Rattle.tk_alloc.specs.Resolving.{objects_over}
-use Rattle.tk_alloc.proofs.TestLemmas.{both_reports, both_take, over_both, two_ready, two_take}
-use Rattle.tk_alloc.proofs.tests.factor_past_its_limit.Goals as goal
+use Rattle.tk_alloc_tests.proofs.TestLemmas.{both_reports, both_take, over_both, two_ready, two_take}
+use Rattle.tk_alloc_tests.proofs.tests.factor_past_its_limit.Goals as goal
 
 pub full-found-requires-clause-ready : goal.full-found-requires-clause-ready
 full-found-requires-clause-ready g c =
