@@ -1,0 +1,23 @@
+use std::sync::atomic::{AtomicBool, Ordering};
+
+/// A flag that says that some serving ended before Stop. No clause speaks of its value.
+#[derive(Drop)]
+pub struct Alarm {
+    raised: AtomicBool,
+}
+
+impl Alarm {
+    pub fn new() -> Alarm {
+        Alarm {
+            raised: AtomicBool::new(false),
+        }
+    }
+
+    pub fn raise(&self) {
+        self.raised.store(true, Ordering::SeqCst);
+    }
+
+    pub fn raised(&self) -> bool {
+        self.raised.load(Ordering::SeqCst)
+    }
+}

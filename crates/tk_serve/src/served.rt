@@ -1,0 +1,42 @@
+ghost use Rattle.std.specs.Prelude.{◌≡◌};
+ghost use Rattle.tk_serve.specs.Serving.{why_of};
+
+use tk_story::MonEnd;
+use tk_wire::{Rest, Wire};
+
+/// Why a serving ended: the first of these that is so.
+#[derive(Clone, Copy, Debug, PartialEq, Eq)]
+pub enum Why {
+    /// What came next was not taken; the end keeps it.
+    Odd,
+    /// The monitor took Stop.
+    Stopped,
+    /// The link failed or ended, or the rest failed.
+    Failed,
+    /// There was no memory.
+    NoMemory,
+}
+
+/// What is left of a port once its serving ended.
+#[derive(Drop)]
+pub struct Served<W, Q> {
+    pub end: MonEnd,
+    pub link: W,
+    pub rest: Q,
+    pub why: Why,
+}
+
+/// Why a serving ended that left this.
+pub fn cause_of<W: Wire, Q: Rest>(end: &MonEnd, link: &W, rest: &Q) -> Why
+    ensures { result ≡ why_of end.now (W.counts link.now) (Q.fault_count rest.now) }
+{
+    if end.odd.is_some() {
+        Why::Odd
+    } else if end.monitor.stopped() {
+        Why::Stopped
+    } else if link.faults() > 0 || link.ends() > 0 || rest.faults() > 0 {
+        Why::Failed
+    } else {
+        Why::NoMemory
+    }
+}
