@@ -68,7 +68,8 @@ impl<W: Wire, N: PortName> Shared<W, N> {
         ensures some { IfSome result (λ raised. Raises self.old.port.monitor f raised self.new.port.monitor) }
         ensures rest { self.new.port ≡ record self.old.port { monitor = self.new.port.monitor } }
     {
-        if self.port.halted() {
+        let halted = self.port.halted();
+        if halted {
             None
         } else {
             Some(self.port.raise(f))
