@@ -1,5 +1,5 @@
 -- Beginnings of a drive: what stands where memory is wanted in the middle of it.
-use Rattle.std.proofs.Common.{◌≡◌, ℕ, suc, zero, ◌+◌, ◌-◌, ◌<◌, ◌≤◌, List, [], ◌∷◌, ◌++◌, length, map, take, drop, None, Some, refl, sym, ap, ◌∙◌, subst, arith, append_assoc, append-nil}
+use Rattle.std.proofs.Common.{◌≡◌, ℕ, suc, zero, ◌+◌, ◌-◌, ◌<◌, ◌≤◌, List, [], ◌∷◌, ◌++◌, length, take, drop, refl, sym, ap, ◌∙◌, subst, arith, append_assoc, append-nil}
 use Rattle.std.specs.Prelude.{flat_map}
 use Rattle.std.specs.List.{range_with_len}
 use Rattle.std.proofs.lemmas.List.{map-append, take-append-drop}
@@ -9,18 +9,18 @@ use Rattle.tk_base.specs.declared.ids.Mon.{Mon}
 use Rattle.tk_input.specs.Logs.{LogSet}
 use Rattle.tk_input.specs.declared.event.Event.{Event}
 use Rattle.tk_story.specs.Kept.{KeptStory}
-use Rattle.tk_story.specs.Story.{IsStory, StoryView}
-use Rattle.tk_world.specs.Events.{next_of, raise_at}
+use Rattle.tk_story.specs.Story.{IsStory}
+use Rattle.tk_world.specs.Events.{raise_at}
 use Rattle.tk_world.specs.World.{Moves}
 use Rattle.tk_world.specs.declared.moved.Moved.{Moved}
 use Rattle.tk_world.specs.declared.moved.Moved.TheVariants.{Yes, Idle}
-use Rattle.tk_drain.specs.Drive.{BeginsDrive, BeginsFinishes, BeginsFinishing, BeginsSettling, Finishes, KeepsFront, Settles, all_raises, keep, keep_all, longest_of, pass_of}
+use Rattle.tk_drain.specs.Drive.{BeginsDrive, BeginsFinishes, BeginsFinishing, BeginsSettling, Finishes, Settles, all_raises, keep_all, longest_of, pass_of}
 use Rattle.tk_drain.specs.Drive.BeginsDrive.{InOrder, BehindOrder}
 use Rattle.tk_drain.specs.Drive.BeginsFinishes.{Before, Settling, PassesOver, RaisesOn}
 use Rattle.tk_drain.specs.Drive.BeginsFinishing.{InRaises}
 use Rattle.tk_drain.specs.Drive.Finishes.{Done, Passes, Raises}
 use Rattle.tk_drain.specs.Passing.{Covers, MayRaise, raises}
-use Rattle.tk_drain.specs.Passing.Covers.{Nothing, GoesOn, Ended}
+use Rattle.tk_drain.specs.Passing.Covers.{GoesOn, Ended}
 use Rattle.tk_drain.proofs.KeepLemmas.{leads_story}
 use Rattle.tk_drain.proofs.PartLemmas.{pass_again}
 use Rattle.tk_drain.proofs.PassingLemmas.{Passed, covers_stays, one_leads, passed_once, raised_once}

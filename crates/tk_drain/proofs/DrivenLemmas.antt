@@ -1,5 +1,5 @@
 -- What a drive leads to.
-use Rattle.std.proofs.Common.{◌≡◌, ℕ, List, [], ◌++◌, Option, Some, refl, sym, ap, ◌∙◌, subst}
+use Rattle.std.proofs.Common.{◌≡◌, ℕ, List, [], Some, sym, ap, ◌∙◌, subst}
 use Rattle.tk_base.specs.Settings.{Setup}
 use Rattle.tk_input.specs.Logs.{LogSet}
 use Rattle.tk_input.specs.declared.event.Event.{Event}

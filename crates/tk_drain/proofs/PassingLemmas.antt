@@ -10,7 +10,7 @@ use Rattle.tk_story.specs.Kept.{KeptStory}
 use Rattle.tk_story.specs.Story.{IsStory, StoryView, setup_of, trail_of}
 use Rattle.tk_world.specs.declared.moved.Moved.{Moved}
 use Rattle.tk_world.specs.declared.moved.Moved.TheVariants.{Yes, Idle}
-use Rattle.tk_drain.specs.Drive.{BeginsSettling, Finishes, IsFinished, IsReached, Settles, all_raises, keep, keep_all, longest_of, pass_of}
+use Rattle.tk_drain.specs.Drive.{Finishes, IsFinished, IsReached, Settles, all_raises, keep, keep_all, longest_of, pass_of}
 use Rattle.tk_world.specs.World.{Moves}
 use Rattle.tk_input.specs.Logs.{LogSet}
 use Rattle.std.specs.Prelude.{flat_map}
@@ -20,7 +20,7 @@ use Rattle.tk_drain.specs.Drive.Finishes.{Done as DoneF, Passes as PassesF, Rais
 use Rattle.tk_drain.specs.Passing.{Covers, MayRaise, Passes, RaisesOne, raises}
 use Rattle.tk_drain.proofs.PartLemmas.{pass_again, raises_push}
 use Rattle.tk_drain.specs.Passing.Covers.{Nothing as NothingC, GoesOn as GoesOnC, Ended as EndedC}
-use Rattle.tk_drain.proofs.KeepLemmas.{Leads, leads_join, leads_none, leads_reached, leads_story, reached_leads, took_of}
+use Rattle.tk_drain.proofs.KeepLemmas.{leads_join, leads_reached, leads_story, reached_leads, took_of}
 use Rattle.tk_drain.proofs.ReadLemmas.{guarded, monitor_is}
 use Rattle.tk_drain.proofs.RestLemmas.{settles_rests}
 use Rattle.tk_drain.proofs.RaiseLemmas.{alike_length, goes_on, idle_ended, place, raised_in, run_alike, run_moves}

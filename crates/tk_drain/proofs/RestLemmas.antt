@@ -8,7 +8,7 @@ use Rattle.tk_input.specs.declared.event.Event.{Event}
 use Rattle.tk_story.specs.Kept.{KeptStory}
 use Rattle.tk_story.specs.Story.{IsStory}
 use Rattle.tk_world.specs.Events.{CanOnlyChange}
-use Rattle.tk_drain.specs.Drive.{BeginsSettling, IsReached, KeepsFront, Settles, keep_all, sweep_events, swept}
+use Rattle.tk_drain.specs.Drive.{BeginsSettling, KeepsFront, Settles, sweep_events, swept}
 use Rattle.tk_drain.specs.Drive.Settles.{Rests, Sweeps}
 use Rattle.tk_drain.specs.Drive.BeginsSettling.{Within, Beyond}
 use Rattle.tk_drain.specs.Moves.{energy_of_all}
@@ -19,7 +19,7 @@ use Rattle.tk_drain.proofs.EndLemmas.{idle_is_calm, idle_took_stop}
 use Rattle.tk_drain.specs.Resting.{ComesToRest}
 use Rattle.tk_story.proofs.StillLemmas.{still_is_quiet}
 use Rattle.tk_world.proofs.IdleLemmas.{idle_is_still}
-use Rattle.tk_drain.proofs.KeepLemmas.{Leads, leads_join, leads_none, leads_reached, leads_story, reached_leads, took_of}
+use Rattle.tk_drain.proofs.KeepLemmas.{Leads, leads_join, leads_none, leads_story, took_of}
 use Rattle.tk_drain.proofs.SweepLemmas.{idle_can_only_change, sweep_is_settling}
 
 -- ---- checks, taken frames and turns that lead on

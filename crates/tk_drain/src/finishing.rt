@@ -10,10 +10,10 @@ use crate::sweeps::settle;
 use std::alloc::Global;
 use tk_base::{Feeder, Mon, NoMemory};
 use tk_input::{Event, Order};
-use tk_world::{Moved, World};
+use tk_world::{Moved, Nodes, World};
 
 /// Raises the next change of a part and settles, unless the part is at its end.
-fn raise_one(world: &mut World, mon: Mon, f: Feeder) -> Result<Moved, NoMemory>
+fn raise_one<N: Nodes>(world: &mut World<N>, mon: Mon, f: Feeder) -> Result<Moved, NoMemory>
     ensures ok { IfOk result (λ moved. MayRaise (raise_at mon.0 f.0) moved world.old world.new) }
     ensures err { OnErr result (BeginsFinishes (raise_at mon.0 f.0 ∷ []) world.old world.new) }
     ensures legal { IsStory world.new.story }
@@ -28,9 +28,9 @@ fn raise_one(world: &mut World, mon: Mon, f: Feeder) -> Result<Moved, NoMemory>
 }
 
 /// Raises one change of each of the parts, each followed by settling, and answers the parts that had one.
-fn raise_each(
+fn raise_each<N: Nodes>(
     alloc: Global,
-    world: &mut World,
+    world: &mut World<N>,
     parts: &[(Mon, Feeder)],
 ) -> Result<Vec<(Mon, Feeder)>, NoMemory>
     requires { IsStory world.old.story }
@@ -50,7 +50,7 @@ fn raise_each(
 
 /// Settles, then in passes raises one change of each part that has changes left, monitors and feeders ascending, and
 /// settles after each. A part that is at its end costs nothing in later passes.
-pub fn finish(alloc: Global, world: &mut World) -> Result<(), NoMemory>
+pub fn finish<N: Nodes>(alloc: Global, world: &mut World<N>) -> Result<(), NoMemory>
     ensures finished { OnOk result (IsFinished world.old world.new) }
     ensures over { OnOk result (IsOver world.new.story) }
     ensures err { OnErr result (BeginsFinishing world.old world.new) }
@@ -65,7 +65,7 @@ pub fn finish(alloc: Global, world: &mut World) -> Result<(), NoMemory>
 }
 
 /// Lets the events of an order happen, passing over those that are not enabled where they stand, and then finishes.
-pub fn drive(alloc: Global, world: &mut World, order: &Order) -> Result<(), NoMemory>
+pub fn drive<N: Nodes>(alloc: Global, world: &mut World<N>, order: &Order) -> Result<(), NoMemory>
     ensures driven { OnOk result (Drives order.now.events world.old world.new) }
     ensures over { OnOk result (IsOver world.new.story) }
     ensures err { OnErr result (BeginsDrive order.now.events world.old world.new) }

@@ -6,7 +6,7 @@ ghost use Rattle.tk_drain.specs.Phases.{Grows, phase_at, phase_events};
 
 use tk_base::{Mon, NoMemory};
 use tk_input::Event;
-use tk_world::{Moved, World};
+use tk_world::{Moved, Nodes, World};
 
 /// What a sweep does with each monitor before it goes on to the next thing.
 #[derive(Clone, Copy, Debug)]
@@ -29,7 +29,7 @@ impl Phase {
 }
 
 /// One phase over the monitors that may have something to do; at the others it would change nothing.
-pub fn run(world: &mut World, phase: Phase) -> Result<Moved, NoMemory>
+pub fn run<N: Nodes>(world: &mut World<N>, phase: Phase) -> Result<Moved, NoMemory>
     requires { IsStory world.old.story }
     ensures ok { IfOk result (λ _. world.new ≡ keep_all world.old (phase_events phase world.old.story.settings)) }
     ensures moved { IfOk result (λ moved. Grows moved world.old world.new) }

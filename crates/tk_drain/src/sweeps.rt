@@ -7,7 +7,7 @@ ghost use Rattle.tk_drain.specs.Resting.{ComesToRest};
 
 use crate::phase::{Phase, either, run};
 use tk_base::NoMemory;
-use tk_world::{Moved, World};
+use tk_world::{Moved, Nodes, World};
 
 /// How many sweeps a settling made, the last one included, which moved nothing.
 #[derive(Clone, Copy, Debug, PartialEq, Eq)]
@@ -15,17 +15,17 @@ pub struct Sweeps {
     pub count: u64,
 }
 
-/// Checks each monitor, then takes one frame of each up, then gives one frame to each, monitors ascending. A settled
-/// world answers in a constant, and any other looks only at monitors that may have something to do.
-pub fn sweep(world: &mut World) -> Result<Moved, NoMemory>
+/// Checks each monitor, then takes one frame of each up, then gives one frame to each, monitors ascending. It looks
+/// only at monitors that may have something to do, and one that it finds at rest costs nothing in the next sweep; so
+/// a settled world answers in a constant.
+pub fn sweep<N: Nodes>(world: &mut World<N>) -> Result<Moved, NoMemory>
     ensures ok { IfOk result (λ _. world.new ≡ swept world.old) }
     ensures idle { IfOk result (λ moved. (moved ≡ Idle) ↔ CanOnlyChange world.old.story) }
     ensures err { OnErr result (KeepsFront (sweep_events world.old.story.settings) world.old world.new) }
     ensures legal { IsStory world.new.story }
 {
-    if world.is_settled() {
-        return Ok(Moved::Idle);
-    }
+    // The settings are read for their clause, that the world's story is one.
+    let _ = world.settings();
     let checks = run(world, Phase::Check)?;
     let ups = run(world, Phase::Up)?;
     let downs = run(world, Phase::Down)?;
@@ -33,7 +33,7 @@ pub fn sweep(world: &mut World) -> Result<Moved, NoMemory>
 }
 
 /// Sweeps until one moves nothing.
-pub fn settle(world: &mut World) -> Result<Sweeps, NoMemory>
+pub fn settle<N: Nodes>(world: &mut World<N>) -> Result<Sweeps, NoMemory>
     ensures settles { IfOk result (λ sweeps. Settles world.old world.new sweeps.count) }
     ensures most { IfOk result (λ sweeps. sweeps.count ≤ 200 * (world.old.story.settings.monitors + 1)) }
     ensures rests { OnOk result (ComesToRest world.old.story world.new.story) }

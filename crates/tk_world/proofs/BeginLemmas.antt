@@ -1,16 +1,15 @@
 -- How a world begins.
 use Rattle.tk_frames.specs.declared.frame.Frame.TheVariants as f
-use Rattle.std.proofs.Common.{◌≡◌, ℕ, suc, zero, ◌+◌, ◌-◌, ◌≤◌, ◌<◌, ◌||◌, All, Bool, true, false, List, [], ◌∷◌, ◌++◌, length, map, get_or, replicate, Option, Some, None, refl, sym, ap, ap₂, ◌∙◌, subst, arith, inl, inr}
+use Rattle.std.proofs.Common.{◌≡◌, ℕ, suc, zero, ◌+◌, ◌-◌, ◌≤◌, ◌||◌, All, true, false, List, [], ◌∷◌, length, map, get_or, replicate, None, refl, sym, ap, ap₂, ◌∙◌, subst, arith, inl, inr}
 use Rattle.std.specs.Prelude.{ℤ, sum_by, slice_get}
 use Rattle.std.specs.List.{enumerate_from, range_with_len}
 use Rattle.std.proofs.lemmas.Bool.{true≢false}
 use Rattle.std.proofs.lemmas.List.FromFn.{get_or-map-range_with_len}
 use Rattle.std.proofs.lemmas.List.Sums.{sum_by-cons}
 use Rattle.tk_base.specs.Settings.{Setup, IsWithinLimits}
-use Rattle.tk_input.specs.Logs.{AreLogs, IsCut, LogSet, parts_of, places_of}
+use Rattle.tk_input.specs.Logs.{AreLogs, LogSet, parts_of, places_of}
 use Rattle.tk_coord.specs.Coordinator.{IsJournal}
 use Rattle.tk_journal.specs.Entries.{IsEntryOf}
-use Rattle.tk_journal.specs.Laws.{IsMonitor}
 use Rattle.tk_journal.specs.Legal.{opened, start}
 use Rattle.tk_journal.specs.Links.{frames_from, frames_to}
 use Rattle.tk_journal.specs.Readings.{monitors}
@@ -23,7 +22,8 @@ use Rattle.tk_trail.specs.declared.entry.Entry.{Entry}
 use Rattle.tk_trail.proofs.PlacesLemmas.{places_at-start}
 use Rattle.tk_story.specs.Story.{IsStory, StoryView, setup_of, trail_of}
 use Rattle.tk_world.specs.Events.{begin}
-use Rattle.tk_world.specs.Seats.{Holds, IsResting, IsSeat, fresh_seat, left_at, story_in, trails_of}
+use Rattle.tk_world.specs.Nodes.{fresh_seat}
+use Rattle.tk_world.specs.Seats.{Holds, IsResting, IsSeat, left_at, story_in, trails_of}
 use Rattle.tk_world.specs.Work.{has, is_sent}
 use Rattle.tk_world.specs.World.{CanRun}
 use Rattle.tk_world.specs.declared.seat.Seat.{Seat}

@@ -1,7 +1,7 @@
 -- What is enabled: a check where something is due, a delivery where a frame is under way, a retune that is not refused; and
 -- so which worlds are settled.
 use Rattle.tk_journal.specs.declared.noted.Noted.TheVariants as n
-use Rattle.std.proofs.Common.{◌≡◌, ℕ, suc, zero, ◌+◌, ◌-◌, ◌≤◌, ◌<◌, ◌&&◌, Bool, true, false, List, [], ◌∷◌, ◌++◌, length, get_or, Option, Some, None, Result, Ok, Err, refl, sym, ap, ap₂, ◌∙◌, subst, arith, inl, inr}
+use Rattle.std.proofs.Common.{◌≡◌, ℕ, suc, zero, ◌+◌, ◌-◌, ◌<◌, ◌&&◌, true, false, List, [], ◌∷◌, length, get_or, Option, Some, None, Result, Ok, Err, refl, sym, ap, ap₂, ◌∙◌, subst, arith, inl, inr}
 use Rattle.std.specs.Prelude.{OnErr, pos, is_some, nat_le, slice_get, if◌then◌else◌}
 use Rattle.std.specs.Option.{option_map}
 use Rattle.std.proofs.lemmas.Bool.{and_parts, cases_Bool, leb-false, leb-true, true≢false}
@@ -28,7 +28,8 @@ use Rattle.tk_trail.specs.Setup.{MonitorSetup}
 use Rattle.tk_trail.specs.declared.entry.Entry.{Entry}
 use Rattle.tk_story.specs.Story.{StoryView, setup_of, trail_of}
 use Rattle.tk_world.specs.Events.{CanOnlyChange, is_of, moved, next_of, with_trail, with_turn}
-use Rattle.tk_world.specs.Seats.{AreResting, Holds, IsOneAtWork, IsResting, fresh_seat, is_resting_seat, sends_nothing, story_in}
+use Rattle.tk_world.specs.Nodes.{fresh_seat}
+use Rattle.tk_world.specs.Seats.{AreResting, Holds, IsOneAtWork, IsResting, is_resting_seat, sends_nothing, story_in}
 use Rattle.tk_world.specs.Work.{has}
 use Rattle.tk_world.specs.declared.seat.Seat.{Seat}
 use Rattle.tk_world.specs.declared.work.Work.{Work}
@@ -40,7 +41,7 @@ use Rattle.tk_world.proofs.WorldLemmas.{due_there, none_due, past, rests}
 
 -- ---- enabled events
 
-there_at : {X : Type 0} (xs : List X) (i : ℕ) → i < length xs → (x : X) × (slice_get xs i ≡ Some x)
+pub there_at : {X : Type 0} (xs : List X) (i : ℕ) → i < length xs → (x : X) × (slice_get xs i ≡ Some x)
 there_at [] i within = absurd (omega (arith, within))
 there_at (x ∷ xs) zero within = (x, refl)
 there_at (x ∷ xs) (suc i) within = there_at xs i (omega (arith, within))

@@ -1,9 +1,9 @@
 -- Where no check sends, and no frame moves, the story is still.
 use Rattle.tk_journal.specs.declared.noted.Noted.TheVariants as n
-use Rattle.std.proofs.Common.{◌≡◌, ℕ, ◌≤◌, ◌&&◌, Bool, true, false, List, [], ◌∷◌, ◌++◌, length, Option, Some, None, refl, sym, ap, ◌∙◌, subst, arith, append-nil}
+use Rattle.std.proofs.Common.{◌≡◌, ℕ, true, List, [], ◌∷◌, ◌++◌, length, Option, Some, None, refl, sym, ap, ◌∙◌, append-nil}
 use Rattle.std.specs.Prelude.{nat_le, slice_get, if◌then◌else◌}
 use Rattle.std.specs.Option.{option_map}
-use Rattle.std.proofs.lemmas.Bool.{and_from, le-leb, true≢false}
+use Rattle.std.proofs.lemmas.Bool.{and_from, le-leb}
 use Rattle.tk_frames.specs.declared.frame.Frame.{Frame}
 use Rattle.tk_journal.specs.Laws.{IsMonitor}
 use Rattle.tk_journal.specs.Links.{frames_from, frames_to}
@@ -15,7 +15,6 @@ use Rattle.tk_trail.specs.Readings.{sent_by, taken_by}
 use Rattle.tk_trail.specs.declared.entry.Entry.TheVariants.{Sent}
 use Rattle.tk_input.specs.declared.event.Event.{Event}
 use Rattle.tk_world.specs.Events.{CanOnlyChange, is_monitor, is_of, moved, next_down, next_of, next_up, with_trail, with_turn, check_at, up_at, down_at}
-use Rattle.tk_input.specs.declared.event.Event.TheVariants.{Raise, Check, Up, Down, Retune}
 use Rattle.tk_story.specs.Story.{IsStory, StoryView, setup_of, trail_of}
 use Rattle.tk_story.specs.Moments.{AreMembersValid, IsStill}
 use Rattle.tk_story.proofs.QuietLemmas.{quiet_holds}

@@ -16,7 +16,6 @@ use Rattle.tk_trail.specs.Frames.{due_at}
 use Rattle.tk_trail.specs.Legal.{after_take}
 use Rattle.tk_trail.specs.declared.entry.Entry.TheVariants.{Sent}
 use Rattle.tk_input.specs.declared.event.Event.{Event}
-use Rattle.tk_input.specs.declared.event.Event.TheVariants.{Check, Up, Down}
 use Rattle.tk_story.specs.Story.{StoryView, setup_of, trail_of}
 use Rattle.tk_world.specs.Events.{CanOnlyChange, check_at, down_at, is_monitor, is_of, moved, next_down, next_of, next_up, up_at, with_trail, with_turn}
 use Rattle.tk_world.specs.Seats.{IsResting}

@@ -1,47 +1,21 @@
 -- The seats of a world, and what each event leaves of them.
-use Rattle.tk_journal.specs.declared.noted.Noted.TheVariants as n
-use Rattle.std.proofs.Common.{◌≡◌, ℕ, ◌+◌, ◌-◌, ◌≤◌, ◌<◌, ◌&&◌, ◌||◌, Bool, true, false, List, [], ◌∷◌, ◌++◌, length, map, set, get_or, drop, take, Option, Some, None, refl, sym, ap, ap₂, ◌∙◌, subst, arith, append_assoc, append-nil, inl, inr}
-use Rattle.std.specs.Prelude.{ℤ, pos, sum_by, slice_get, nat_le, nat_lt, if◌then◌else◌}
-use Rattle.std.specs.List.{cons_option}
-use Rattle.std.specs.Option.{option_map}
-use Rattle.std.proofs.lemmas.Bool.{and_from, cases_eq, eq-eqb, false≢true, le-leb, lt-ltb, ne_eqb, true≢false}
-use Rattle.std.proofs.lemmas.List.{get_or-map, get_or-set_same, get_or-set_other, length-map, length-set, map-set, set-get_or}
-use Rattle.std.proofs.lemmas.List.Sums.{sum_by-set, get_or-le-sum_by}
+use Rattle.std.proofs.Common.{◌≡◌, ℕ, ◌+◌, ◌-◌, ◌<◌, true, false, List, [], length, set, get_or, refl, sym, ap, ◌∙◌, subst, arith, inl, inr}
+use Rattle.std.proofs.lemmas.Bool.{cases_eq}
+use Rattle.std.proofs.lemmas.List.{get_or-map, get_or-set_same, get_or-set_other, length-map, length-set, map-set}
+use Rattle.std.proofs.lemmas.List.Sums.{sum_by-set}
 use Rattle.tk_base.specs.Settings.{Setup}
-use Rattle.tk_base.specs.declared.ids.Feeder.{Feeder}
-use Rattle.tk_base.specs.declared.ids.Mon.{Mon}
-use Rattle.tk_frames.specs.declared.frame.Frame.{Frame}
 use Rattle.tk_input.specs.Logs.{LogSet}
-use Rattle.tk_input.specs.declared.event.Event.{Event}
-use Rattle.tk_input.specs.declared.event.Event.TheVariants.{Raise, Check, Up, Down, Retune}
 use Rattle.tk_journal.specs.Laws.{IsMonitor}
-use Rattle.tk_journal.specs.Legal.{IsAccepted, start, turn_of}
-use Rattle.tk_journal.specs.Links.{frames_from, frames_to, got_from}
-use Rattle.tk_journal.specs.Refusal.{refusal_of as refusal_up, retune_refusal_of}
 use Rattle.tk_journal.specs.declared.noted.Noted.{Noted}
-use Rattle.tk_journal.proofs.Appends.{frames_from-append, frames_to-append}
-use Rattle.tk_monitor.specs.Kept.{left_in}
-use Rattle.tk_monitor.proofs.PartsLemmas.{left_less}
-use Rattle.tk_trail.specs.Frames.{due_at}
-use Rattle.tk_trail.specs.Legal.{HasNext, after_take, part_length, place_of}
-use Rattle.tk_trail.specs.Readings.{at_ends, is_broken, places_at, sent_by, taken_by}
-use Rattle.tk_trail.specs.Refusal.{refusal_of}
+use Rattle.tk_trail.specs.Readings.{taken_by}
 use Rattle.tk_trail.specs.Setup.{MonitorSetup}
 use Rattle.tk_trail.specs.declared.entry.Entry.{Entry}
-use Rattle.tk_trail.specs.declared.entry.Entry.TheVariants.{Raised, Took, Sent}
-use Rattle.tk_trail.proofs.PlacesLemmas.{places_at-raised}
-use Rattle.tk_story.specs.Story.{IsStory, StoryView, setup_of, trail_of}
-use Rattle.tk_story.proofs.DownLemmas.{down_is_taken}
-use Rattle.tk_story.proofs.QuietLemmas.{joined, setup_is}
-use Rattle.tk_story.proofs.UpLemmas.{up_is_taken}
-use Rattle.tk_world.specs.Events.{has_next, is_monitor, is_of, moved, next_down, next_of, next_up, with_trail, with_turn}
-use Rattle.tk_world.specs.Seats.{Holds, IsResting, IsSeat, left_at, story_in, trails_of}
-use Rattle.tk_world.specs.Work.{has, is_sent}
+use Rattle.tk_story.specs.Story.{IsStory, setup_of, trail_of}
+use Rattle.tk_world.specs.Events.{with_trail}
+use Rattle.tk_world.specs.Seats.{Holds, IsResting, IsSeat, left_at, story_in}
+use Rattle.tk_world.specs.Work.{has}
 use Rattle.tk_world.specs.declared.seat.Seat.{Seat}
 use Rattle.tk_world.specs.declared.work.Work.{Work}
-use Rattle.tk_world.proofs.IdleLemmas.{is_one}
-use Rattle.tk_world.proofs.RestLemmas.{none_sent, or_parts}
-use Rattle.tk_world.proofs.StepLemmas.{next_is, next_is_story, turn_from}
 
 -- ---- one seat
 

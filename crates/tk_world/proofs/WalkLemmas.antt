@@ -1,11 +1,11 @@
 -- Walking a story by the reader's form is what `next_of` does.
 use Rattle.tk_frames.specs.declared.frame.Frame.TheVariants as f
 use Rattle.tk_journal.specs.declared.noted.Noted.TheVariants as n
-use Rattle.std.proofs.Common.{◌≡◌, ◌≢◌, ℕ, suc, zero, ◌+◌, ◌-◌, ◌≤◌, ◌<◌, ◌&&◌, ◌==◌, pos, Bool, true, false, List, [], ◌∷◌, ◌++◌, length, take, set, get_or, replicate, Option, Some, None, refl, sym, ap, ◌∙◌, subst, arith, append_assoc, append-nil, inl, inr}
-use Rattle.std.specs.Prelude.{ℤ, drop, nat_lt, nat_le, is_some, slice_get, filter_map, if◌then◌else◌}
+use Rattle.std.proofs.Common.{◌≡◌, ℕ, suc, zero, ◌-◌, ◌<◌, ◌&&◌, pos, Bool, true, false, List, [], ◌∷◌, ◌++◌, length, take, get_or, replicate, Option, Some, None, refl, sym, ap, ◌∙◌, subst, arith, append_assoc, append-nil, inl, inr}
+use Rattle.std.specs.Prelude.{drop, nat_lt, nat_le, is_some, slice_get, if◌then◌else◌}
 use Rattle.std.specs.Option.{option_map}
 use Rattle.std.proofs.lemmas.Bool.{and_from, cases_eq, false≢true, le-leb, lt-ltb, true≢false}
-use Rattle.std.proofs.lemmas.List.{get_or-set_same, get_or-set_other, length-set, length-append}
+use Rattle.std.proofs.lemmas.List.{get_or-set_same, get_or-set_other, length-append}
 use Rattle.tk_base.specs.Settings.{Setup}
 use Rattle.tk_base.specs.declared.ids.Feeder.{Feeder}
 use Rattle.tk_frames.specs.declared.frame.Frame.{Frame}

@@ -1,7 +1,7 @@
 -- A worked story: its order of happenings, and its turns.
 use Rattle.tk_frames.specs.declared.frame.Frame.TheVariants as f
 use Rattle.tk_journal.specs.declared.noted.Noted.TheVariants as n
-use Rattle.std.proofs.Common.{ℕ, ◌≡◌, pos, negsuc, List, [], ◌∷◌, true, false, refl, Some}
+use Rattle.std.proofs.Common.{ℕ, ◌≡◌, pos, negsuc, List, [], ◌∷◌, true, false, refl}
 use Rattle.tk_base.specs.Settings.{Setup}
 use Rattle.tk_base.specs.Objects.{objects}
 use Rattle.tk_alloc.specs.Parts.{leeway}
@@ -21,7 +21,6 @@ use Rattle.tk_trail.specs.Frames.{due_at, end_is_due, owed_at, report_at, report
 use Rattle.tk_trail.specs.Readings.{at_ends, broken_at, level_of, levels_of, places_at, value_of_object}
 use Rattle.tk_trail.specs.declared.entry.Entry.TheVariants.{Raised, Took, Sent}
 use Rattle.tk_world.specs.Events.{next_of, raise_at, check_at, up_at, down_at}
-use Rattle.tk_input.specs.declared.event.Event.TheVariants.{Raise, Check, Up, Down, Retune}
 use Rattle.tk_story.specs.Story.{StoryView}
 use Rattle.tk_journal.specs.Kinds.{counts_of, turns, turns_of, opens_wide}
 use Rattle.tk_world.specs.Order.{events_of}

@@ -1,7 +1,7 @@
 -- A run worked out: two monitors, a full round, the last publication, and Stop.
 use Rattle.tk_frames.specs.declared.frame.Frame.TheVariants as f
 use Rattle.tk_journal.specs.declared.noted.Noted.TheVariants as n
-use Rattle.std.proofs.Common.{ℕ, ◌≡◌, ◌^◌, ℤ, pos, negsuc, neg_ℤ, List, [], ◌∷◌, Bool, true, false, refl, arith, Some, None, suc, zero, ◌+◌, ◌≤◌, ◌<◌, ◌==◌, length, get_or, unsigned_abs, cond, take, drop}
+use Rattle.std.proofs.Common.{ℕ, ◌≡◌, ◌^◌, ℤ, pos, negsuc, List, [], ◌∷◌, Bool, true, false, refl, arith, Some, None, suc, zero, ◌≤◌, ◌==◌, length, get_or, unsigned_abs, cond, take, drop}
 use Rattle.std.specs.List.{All}
 use Rattle.std.proofs.lemmas.Int.{ints}
 use Rattle.std.proofs.lemmas.List.Sums.{sum_by-cons}
@@ -25,7 +25,6 @@ use Rattle.tk_trail.specs.Readings.{at_ends, broken_at, level_of, levels_of, pla
 use Rattle.tk_trail.specs.declared.entry.Entry.TheVariants.{Raised, Took, Sent}
 use Rattle.tk_input.specs.declared.event.Event.{Event}
 use Rattle.tk_world.specs.Events.{after, begin, next_of, raise_at, check_at, up_at, down_at}
-use Rattle.tk_input.specs.declared.event.Event.TheVariants.{Raise, Check, Up, Down, Retune}
 use Rattle.tk_journal.specs.Laws.{IsMonitor}
 use Rattle.tk_journal.specs.Links.{frames_from, frames_to}
 use Rattle.tk_story.specs.Story.{IsStory, StoryView, setup_of, trail_of}

@@ -3,7 +3,7 @@ use Rattle.tk_journal.specs.declared.noted.Noted.TheVariants as n
 use Rattle.std.proofs.Common.{◌≡◌, ℕ, suc, zero, ◌+◌, ◌-◌, ◌≤◌, ◌<◌, ◌==◌, ◌&&◌, ◌||◌, ◌⊎◌, not, All, Bool, true, false, List, [], ◌∷◌, ◌++◌, length, set, get_or, drop, take, Option, Some, None, Err, refl, sym, ap, ap₂, ◌∙◌, subst, arith, inl, inr}
 use Rattle.std.specs.Prelude.{pos, slice_get, nat_le, nat_lt, if◌then◌else◌}
 use Rattle.std.proofs.Math.Bool.{and-false, and-true}
-use Rattle.std.proofs.lemmas.Bool.{and_parts, cases_eq, eq-eqb, le-ltb, leb-true, ne_eqb, false≢true, true≢false}
+use Rattle.std.proofs.lemmas.Bool.{and_parts, cases_eq, eq-eqb, le-ltb, leb-true, ne_eqb}
 use Rattle.std.proofs.lemmas.List.{length-drop, set-get_or, take_all}
 use Rattle.tk_base.specs.Settings.{Setup, IsWithinLimits}
 use Rattle.tk_base.specs.declared.ids.Feeder.{Feeder}
@@ -34,14 +34,14 @@ use Rattle.tk_trail.specs.Readings.{at_ends, is_broken, sent_by, taken_by}
 use Rattle.tk_trail.specs.Setup.{MonitorSetup}
 use Rattle.tk_trail.specs.declared.entry.Entry.{Entry}
 use Rattle.tk_trail.specs.declared.entry.Entry.TheVariants.{Raised, Sent}
-use Rattle.tk_story.specs.Story.{IsStory, StoryView, setup_of, trail_of}
-use Rattle.tk_world.specs.Events.{check_at, down_at, has_next, is_monitor, is_of, moved, next_down, next_of, next_up, up_at, with_trail}
-use Rattle.tk_world.specs.Seats.{Holds, IsResting, IsSeat, left_at, story_in}
+use Rattle.tk_story.specs.Story.{StoryView, setup_of, trail_of}
+use Rattle.tk_world.specs.Events.{is_monitor, next_of, with_trail}
+use Rattle.tk_world.specs.Seats.{Holds, IsResting, story_in}
 use Rattle.tk_world.specs.Work.{has, is_sent}
-use Rattle.tk_world.specs.World.{IsAtRest, IsFeeder}
+use Rattle.tk_world.specs.World.{IsAtRest}
 use Rattle.tk_world.specs.declared.seat.Seat.{Seat}
 use Rattle.tk_world.specs.declared.work.Work.{Work}
-use Rattle.tk_world.proofs.EventLemmas.{check_goes, down_goes, raise_goes, with_entries, with_taken}
+use Rattle.tk_world.proofs.EventLemmas.{check_goes, down_goes, raise_goes}
 use Rattle.tk_world.proofs.RestLemmas.{at_rest, no_check, no_down, no_up, not_of, or_parts, stays}
 use Rattle.tk_world.proofs.SeatLemmas.{Works, seat_is, trail_is}
 use Rattle.tk_world.proofs.StepLemmas.{monitor_is}

@@ -1,5 +1,5 @@
 -- What may happen next in a story, and the story that it leaves.
-use Rattle.std.specs.Prelude.{ℕ, ◌≡◌, ◌-◌, ℤ, pos, Bool, true, ◌&&◌, nat_lt, nat_le, is_some, if◌then◌else◌, List, [], ◌∷◌, ◌++◌, length, set, slice_get, replicate, Option, Some, None}
+use Rattle.std.specs.Prelude.{ℕ, ◌≡◌, ◌-◌, pos, Bool, true, ◌&&◌, nat_lt, nat_le, is_some, if◌then◌else◌, List, [], ◌∷◌, ◌++◌, length, set, slice_get, replicate, Option, Some, None}
 use Rattle.std.specs.Option.{option_map}
 use Rattle.tk_base.specs.Settings.{Setup}
 use Rattle.tk_input.specs.Logs.{LogSet}

@@ -1,5 +1,6 @@
 pub mod Diary
 pub mod Events
+pub mod Nodes
 pub mod Order
 pub mod Runs
 pub mod Seats

@@ -1,6 +1,6 @@
 -- An order of what happened in a story: the journal is walked, each trail only as far as the next turn asks, and then to its end.
 use Rattle.tk_journal.specs.declared.noted.Noted.TheVariants as n
-use Rattle.std.specs.Prelude.{ℕ, suc, zero, ◌+◌, ℤ, unsigned_abs, is_some, slice_get, drop, if◌then◌else◌, List, [], ◌∷◌, length, Option, Some, None}
+use Rattle.std.specs.Prelude.{ℕ, suc, zero, ◌+◌, unsigned_abs, is_some, slice_get, drop, if◌then◌else◌, List, [], ◌∷◌, length, Option, Some, None}
 use Rattle.std.specs.Option.{option_map}
 use Rattle.tk_journal.specs.Legal.{inputs_of}
 use Rattle.tk_journal.specs.declared.noted.Noted.{Noted}

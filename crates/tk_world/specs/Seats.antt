@@ -1,5 +1,5 @@
 -- What the fields of a world keep of its story. No public clause cites this file.
-use Rattle.std.specs.Prelude.{ℕ, ◌≡◌, ◌+◌, ◌-◌, ◌<◌, Bool, not, ◌&&◌, nat_le, true, false, List, [], length, map, None, sum_by, slice_get, slice_index_or}
+use Rattle.std.specs.Prelude.{ℕ, ◌≡◌, ◌+◌, ◌-◌, ◌<◌, Bool, not, ◌&&◌, nat_le, true, false, List, length, map, None, sum_by, slice_get, slice_index_or}
 use Rattle.std.specs.List.{range_with_len}
 use Rattle.tk_base.specs.Settings.{Setup}
 use Rattle.tk_input.specs.Logs.{LogSet, parts_of, places_of}
@@ -15,6 +15,7 @@ use Rattle.tk_trail.specs.Readings.{is_broken, places_at, sent_by, taken_by}
 use Rattle.tk_trail.specs.Setup.{MonitorSetup}
 use Rattle.tk_trail.specs.declared.entry.Entry.{Entry}
 use Rattle.tk_story.specs.Story.{IsStory, StoryView, setup_of, trail_of}
+use Rattle.tk_world.specs.Nodes.{NodesView}
 use Rattle.tk_world.specs.Work.{has}
 use Rattle.tk_world.specs.declared.seat.Seat.{Seat}
 use Rattle.tk_world.specs.declared.work.Work.{Work}
@@ -33,26 +34,21 @@ story_in settings logs from journal seats = record {
   trails = trails_of seats;
 }
 
--- a monitor that has taken and sent nothing, from its places of a cut on
-abbrev pub fresh_seat : Setup → LogSet → List (List ℕ) → ℕ → Seat
-fresh_seat settings logs from mon = record {
-  monitor = record {
-    settings = settings;
-    setup = record { number = mon; objects = settings.objects; parts = parts_of logs.logs mon; from = places_of from mon };
-    trail = [];
-  };
-  taken = 0;
-  got = 0;
-}
+-- the same of nodes
+abbrev pub story_with : NodesView → LogSet → List (List ℕ) → StoryView
+story_with nodes logs from = story_in nodes.coordinator.settings logs from nodes.coordinator.journal nodes.seats
 
 -- how many changes a seat has left
 abbrev pub left_at : Seat → ℕ
 left_at seat = left_in seat.monitor.setup.parts (places_at seat.monitor.setup seat.monitor.trail)
 
--- nothing is on the links of a seat, where the coordinator sent it so many frames, and nothing is broken there
+-- nothing is on the links of a seat, where the coordinator sent it so many frames
+abbrev pub are_links_empty : ℕ → Seat → Bool
+are_links_empty sent seat = nat_le sent seat.taken && nat_le (length (sent_by seat.monitor.trail)) seat.got
+
+-- and besides nothing is broken there
 abbrev pub is_quiet_seat : ℕ → Seat → Bool
-is_quiet_seat sent seat =
-    nat_le sent seat.taken && nat_le (length (sent_by seat.monitor.trail)) seat.got && not (is_broken seat.monitor.setup seat.monitor.trail)
+is_quiet_seat sent seat = are_links_empty sent seat && not (is_broken seat.monitor.setup seat.monitor.trail)
 
 -- each seat of these is quiet beside a journal; one of them is not
 abbrev pub is_quiet_at : List Noted → List Seat → ℕ → Seat → Bool
@@ -64,15 +60,14 @@ AreQuiet journal seats = (k : ℕ) (d : Seat) → k < length seats → is_quiet_
 abbrev pub IsOneUnquiet : List Noted → List Seat → Type 0
 IsOneUnquiet journal seats = (k : ℕ) × (d : Seat) × (k < length seats) × (is_quiet_at journal seats k d ≡ false)
 
--- nothing is on the links of a seat, where the coordinator sent it so many frames, and a check sends nothing there
+-- nothing is on the links of a seat, and a check sends nothing there
 abbrev pub sends_nothing : Checked → Bool
 sends_nothing Reported = false
 sends_nothing ToldEnd = false
 sends_nothing Nothing = true
 
 abbrev pub is_resting_seat : ℕ → Seat → Bool
-is_resting_seat sent seat =
-    nat_le sent seat.taken && nat_le (length (sent_by seat.monitor.trail)) seat.got && sends_nothing (checked_at seat.monitor.setup seat.monitor.trail)
+is_resting_seat sent seat = are_links_empty sent seat && sends_nothing (checked_at seat.monitor.setup seat.monitor.trail)
 
 -- each of these seats that is of a set rests beside a journal; one of them does not
 abbrev pub is_resting_at : List Noted → List Seat → ℕ → Seat → Bool
@@ -113,3 +108,6 @@ pub record Holds (settings : Setup) (logs : LogSet) (from : List (List ℕ)) (jo
   pub within : (mon : ℕ) → has work mon ≡ true → IsMonitor settings mon
   pub resting : (mon : ℕ) → IsMonitor settings mon → has work mon ≡ false
       → IsResting (setup_of (story_in settings logs from journal seats) mon) (trail_of (story_in settings logs from journal seats) mon) journal mon
+
+abbrev pub HoldsWith : NodesView → LogSet → List (List ℕ) → ℕ → Work → Type 0
+HoldsWith nodes logs from raises work = Holds nodes.coordinator.settings logs from nodes.coordinator.journal nodes.seats raises work

@@ -1,11 +1,12 @@
-ghost use Rattle.std.specs.Prelude.{◌≡◌, ◌+◌, ◌<◌, ◌≤◌, ◌&&◌, [], length, map, nat_le, IfOk};
-ghost use Rattle.std.specs.List.{range_with_len};
+ghost use Rattle.std.specs.Prelude.{◌≡◌, map, IfOk};
 ghost use Rattle.tk_input.specs.Logs.{IsMonitor as IsMonitorOf};
 ghost use Rattle.tk_journal.specs.Readings.{monitors};
-ghost use Rattle.tk_trail.specs.Readings.{sent_by};
-ghost use Rattle.tk_world.specs.Seats.{fresh_seat, is_quiet_seat, is_resting_seat, sends_nothing};
+ghost use Rattle.tk_world.specs.Nodes.{AtSeat, HasSeat, sent_to};
+ghost use Rattle.tk_world.specs.Nodes.{fresh_seat};
+ghost use Rattle.tk_world.specs.Seats.{are_links_empty, is_quiet_seat, is_resting_seat, sends_nothing};
 ghost use Rattle.tk_world.specs.World.{CanRun};
 
+use crate::nodes::Nodes;
 use std::alloc::Global;
 use tk_base::{Cut, Mon, NoMemory, Settings};
 use tk_input::Logs;
@@ -22,27 +23,28 @@ pub struct Seat {
     pub got: usize,
 }
 
-impl Seat {
-    /// Whether nothing is on its links, where the coordinator sent it so many frames.
-    pub fn has_empty_links(&self, sent: usize) -> bool
-        ensures { result ≡ (nat_le sent self.now.taken && nat_le (length (sent_by self.now.monitor.trail)) self.now.got) }
-    {
-        self.taken >= sent && self.got >= self.monitor.sent()
-    }
+/// Whether nothing is on the links of a monitor.
+pub fn has_empty_links<N: Nodes>(nodes: &N, mon: Mon) -> bool
+    requires { HasSeat (N.seen nodes.now) mon.0 }
+    ensures { AtSeat (N.seen nodes.now) mon.0 (λ seat. result ≡ are_links_empty (sent_to (N.seen nodes.now) mon.0) seat) }
+{
+    nodes.taken(mon) >= nodes.coordinator().sent(mon) && nodes.got(mon) >= nodes.monitor(mon).sent()
+}
 
-    /// Whether besides nothing is due at its monitor.
-    pub fn is_at_rest(&self, sent: usize) -> bool
-        ensures { result ≡ is_resting_seat sent self.now }
-    {
-        self.has_empty_links(sent) && is_nothing(self.monitor.checked())
-    }
+/// Whether besides nothing is due at it.
+pub fn is_at_rest<N: Nodes>(nodes: &N, mon: Mon) -> bool
+    requires { HasSeat (N.seen nodes.now) mon.0 }
+    ensures { AtSeat (N.seen nodes.now) mon.0 (λ seat. result ≡ is_resting_seat (sent_to (N.seen nodes.now) mon.0) seat) }
+{
+    has_empty_links(nodes, mon) && is_nothing(nodes.monitor(mon).checked())
+}
 
-    /// Whether besides nothing is broken at its monitor.
-    pub fn is_quiet(&self, sent: usize) -> bool
-        ensures { result ≡ is_quiet_seat sent self.now }
-    {
-        self.has_empty_links(sent) && !self.monitor.broken()
-    }
+/// Whether besides nothing is broken at it.
+pub fn is_quiet<N: Nodes>(nodes: &N, mon: Mon) -> bool
+    requires { HasSeat (N.seen nodes.now) mon.0 }
+    ensures { AtSeat (N.seen nodes.now) mon.0 (λ seat. result ≡ is_quiet_seat (sent_to (N.seen nodes.now) mon.0) seat) }
+{
+    has_empty_links(nodes, mon) && !nodes.monitor(mon).broken()
 }
 
 fn is_nothing(checked: Checked) -> bool

@@ -1,22 +1,22 @@
 // Readings of all seats of a world.
 ghost use Rattle.std.specs.Prelude.{◌≡◌, length, map, true, false, IfOk};
-ghost use Rattle.tk_world.specs.Seats.{AreQuiet, AreResting, IsOneAtWork, IsOneUnquiet, places_in, trails_of};
+ghost use Rattle.tk_world.specs.Nodes.{HasSeat};
+ghost use Rattle.tk_world.specs.Seats.{AreQuiet, AreResting, IsOneAtWork, IsOneUnquiet, places_in};
 
-use crate::seat::Seat;
+use crate::nodes::Nodes;
+use crate::seat::{has_empty_links, is_at_rest, is_quiet};
 use crate::work::Work;
 use std::alloc::Global;
 use tk_base::{Cut, Mon, NoMemory};
-use tk_coord::Coordinator;
-use tk_monitor::Monitor;
 
 /// Whether all are quiet.
-pub fn are_quiet(seats: &[Seat], coordinator: &Coordinator) -> bool
-    requires { length seats.now ≡ coordinator.now.settings.monitors }
-    ensures yes { result ≡ true → AreQuiet coordinator.now.journal seats.now }
-    ensures some { result ≡ false → IsOneUnquiet coordinator.now.journal seats.now }
+pub fn are_quiet<N: Nodes>(nodes: &N) -> bool
+    requires { length (N.seen nodes.now).seats ≡ (N.seen nodes.now).coordinator.settings.monitors }
+    ensures yes { result ≡ true → AreQuiet (N.seen nodes.now).coordinator.journal (N.seen nodes.now).seats }
+    ensures some { result ≡ false → IsOneUnquiet (N.seen nodes.now).coordinator.journal (N.seen nodes.now).seats }
 {
-    for j in 0..coordinator.settings().monitors() {
-        if !seats[j as usize].is_quiet(coordinator.sent(Mon(j + 1))) {
+    for j in 0..nodes.coordinator().settings().monitors() {
+        if !is_quiet(nodes, Mon(j + 1)) {
             return false;
         }
     }
@@ -24,14 +24,14 @@ pub fn are_quiet(seats: &[Seat], coordinator: &Coordinator) -> bool
 }
 
 /// Whether all of a set are at rest.
-pub fn are_at_rest(seats: &[Seat], coordinator: &Coordinator, work: Work) -> bool
-    requires { length seats.now ≡ coordinator.now.settings.monitors }
-    ensures yes { result ≡ true → AreResting coordinator.now.journal work seats.now }
-    ensures some { result ≡ false → IsOneAtWork coordinator.now.journal work seats.now }
+pub fn are_at_rest<N: Nodes>(nodes: &N, work: Work) -> bool
+    requires { length (N.seen nodes.now).seats ≡ (N.seen nodes.now).coordinator.settings.monitors }
+    ensures yes { result ≡ true → AreResting (N.seen nodes.now).coordinator.journal work (N.seen nodes.now).seats }
+    ensures some { result ≡ false → IsOneAtWork (N.seen nodes.now).coordinator.journal work (N.seen nodes.now).seats }
 {
-    for j in 0..coordinator.settings().monitors() {
+    for j in 0..nodes.coordinator().settings().monitors() {
         let mon = Mon(j + 1);
-        if work.contains(mon) && !seats[j as usize].is_at_rest(coordinator.sent(mon)) {
+        if work.contains(mon) && !is_at_rest(nodes, mon) {
             return false;
         }
     }
@@ -39,24 +39,14 @@ pub fn are_at_rest(seats: &[Seat], coordinator: &Coordinator, work: Work) -> boo
 }
 
 /// How far each feeder of each of them is.
-pub fn cut_at(alloc: Global, seats: &[Seat]) -> Result<Cut, NoMemory>
-    ensures { IfOk result (λ cut. cut ≡ map places_in seats.now) }
+pub fn cut_at<N: Nodes>(alloc: Global, nodes: &N) -> Result<Cut, NoMemory>
+    requires { length (N.seen nodes.now).seats ≡ (N.seen nodes.now).coordinator.settings.monitors }
+    ensures { IfOk result (λ cut. cut ≡ map places_in (N.seen nodes.now).seats) }
 {
-    let mut list = Vec::with_capacity(alloc, seats.len())?;
-    for seat in seats {
-        list.push(seat.monitor.places()?)?;
+    let count = nodes.coordinator().settings().monitors();
+    let mut list = Vec::with_capacity(alloc, count as usize)?;
+    for j in 0..count {
+        list.push(nodes.monitor(Mon(j + 1)).places()?)?;
     }
     Ok(Cut::new(list))
-}
-
-/// The monitors without their links.
-pub fn into_monitors(alloc: Global, seats: Vec<Seat>) -> Result<Vec<Monitor>, NoMemory>
-    ensures { IfOk result (λ monitors. map (λ m. m.trail) monitors.items ≡ trails_of seats.items) }
-{
-    let mut monitors = Vec::with_capacity(alloc, seats.len())?;
-    for seat in seats {
-        let Seat { monitor, .. } = seat;
-        monitors.push(monitor)?;
-    }
-    Ok(monitors)
 }

@@ -5,69 +5,45 @@ ghost use Rattle.tk_journal.specs.Readings.{members_at};
 ghost use Rattle.tk_story.specs.Moments.{AreMembersValid, IsQuiet, cut_of};
 ghost use Rattle.tk_story.specs.Story.{IsStory};
 ghost use Rattle.tk_world.specs.Events.{CanOnlyChange, begin, next_of};
+ghost use Rattle.tk_world.specs.Nodes.{IsFresh};
 ghost use Rattle.tk_world.specs.World.{AreAtRest, CanRun, IsAtRest, IsFeeder, Moves, is_raise};
 
 use crate::diary::Diary;
+use crate::direct::Direct;
 use crate::left::left_after;
 use crate::moved::Moved;
-use crate::seat::{Seat, new_seats};
-use crate::seats::{are_at_rest, are_quiet, cut_at, into_monitors};
+use crate::nodes::Nodes;
+use crate::seat::has_empty_links;
+use crate::seats::{are_at_rest, are_quiet, cut_at};
 use crate::work::Work;
 use std::alloc::Global;
 use std::marker::Model;
 use tk_base::{Cut, Feeder, Mon, NoMemory, ObjSet, Settings};
-use tk_coord::{CoordRefusal, Coordinator};
 use tk_input::{Event, Logs, Retuning};
 use tk_monitor::{Checked, Raised};
 use tk_story::Story;
-use tk_trail::MonitorRefusal;
 
 /// A coordinator and its monitors in memory, moved by events. Contracts see the story so far, and the
-/// events that took place.
+/// events that took place. Without a type of its nodes it hands their frames over as they are.
 #[derive(Drop)]
-pub struct World {
+pub struct World<N: Nodes = Direct> {
     logs: Logs,
     from: Cut,
-    coordinator: Coordinator,
-    seats: Vec<Seat>,
+    nodes: N,
     diary: Diary,
     /// The monitors at which a check or a delivery may be enabled.
     work: Work,
 }
 
-impl Model for World {
+impl<N: Nodes> Model for World<N> {
     ghost use Rattle.tk_story.specs.Kept.{KeptStory};
-    ghost use Rattle.tk_world.specs.Seats.{Holds, story_in};
+    ghost use Rattle.tk_world.specs.Seats.{HoldsWith, story_with};
 
     ghost Value = { KeptStory };
 
-    ghost view = { λ w. record {
-      story = story_in w.coordinator.settings w.logs w.from w.coordinator.journal w.seats.items;
-      events = w.diary.events;
-    } };
+    ghost view = { λ w. record { story = story_with (N.seen w.nodes) w.logs w.from; events = w.diary.events } };
 
-    ghost invariant = { λ w.
-        Holds w.coordinator.settings w.logs w.from w.coordinator.journal w.seats.items w.diary.raises w.work };
-}
-
-/// Want of memory, the only refusal that a frame on a link meets at the coordinator.
-fn of_coordinator(refusal: CoordRefusal) -> NoMemory
-    requires { refusal ≡ CoordRefusal.NoMemory }
-{
-    match refusal {
-        CoordRefusal::NoMemory => NoMemory,
-        _ => unreachable!(),
-    }
-}
-
-/// Want of memory, the only refusal that a frame on a link meets at its monitor.
-fn of_monitor(refusal: MonitorRefusal) -> NoMemory
-    requires { refusal ≡ MonitorRefusal.NoMemory }
-{
-    match refusal {
-        MonitorRefusal::NoMemory => NoMemory,
-        _ => unreachable!(),
-    }
+    ghost invariant = { λ w. HoldsWith (N.seen w.nodes) w.logs w.from w.diary.raises w.work };
 }
 
 impl World {
@@ -77,21 +53,32 @@ impl World {
         requires { CanRun settings logs from }
         ensures { IfOk result (λ w. w ≡ record { story = begin settings logs from; events = [] }) }
     {
-        let seats = new_seats(alloc, &settings, &logs, &from)?;
+        let nodes = Direct::new(alloc, settings, &logs, &from)?;
+        World::over(alloc, nodes, logs, from)
+    }
+}
+
+impl<N: Nodes + Drop> World<N> {
+    /// A world of nodes that have just begun. Takes the room for all raises.
+    pub fn over(alloc: Global, nodes: N, logs: Logs, from: Cut) -> Result<World<N>, NoMemory>
+        requires run { CanRun (N.seen nodes).coordinator.settings logs from }
+        requires fresh { IsFresh (N.seen nodes) logs from }
+        ensures { IfOk result (λ w. w ≡ record { story = begin (N.seen nodes).coordinator.settings logs from; events = [] }) }
+    {
         let diary = Diary::new(alloc, left_after(&logs, &from))?;
-        let coordinator = Coordinator::new(alloc, settings)?;
         let mut work = Work::none();
-        work.insert_sent(coordinator.journal());
+        work.insert_sent(nodes.coordinator().journal());
         Ok(World {
             logs,
             from,
-            coordinator,
-            seats,
+            nodes,
             diary,
             work,
         })
     }
+}
 
+impl<N: Nodes> World<N> {
     /// Makes an event happen, or tells that it is not enabled. Costs what the node that it is for does.
     pub fn step(&mut self, event: Event) -> Result<Moved, NoMemory>
         ensures ok { IfOk result (λ moved. Moves self.old event moved self.new) }
@@ -114,7 +101,7 @@ impl World {
         ensures yes { result ≡ true → IsFeeder self.now.story mon.0 f.0 }
         ensures none { result ≡ false → next_of self.now.story (Raise mon f) ≡ None }
     {
-        if mon.0 == 0 || mon.0 > self.coordinator.settings().monitors() {
+        if mon.0 == 0 || mon.0 > self.nodes.coordinator().settings().monitors() {
             return false;
         }
         0 < f.0 && f.0 <= self.logs.feeders(mon)
@@ -127,11 +114,10 @@ impl World {
         if !self.has_feeder(mon, f) {
             return Moved::Idle;
         }
-        let seat = &mut self.seats[mon.0 as usize - 1];
-        match seat.monitor.raise(f) {
+        match self.nodes.raise(mon, f) {
             Raised::Ended => Moved::Idle,
             Raised::Done { broken } => {
-                let ended = seat.monitor.ended();
+                let ended = self.nodes.monitor(mon).ended();
                 self.work.insert_if(mon, broken || ended);
                 self.diary.raised(mon, f);
                 Moved::Yes
@@ -148,14 +134,13 @@ impl World {
         if !self.work.contains(mon) {
             return Ok(Moved::Idle);
         }
-        let seat = &mut self.seats[mon.0 as usize - 1];
-        if let Checked::Nothing = seat.monitor.checked() {
-            let is_empty = seat.has_empty_links(self.coordinator.sent(mon));
+        if let Checked::Nothing = self.nodes.monitor(mon).checked() {
+            let is_empty = has_empty_links(&self.nodes, mon);
             self.work.remove_if(mon, is_empty);
             return Ok(Moved::Idle);
         }
         self.diary.reserve()?;
-        seat.monitor.check()?;
+        self.nodes.check(mon)?;
         self.diary.note(Event::Check(mon));
         Ok(Moved::Yes)
     }
@@ -170,19 +155,14 @@ impl World {
         if !self.work.contains(mon) {
             return Ok(Moved::Idle);
         }
-        let seat = &mut self.seats[mon.0 as usize - 1];
-        if seat.got >= seat.monitor.sent() {
+        if self.nodes.got(mon) >= self.nodes.monitor(mon).sent() {
             return Ok(Moved::Idle);
         }
-        let frame = seat.monitor.sent_at(seat.got).try_clone()?;
         self.diary.reserve()?;
-        let before = self.coordinator.journal().len();
-        match self.coordinator.take(mon, frame) {
-            Ok(()) => {}
-            Err((refusal, _)) => return Err(of_coordinator(refusal)),
-        }
-        seat.got += 1;
-        self.work.insert_sent(&self.coordinator.journal()[before..]);
+        let before = self.nodes.coordinator().journal().len();
+        self.nodes.up(mon)?;
+        self.work
+            .insert_sent(&self.nodes.coordinator().journal()[before..]);
         self.diary.note(Event::Up(mon));
         Ok(Moved::Yes)
     }
@@ -197,17 +177,11 @@ impl World {
         if !self.work.contains(mon) {
             return Ok(Moved::Idle);
         }
-        let seat = &mut self.seats[mon.0 as usize - 1];
-        if seat.taken >= self.coordinator.sent(mon) {
+        if self.nodes.taken(mon) >= self.nodes.coordinator().sent(mon) {
             return Ok(Moved::Idle);
         }
-        let frame = self.coordinator.sent_at(mon, seat.taken).try_clone()?;
         self.diary.reserve()?;
-        match seat.monitor.take(frame) {
-            Ok(()) => {}
-            Err((refusal, _)) => return Err(of_monitor(refusal)),
-        }
-        seat.taken += 1;
+        self.nodes.down(mon)?;
         self.diary.note(Event::Down(mon));
         Ok(Moved::Yes)
     }
@@ -220,16 +194,19 @@ impl World {
     {
         let k = retuning.k();
         let epsilon = retuning.epsilon();
-        if self.coordinator.retune_refusal(k, epsilon).is_some() {
+        if self
+            .nodes
+            .coordinator()
+            .retune_refusal(k, epsilon)
+            .is_some()
+        {
             return Ok(Moved::Idle);
         }
         self.diary.reserve()?;
-        let before = self.coordinator.journal().len();
-        match self.coordinator.retune(k, epsilon) {
-            Ok(()) => {}
-            Err(_) => return Err(NoMemory),
-        }
-        self.work.insert_sent(&self.coordinator.journal()[before..]);
+        let before = self.nodes.coordinator().journal().len();
+        self.nodes.retune(k, epsilon)?;
+        self.work
+            .insert_sent(&self.nodes.coordinator().journal()[before..]);
         self.diary.note(Event::Retune(retuning));
         Ok(Moved::Yes)
     }
@@ -243,7 +220,7 @@ impl World {
         if self.work.is_empty() {
             return true;
         }
-        are_at_rest(self.seats.as_slice(), &self.coordinator, self.work)
+        are_at_rest(&self.nodes, self.work)
     }
 
     /// The next monitor at or above a number at which a check or a delivery may be enabled. It is found in a
@@ -252,7 +229,7 @@ impl World {
         ensures found { IfSome result (λ mon. (from.0 ≤ mon.0) × IsMonitor self.now.story.settings mon.0) }
         ensures skipped { AreAtRest self.now.story from.0 result }
     {
-        let _ = &self.seats;
+        let _ = &self.nodes;
         self.work.next(from)
     }
 
@@ -261,28 +238,28 @@ impl World {
         ensures value { (result ≡ true) ↔ IsQuiet self.now.story }
         ensures valid { result ≡ true → AreMembersValid self.now.story }
     {
-        are_quiet(self.seats.as_slice(), &self.coordinator)
+        are_quiet(&self.nodes)
     }
 
     /// How far each feeder of each monitor is.
     pub fn cut(&self) -> Result<Cut, NoMemory>
         ensures { IfOk result (λ cut. cut ≡ cut_of self.now.story) }
     {
-        cut_at(self.diary.alloc(), self.seats.as_slice())
+        cut_at(self.diary.alloc(), &self.nodes)
     }
 
     pub fn members(&self) -> &ObjSet
         ensures value { result.now ≡ members_at self.now.story.journal }
         ensures legal { IsStory self.now.story }
     {
-        self.coordinator.members()
+        self.nodes.coordinator().members()
     }
 
     pub fn settings(&self) -> &Settings
         ensures value { result.now ≡ self.now.story.settings }
         ensures legal { IsStory self.now.story }
     {
-        self.coordinator.settings()
+        self.nodes.coordinator().settings()
     }
 
     pub fn logs(&self) -> &Logs
@@ -298,12 +275,11 @@ impl World {
         let World {
             logs,
             from,
-            coordinator,
-            seats,
+            nodes,
             diary,
             ..
         } = self;
-        let monitors = into_monitors(diary.alloc(), seats)?;
+        let (coordinator, monitors) = nodes.into_parts(diary.alloc())?;
         let settings = *coordinator.settings();
         Ok(Story::of(
             coordinator,

@@ -9,13 +9,13 @@ use Rattle.tk_drain.proofs.PassingLemmas.{order_more}
 use Rattle.tk_drain.proofs.finishing.drive.Goals as goal
 
 pub returns-in_err-try_clone-clause-err : goal.returns-in_err-try_clone-clause-err
-returns-in_err-try_clone-clause-err c = err_by c.from_residual.result (order_cut c.args.order.now.events c.loop-i.i c.args.world.now c.loop-i.world c.loop-i.invariant)
+returns-in_err-try_clone-clause-err g c = err_by c.from_residual.result (order_cut c.args.order.now.events c.loop-i.i c.args.world.now c.loop-i.world c.loop-i.invariant)
 
 pub returns-in_err-step-clause-err : goal.returns-in_err-step-clause-err
-returns-in_err-step-clause-err c = err_by c.from_residual-in_err-step.result (order_cut c.args.order.now.events c.loop-i.i c.args.world.now c.step.new.self (c.in_err-step.ensures.err ∙ c.loop-i.invariant))
+returns-in_err-step-clause-err g c = err_by c.from_residual-in_err-step.result (order_cut c.args.order.now.events c.loop-i.i c.args.world.now c.step.new.self (c.in_err-step.ensures.err ∙ c.loop-i.invariant))
 
 pub loop-i-preserved : goal.loop-i-preserved
-loop-i-preserved c =
+loop-i-preserved g c =
     let i = c.loop-i.i in
     let order = c.args.order.now.events in
     let low = c.loop-i-test.true in
@@ -26,7 +26,7 @@ loop-i-preserved c =
     c.loop-i.invariant c.in_ok-step.ensures.ok
 
 pub returns-clause-err : goal.returns-clause-err
-returns-clause-err c =
+returns-clause-err g c =
     let low = c.loop-i-test.false in
     let end = c.len-i-end.ensures in
     on_err_weaker c.finish.result (λ begins. behind_order c.args.order.now.events c.loop-i.i c.args.world.now c.loop-i.world c.finish.new.world c.loop-i.invariant (omega (arith, low, end)) begins) c.finish.ensures.err

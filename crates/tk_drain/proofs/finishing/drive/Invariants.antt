@@ -3,4 +3,4 @@ use Rattle.tk_drain.specs.Drive.{keep_all}
 use Rattle.tk_drain.proofs.finishing.drive.Given as goal
 
 abbrev pub invariant-loop-i : goal.invariant-loop-i
-invariant-loop-i l = l.world ≡ keep_all l.initial.world (take l.i l.order.events)
+invariant-loop-i g l = l.world ≡ keep_all l.initial.world (take l.i l.order.events)

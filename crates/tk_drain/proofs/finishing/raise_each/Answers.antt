@@ -12,16 +12,16 @@ use Rattle.tk_drain.proofs.finishing.raise_each.Goals as goal
 use Rattle.tk_drain.proofs.finishing.raise_each.Goals.{in-Yes+in_ok-push-in-Yes, in-Idle}
 
 pub loop-part-init : goal.loop-part-init
-loop-part-init c = record {
+loop-part-init g c = record {
   story = c.requires;
   passes = subst (λ (left : List (Mon × Feeder)). Passes (raises []) (raises left) c.args.world.now c.args.world.now) (sym c.in_ok-left.ensures.items) (passes_none c.args.world.now);
 }
 
 pub returns-in_err-left-clause-err : goal.returns-in_err-left-clause-err
-returns-in_err-left-clause-err c = err_by c.from_residual.result (not_begun (raises c.args.parts.now) c.args.world.now c.args.world.now refl)
+returns-in_err-left-clause-err g c = err_by c.from_residual.result (not_begun (raises c.args.parts.now) c.args.world.now c.args.world.now refl)
 
 pub returns-in_err-raise_one-clause-err : goal.returns-in_err-raise_one-clause-err
-returns-in_err-raise_one-clause-err c =
+returns-in_err-raise_one-clause-err g c =
     let i = c.loop-part.part-index in
     let nobody : Mon × Feeder = (record { 0 = 0 }, record { 0 = 0 }) in
     err_by c.from_residual-in_err-raise_one.result
@@ -29,7 +29,7 @@ returns-in_err-raise_one-clause-err c =
     c.loop-part.invariant.passes.finishes c.in_err-raise_one.ensures.err)
 
 pub returns-in_err-push-in-Yes-clause-err : goal.returns-in_err-push-in-Yes-clause-err
-returns-in_err-push-in-Yes-clause-err c =
+returns-in_err-push-in-Yes-clause-err g c =
     let i = c.loop-part.part-index in
     let nobody : Mon × Feeder = (record { 0 = 0 }, record { 0 = 0 }) in
     err_by c.from_residual-in_err-push-in-Yes.result
@@ -37,7 +37,7 @@ returns-in_err-push-in-Yes-clause-err c =
     c.loop-part.invariant.passes.finishes c.in_ok-raise_one.ensures.ok)
 
 pub loop-part-preserved : goal.loop-part-preserved
-loop-part-preserved c =
+loop-part-preserved g c =
     let i = c.loop-part.part-index in
     let nobody : Mon × Feeder = (record { 0 = 0 }, record { 0 = 0 }) in
     let part = get_or c.args.parts.now i nobody in

@@ -9,16 +9,16 @@ use Rattle.tk_drain.proofs.phase.run.Goals as goal
 use Rattle.tk_drain.proofs.phase.run.Goals.{in-Yes, in-Idle}
 
 pub returns-in_err-step-clause-err : goal.returns-in_err-step-clause-err
-returns-in_err-step-clause-err c =
+returns-in_err-step-clause-err g c =
     err_by c.from_residual.result
     (subst (λ (w : KeptStory). KeepsFront (phase_events c.args.phase c.args.world.now.story.settings) c.args.world.now w) (sym c.in_err-step.ensures.err)
     (phasing_front c.args.phase c.args.world.now c.loop-mon.world c.loop-mon.moved c.loop-mon.next.0 c.loop-mon.invariant))
 
 pub loop-mon-smaller : goal.loop-mon-smaller
-loop-mon-smaller c = phasing_smaller c.loop-mon.world c.step.new.self c.event.result c.in_ok-step.field-0 c.loop-mon.next.0 c.in-Some.mon.0 c.loop-mon.invariant.story c.in-Some.ensures.found.0 c.in-Some.ensures.found.1 c.in_ok-step.ensures.ok
+loop-mon-smaller g c = phasing_smaller c.loop-mon.world c.step.new.self c.event.result c.in_ok-step.field-0 c.loop-mon.next.0 c.in-Some.mon.0 c.loop-mon.invariant.story c.in-Some.ensures.found.0 c.in-Some.ensures.found.1 c.in_ok-step.ensures.ok
 
 pub loop-mon-preserved : goal.loop-mon-preserved
-loop-mon-preserved c =
+loop-mon-preserved g c =
     let now = c.loop-mon.world in
     let moves = c.in_ok-step.ensures.ok in
     phasing_steps c.args.phase c.args.world.now now c.step.new.self c.loop-mon.moved c.in_ok-step.field-0 c.match-branch-2.moved c.loop-mon.next.0 c.in-Some.mon c.loop-mon.invariant c.in-Some.ensures.found.0 c.in-Some.ensures.found.1 c.in-Some.ensures.skipped
@@ -29,4 +29,4 @@ loop-mon-preserved c =
     ]))
 
 pub returns-clause-ok : goal.returns-clause-ok
-returns-clause-ok c = phasing_ends c.args.phase c.args.world.now c.loop-mon.world c.loop-mon.moved c.loop-mon.next.0 c.loop-mon.invariant c.in_default.ensures.skipped
+returns-clause-ok g c = phasing_ends c.args.phase c.args.world.now c.loop-mon.world c.loop-mon.moved c.loop-mon.next.0 c.loop-mon.invariant c.in_default.ensures.skipped

@@ -3,8 +3,8 @@ use Rattle.tk_drain.proofs.PhaseLemmas.{Phasing}
 use Rattle.tk_drain.proofs.phase.run.Given as goal
 
 abbrev pub invariant-loop-mon : goal.invariant-loop-mon
-invariant-loop-mon l = Phasing l.phase l.initial.world l.world l.moved l.next.0
+invariant-loop-mon g l = Phasing l.phase l.initial.world l.world l.moved l.next.0
 
 -- the monitors that are left
 abbrev pub decreases-loop-mon : goal.decreases-loop-mon
-decreases-loop-mon l = l.world.story.settings.monitors + 1 - l.next.0
+decreases-loop-mon g l = l.world.story.settings.monitors + 1 - l.next.0

@@ -7,26 +7,26 @@ use Rattle.tk_drain.proofs.RestLemmas.{Sweeping, comes_to_rest, sweeping_cut, sw
 use Rattle.tk_drain.proofs.sweeps.settle.Goals as goal
 
 pub returns-in_err-sweep-clause-err : goal.returns-in_err-sweep-clause-err
-returns-in_err-sweep-clause-err c = err_by c.from_residual.result (sweeping_cut c.args.world.now c.loop-moved.world c.sweep.new.world c.loop-moved.moved c.loop-moved.invariant.sweeping c.in_err-sweep.ensures.err)
+returns-in_err-sweep-clause-err g c = err_by c.from_residual.result (sweeping_cut c.args.world.now c.loop-moved.world c.sweep.new.world c.loop-moved.moved c.loop-moved.invariant.sweeping c.in_err-sweep.ensures.err)
 
 pub returns-in-Idle-clause-settles : goal.returns-in-Idle-clause-settles
-returns-in-Idle-clause-settles c =
+returns-in-Idle-clause-settles g c =
     let idle = c.in_ok-sweep.ensures.idle.0 c.in-Idle.is in
     let same = c.in_ok-sweep.ensures.ok ∙ idle_swept c.loop-moved.world idle in
     subst (λ (z : KeptStory). Settles c.args.world.now z (c.loop-moved.moved + 1)) (sym same) (sweeping_rests c.args.world.now c.loop-moved.world c.loop-moved.moved idle c.loop-moved.invariant.sweeping)
 
 pub returns-in-Idle-clause-rests : goal.returns-in-Idle-clause-rests
-returns-in-Idle-clause-rests c = comes_to_rest c.args.world.now c.sweep.new.world (c.loop-moved.moved + 1) c.settings.ensures.legal (returns-in-Idle-clause-settles c)
+returns-in-Idle-clause-rests g c = comes_to_rest c.args.world.now c.sweep.new.world (c.loop-moved.moved + 1) c.settings.ensures.legal (returns-in-Idle-clause-settles g c)
 
 pub loop-moved-preserved : goal.loop-moved-preserved
-loop-moved-preserved c = record {
+loop-moved-preserved g c = record {
   story = c.sweep.ensures.legal;
   sweeping = subst (λ (z : KeptStory). Sweeping c.args.world.now z (c.loop-moved.moved + 1)) (sym c.in_ok-sweep.ensures.ok)
       (sweeping_on c.args.world.now c.loop-moved.world c.loop-moved.moved c.loop-moved.invariant.story (λ idle. let no = c.in_ok-sweep.ensures.idle.1 idle in let is = c.in-Yes.is in cc) c.loop-moved.invariant.sweeping);
 }
 
 pub unreachable-requires : goal.unreachable-requires
-unreachable-requires c =
+unreachable-requires g c =
     let at = c.from.ensures in
     let monitors = c.monitors.ensures.value in
     let same = ap (λ (s : Setup). s.monitors) c.settings.ensures.value in

@@ -4,4 +4,4 @@ use Rattle.tk_drain.proofs.sweeps.settle.Given as goal
 
 -- each sweep so far moved something
 abbrev pub invariant-loop-moved : goal.invariant-loop-moved
-invariant-loop-moved l = record { story : IsStory l.world.story; sweeping : Sweeping l.initial.world l.world l.moved }
+invariant-loop-moved g l = record { story : IsStory l.world.story; sweeping : Sweeping l.initial.world l.world l.moved }

@@ -1,5 +1,5 @@
-use Rattle.std.proofs.Common.{◌≡◌, ◌++◌, ◌∷◌, [], List, ap₂, sym, ◌∙◌}
-use Rattle.tk_world.specs.Seats.{fresh_seat}
+use Rattle.std.proofs.Common.{◌++◌, ◌∷◌, [], List, ap₂, sym, ◌∙◌}
+use Rattle.tk_world.specs.Nodes.{fresh_seat}
 use Rattle.tk_world.specs.declared.seat.Seat.{Seat}
 use Rattle.tk_world.proofs.RangeLemmas.{listed_more}
 use Rattle.tk_world.proofs.seat.new_seats.Goals as goal

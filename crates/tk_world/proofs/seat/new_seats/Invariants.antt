@@ -1,6 +1,6 @@
 use Rattle.std.proofs.Common.{◌≡◌, map}
 use Rattle.std.specs.List.{range_with_len}
-use Rattle.tk_world.specs.Seats.{fresh_seat}
+use Rattle.tk_world.specs.Nodes.{fresh_seat}
 use Rattle.tk_world.proofs.seat.new_seats.Given as goal
 
 -- the seats of the monitors passed

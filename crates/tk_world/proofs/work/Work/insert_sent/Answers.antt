@@ -1,7 +1,7 @@
-use Rattle.std.proofs.Common.{◌≡◌, ◌==◌, ◌≤◌, ℕ, true, refl, ap, sym, ◌∙◌}
+use Rattle.std.proofs.Common.{refl, ap, sym, ◌∙◌}
 use Rattle.std.proofs.lemmas.Bool.{eq-eqb}
 use Rattle.std.proofs.lemmas.List.Folds.{list_any_at}
-use Rattle.tk_world.specs.Work.{is_sent, sends_to}
+use Rattle.tk_world.specs.Work.{sends_to}
 use Rattle.tk_world.proofs.work.Work.insert_sent.Goals as goal
 
 pub insert-requires-clause-some : goal.insert-requires-clause-some

@@ -1,9 +1,9 @@
-use Rattle.std.proofs.Common.{◌≡◌, ℕ, ◌+◌, ◌-◌, ◌*◌, ◌%◌, ◌^◌, ◌<◌, ap, sym, ◌∙◌, arith, bit_and}
+use Rattle.std.proofs.Common.{◌-◌, ◌*◌, ◌%◌, ◌^◌, ap, ◌∙◌, arith, bit_and}
 use Rattle.std.specs.Int.{bit_at, w64}
 use Rattle.std.proofs.lemmas.Nat.{and_le_l}
 use Rattle.std.proofs.lemmas.Nat.Bits.{bit_at-trailing_zeros, bit_at-zero}
 use Rattle.tk_world.specs.Work.{has}
-use Rattle.tk_world.proofs.WorkLemmas.{at, past_at, free_at, found_at}
+use Rattle.tk_world.proofs.WorkLemmas.{past_at, free_at, found_at}
 use Rattle.tk_world.proofs.work.Work.next.Goals as goal
 
 pub returns-then-below-ge-MOST-clause-skipped : goal.returns-then-below-ge-MOST-clause-skipped

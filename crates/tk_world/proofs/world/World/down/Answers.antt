@@ -1,99 +1,71 @@
-use Rattle.std.proofs.Common.{◌≡◌, ℕ, ◌+◌, ◌-◌, ◌<◌, ◌≤◌, ◌∷◌, ◌++◌, [], List, Bool, true, false, length, set, drop, take, Some, None, Option, refl, sym, ap, ap₂, ◌∙◌, subst, arith}
-use Rattle.std.specs.Prelude.{is_some, slice_get}
-use Rattle.tk_base.specs.Settings.{Setup}
-use Rattle.tk_frames.specs.declared.frame.Frame.{Frame}
+use Rattle.std.proofs.Common.{◌∷◌, ◌++◌, [], ◌∙◌, List, length, refl, sym, ap, arith}
+use Rattle.std.specs.Prelude.{is_some}
 use Rattle.tk_input.specs.declared.event.Event.{Event}
-use Rattle.tk_input.specs.declared.event.Event.TheVariants.{Raise, Check, Up, Down, Retune}
-use Rattle.tk_journal.specs.Links.{frames_from, frames_to}
-use Rattle.tk_journal.specs.declared.noted.Noted.{Noted}
-use Rattle.tk_trail.specs.Readings.{sent_by, taken_by}
+use Rattle.tk_input.specs.declared.event.Event.TheVariants.{Down}
 use Rattle.tk_story.specs.Kept.{KeptStory}
-use Rattle.tk_story.specs.Story.{IsStory}
 use Rattle.tk_world.specs.Diary.{Noted as Written}
-use Rattle.tk_world.specs.Events.{next_of, check_at, up_at, down_at}
-use Rattle.tk_world.specs.Seats.{Holds, story_in}
-use Rattle.tk_world.specs.Work.{has, is_sent}
-use Rattle.tk_world.specs.declared.seat.Seat.{Seat}
-use Rattle.tk_trail.specs.declared.refusal.MonitorRefusal.{MonitorRefusal}
-use Rattle.tk_trail.specs.declared.refusal.MonitorRefusal.TheVariants.{NoMemory}
-use Rattle.tk_trail.specs.Refusal.{refusal_of}
-use Rattle.tk_monitor.specs.Monitored.{AnswersTake}
-use Rattle.tk_world.proofs.EventLemmas.{down_taken}
-use Rattle.tk_world.proofs.EnabledLemmas.{on_err, down_enabled}
-use Rattle.tk_world.proofs.WorldLemmas.{Leaves, down_leaves, down_stays, only_memory_down, rests, unchanged}
+use Rattle.tk_world.specs.Events.{next_of}
+use Rattle.tk_world.specs.Seats.{story_with}
+use Rattle.tk_coord.specs.Coordinator.{CoordinatorView}
+use Rattle.tk_journal.specs.Links.{frames_to}
+use Rattle.tk_world.proofs.EnabledLemmas.{on_err}
+use Rattle.tk_world.proofs.NodesLemmas.{down_allowed, down_off, down_on, down_with}
+use Rattle.tk_world.proofs.WorldLemmas.{Leaves, rests}
 use Rattle.tk_world.proofs.world.World.down.Goals as goal
 
 pub returns-then-not-contains-clause-ok : goal.returns-then-not-contains-clause-ok
-returns-then-not-contains-clause-ok c =
+returns-then-not-contains-clause-ok g c =
     let w = c.self.inside in
-    let rest = rests w.coordinator.settings w.logs w.from w.coordinator.journal w.seats.items w.diary.raises w.work c.args.mon.0 c.self.invariant (sym c.contains.ensures ∙ c.if-not-contains.true) in
+    let v = g.N.Nodes.seen w.nodes in
+    let rest = rests v.coordinator.settings w.logs w.from v.coordinator.journal v.seats w.diary.raises w.work c.args.mon.0 c.self.invariant (sym c.contains.ensures ∙ c.if-not-contains.true) in
     (ap (λ (k : KeptStory). next_of k.story (Down c.args.mon)) (sym c.self.view_is) ∙ rest.down, refl)
 
-pub returns-then-seat-sent-clause-ok : goal.returns-then-seat-sent-clause-ok
-returns-then-seat-sent-clause-ok c =
+pub returns-then-taken-sent-clause-ok : goal.returns-then-taken-sent-clause-ok
+returns-then-taken-sent-clause-ok g c =
     let w = c.self.inside in
-    let seat = c.index_mut-seat.result.now in
-    let same = unchanged w.seats.items (c.args.mon.0 - 1) seat c.index_mut-seat.ensures.value in
-    let stays = down_stays w.coordinator.settings w.logs w.from w.coordinator.journal w.seats.items w.diary.raises w.work c.args.mon seat c.self.invariant (sym c.contains.ensures ∙ c.if-not-contains.false) c.index_mut-seat.ensures.value
-    (omega (arith, c.if-seat-sent.true, c.sent.ensures)) in (
-      ap (λ (k : KeptStory). next_of k.story (Down c.args.mon)) (sym c.self.view_is) ∙ stays,
-      ap (λ (xs : List Seat). record { story = story_in w.coordinator.settings w.logs w.from w.coordinator.journal xs; events = w.diary.events }) same ∙ c.self.view_is,
-    )
+    let off = down_off (g.N.Nodes.seen w.nodes) w.logs w.from w.diary.raises w.work c.args.mon c.taken.result c.sent.result c.self.invariant (sym c.contains.ensures ∙ c.if-not-contains.false)
+    c.taken.ensures (c.sent.ensures ∙ ap (λ (x : CoordinatorView). length (frames_to c.args.mon.0 x.journal)) c.coordinator.ensures) (let low = c.if-taken-sent.true in omega (arith, low)) in
+    (ap (λ (k : KeptStory). next_of k.story (Down c.args.mon)) (sym c.self.view_is) ∙ off, refl)
 
-pub returns-in_err-frame-clause-enabled : goal.returns-in_err-frame-clause-enabled
-returns-in_err-frame-clause-enabled c =
+pub returns-in_err-reserve-clause-enabled : goal.returns-in_err-reserve-clause-enabled
+returns-in_err-reserve-clause-enabled g c =
     let w = c.self.inside in
     on_err c.from_residual.result
     (ap (λ (k : KeptStory). is_some (next_of k.story (Down c.args.mon))) (sym c.self.view_is)
-    ∙ down_enabled w.coordinator.settings w.logs w.from w.coordinator.journal w.seats.items w.diary.raises w.work c.args.mon c.index_mut-seat.result.now c.self.invariant (sym c.contains.ensures ∙ c.if-not-contains.false) c.index_mut-seat.ensures.value
-    (let low = c.if-seat-sent.false in let count = c.sent.ensures in omega (arith, low, count)))
+    ∙ down_on (g.N.Nodes.seen w.nodes) w.logs w.from w.diary.raises w.work c.args.mon c.taken.result c.sent.result c.self.invariant (sym c.contains.ensures ∙ c.if-not-contains.false)
+    c.taken.ensures (c.sent.ensures ∙ ap (λ (x : CoordinatorView). length (frames_to c.args.mon.0 x.journal)) c.coordinator.ensures) (let low = c.if-taken-sent.false in omega (arith, low)))
 
-pub returns-in_err-reserve-clause-enabled : goal.returns-in_err-reserve-clause-enabled
-returns-in_err-reserve-clause-enabled c =
+pub down-requires-clause-accepted : goal.down-requires-clause-accepted
+down-requires-clause-accepted g c =
     let w = c.self.inside in
-    on_err c.from_residual-in_err-reserve.result
+    down_allowed (g.N.Nodes.seen w.nodes) w.logs w.from w.diary.raises w.work c.args.mon c.taken.result c.sent.result c.self.invariant (sym c.contains.ensures ∙ c.if-not-contains.false)
+    c.taken.ensures (c.sent.ensures ∙ ap (λ (x : CoordinatorView). length (frames_to c.args.mon.0 x.journal)) c.coordinator.ensures) (let low = c.if-taken-sent.false in omega (arith, low))
+
+pub returns-in_err-down-clause-enabled : goal.returns-in_err-down-clause-enabled
+returns-in_err-down-clause-enabled g c =
+    let w = c.self.inside in
+    on_err c.from_residual-in_err-down.result
     (ap (λ (k : KeptStory). is_some (next_of k.story (Down c.args.mon))) (sym c.self.view_is)
-    ∙ down_enabled w.coordinator.settings w.logs w.from w.coordinator.journal w.seats.items w.diary.raises w.work c.args.mon c.index_mut-seat.result.now c.self.invariant (sym c.contains.ensures ∙ c.if-not-contains.false) c.index_mut-seat.ensures.value
-    (let low = c.if-seat-sent.false in let count = c.sent.ensures in omega (arith, low, count)))
+    ∙ down_on (g.N.Nodes.seen w.nodes) w.logs w.from w.diary.raises w.work c.args.mon c.taken.result c.sent.result c.self.invariant (sym c.contains.ensures ∙ c.if-not-contains.false)
+    c.taken.ensures (c.sent.ensures ∙ ap (λ (x : CoordinatorView). length (frames_to c.args.mon.0 x.journal)) c.coordinator.ensures) (let low = c.if-taken-sent.false in omega (arith, low)))
 
-pub returns-in-Err-clause-enabled : goal.returns-in-Err-clause-enabled
-returns-in-Err-clause-enabled c =
-    let w = c.self.inside in
-    ap (λ (k : KeptStory). is_some (next_of k.story (Down c.args.mon))) (sym c.self.view_is)
-    ∙ down_enabled w.coordinator.settings w.logs w.from w.coordinator.journal w.seats.items w.diary.raises w.work c.args.mon c.index_mut-seat.result.now c.self.invariant (sym c.contains.ensures ∙ c.if-not-contains.false) c.index_mut-seat.ensures.value
-    (let low = c.if-seat-sent.false in let count = c.sent.ensures in omega (arith, low, count))
-
-pub of_monitor-requires : goal.of_monitor-requires
-of_monitor-requires c =
-    let w = c.self.inside in
-    let seat = c.index_mut-seat.result.now in
-    only_memory_down (refusal_of seat.monitor.setup seat.monitor.trail c.in_ok-frame.frame) c.in_ok-frame.frame (c.in-Err.refusal, c.in-Err.field-0-1)
-    (down_taken w.coordinator.settings w.logs w.from w.coordinator.journal w.seats.items w.diary.raises w.work c.args.mon seat c.in_ok-frame.frame
-    c.self.invariant (c.self.invariant.within c.args.mon.0 (sym c.contains.ensures ∙ c.if-not-contains.false)) c.index_mut-seat.ensures.value
-    (c.sent_at.ensures ∙ ap Some (sym c.in_ok-frame.ensures)))
-    c.in-Err.ensures.answer
-
-pub leaves : (c : goal.After-note) → Leaves (story_in c.self.inside.coordinator.settings c.self.inside.logs c.self.inside.from c.self.inside.coordinator.journal c.self.inside.seats.items) (Down c.args.mon)
-    c.self.inside.coordinator.settings c.self.inside.logs c.self.inside.from c.self.inside.coordinator.journal
-    (set c.self.inside.seats.items (c.args.mon.0 - 1) (record { monitor = c.take.new.self; taken = c.index_mut-seat.result.now.taken + 1; got = c.index_mut-seat.result.now.got }))
+pub leaves : (g : _) (c : goal.After-note g) → Leaves (story_with (g.N.Nodes.seen c.self.inside.nodes) c.self.inside.logs c.self.inside.from) (Down c.args.mon)
+    (g.N.Nodes.seen c.down.new.self).coordinator.settings c.self.inside.logs c.self.inside.from (g.N.Nodes.seen c.down.new.self).coordinator.journal (g.N.Nodes.seen c.down.new.self).seats
     c.note.new.self.raises c.self.inside.work
-leaves c =
+leaves g c =
     let w = c.self.inside in
-    let seat = c.index_mut-seat.result.now in
-    down_leaves w.coordinator.settings w.logs w.from w.coordinator.journal w.seats.items w.diary.raises c.note.new.self.raises w.work c.args.mon seat c.take.new.self c.in_ok-frame.frame
-    c.self.invariant (sym c.contains.ensures ∙ c.if-not-contains.false) c.index_mut-seat.ensures.value
-    (c.sent_at.ensures ∙ ap Some (sym c.in_ok-frame.ensures))
-    c.in-Ok.ensures.ok
+    down_with (g.N.Nodes.seen w.nodes) (g.N.Nodes.seen c.down.new.self) w.logs w.from w.diary.raises c.note.new.self.raises w.work c.args.mon c.self.invariant (sym c.contains.ensures ∙ c.if-not-contains.false)
+    c.in_ok-down.ensures.ok
     (ap (λ (d : Written). d.raises) c.note.ensures ∙ c.reserve.ensures.raises)
 
 pub invariant_of-self-2 : goal.invariant_of-self-2
-invariant_of-self-2 c = (leaves c).holds
+invariant_of-self-2 g c = (leaves g c).holds
 
 pub returns-clause-ok : goal.returns-clause-ok
-returns-clause-ok c = (
-  ap (λ (k : KeptStory). next_of k.story (Down c.args.mon)) (sym c.self.view_is) ∙ (leaves c).next,
-  ap (λ (d : Written). d.events) c.note.ensures ∙ ap (λ (es : List Event). es ++ (Down c.args.mon) ∷ []) (c.reserve.ensures.events ∙ ap (λ (k : KeptStory). k.events) c.self.view_is),
+returns-clause-ok g c = (
+  ap (λ (k : KeptStory). next_of k.story (Down c.args.mon)) (sym c.self.view_is) ∙ (leaves g c).next,
+  ap (λ (d : Written). d.events) c.note.ensures ∙ ap (λ (es : List Event). es ++ Down c.args.mon ∷ []) (c.reserve.ensures.events ∙ ap (λ (k : KeptStory). k.events) c.self.view_is),
 )
 
 pub returns-clause-legal : goal.returns-clause-legal
-returns-clause-legal c = (leaves c).holds.story
+returns-clause-legal g c = (leaves g c).holds.story

@@ -1,23 +1,23 @@
-use Rattle.std.proofs.Common.{◌≡◌, List, ap, ap₂, sym, subst, ◌∙◌}
-use Rattle.tk_base.specs.Settings.{Setup}
+use Rattle.std.proofs.Common.{List, ap₂, sym, subst, ◌∙◌}
 use Rattle.tk_input.specs.declared.event.Event.{Event}
-use Rattle.tk_story.specs.Kept.{KeptStory}
 use Rattle.tk_story.specs.Story.{IsStory, StoryView}
-use Rattle.tk_trail.specs.declared.entry.Entry.{Entry}
+use Rattle.tk_world.proofs.NodesLemmas.{parts_are}
 use Rattle.tk_world.proofs.world.World.into_story.Goals as goal
 
 pub of-requires-clause-settings : goal.of-requires-clause-settings
-of-requires-clause-settings c = sym c.settings-settings.ensures
+of-requires-clause-settings g c = sym c.settings-settings.ensures
 
 pub of-requires-clause-story : goal.of-requires-clause-story
-of-requires-clause-story c =
+of-requires-clause-story g c =
     let w = c.self.inside in
-    subst IsStory (sym (ap₂ (λ (z : Setup) (ts : List (List Entry)). record { settings = z; logs = w.logs; from = w.from; journal = w.coordinator.journal; trails = ts }) c.settings-settings.ensures c.in_ok-monitors.ensures)) c.self.invariant.story
+    let parts = c.in_ok-coordinator in
+    subst IsStory (sym (parts_are (g.N.Nodes.seen w.nodes) w.logs w.from parts.coordinator parts.monitors.items c.settings-settings.result.now c.settings-settings.ensures parts.ensures.coordinator parts.ensures.monitors)) c.self.invariant.story
 
 pub returns : goal.returns
-returns c =
+returns g c =
     let w = c.self.inside in
+    let parts = c.in_ok-coordinator in
     ap₂ (λ (s : StoryView) (es : List Event). record { story = s; events = es })
-    (c.of.ensures.story ∙ ap₂ (λ (z : Setup) (ts : List (List Entry)). record { settings = z; logs = w.logs; from = w.from; journal = w.coordinator.journal; trails = ts }) c.settings-settings.ensures c.in_ok-monitors.ensures)
+    (c.of.ensures.story ∙ parts_are (g.N.Nodes.seen w.nodes) w.logs w.from parts.coordinator parts.monitors.items c.settings-settings.result.now c.settings-settings.ensures parts.ensures.coordinator parts.ensures.monitors)
     (c.of.ensures.events ∙ c.into_events.ensures)
     ∙ c.self.view_is

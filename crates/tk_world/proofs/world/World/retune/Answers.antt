@@ -1,81 +1,106 @@
-use Rattle.std.proofs.Common.{◌≡◌, ℕ, ◌+◌, ◌-◌, ◌<◌, ◌≤◌, ◌∷◌, ◌++◌, [], List, Bool, true, false, length, set, drop, take, Some, None, Option, refl, sym, ap, ap₂, ◌∙◌, subst, arith}
-use Rattle.std.specs.Prelude.{is_some, pos, slice_get}
-use Rattle.tk_journal.specs.Legal.{turn_of}
-use Rattle.tk_journal.specs.declared.noted.Noted.TheVariants as n
-use Rattle.tk_base.specs.Settings.{Setup}
-use Rattle.tk_frames.specs.declared.frame.Frame.{Frame}
+use Rattle.std.proofs.Common.{◌≡◌, ◌∷◌, ◌++◌, [], ◌∙◌, ℕ, All, List, length, refl, sym, ap, ap₂, subst, arith}
+use Rattle.std.specs.Prelude.{is_some}
 use Rattle.tk_input.specs.declared.event.Event.{Event}
-use Rattle.tk_input.specs.declared.event.Event.TheVariants.{Raise, Check, Up, Down, Retune}
-use Rattle.tk_journal.specs.Links.{frames_from, frames_to}
-use Rattle.tk_journal.specs.declared.noted.Noted.{Noted}
-use Rattle.tk_trail.specs.Readings.{sent_by, taken_by}
+use Rattle.tk_input.specs.declared.event.Event.TheVariants.{Retune}
 use Rattle.tk_story.specs.Kept.{KeptStory}
-use Rattle.tk_story.specs.Story.{IsStory}
 use Rattle.tk_world.specs.Diary.{Noted as Written}
-use Rattle.tk_world.specs.Events.{next_of, check_at, up_at, down_at}
-use Rattle.tk_world.specs.Seats.{Holds, story_in}
-use Rattle.tk_world.specs.Work.{has, is_sent}
-use Rattle.tk_world.specs.declared.seat.Seat.{Seat}
+use Rattle.tk_world.specs.Events.{next_of}
+use Rattle.tk_world.specs.Seats.{story_with}
 use Rattle.tk_coord.specs.Coordinator.{CoordinatorView}
+use Rattle.tk_journal.specs.Entries.{IsEntryOf}
 use Rattle.tk_journal.specs.Refusal.{retune_refusal_of}
 use Rattle.tk_world.proofs.EnabledLemmas.{not_there, on_err, retune_enabled, there_is}
+use Rattle.tk_world.proofs.NodesLemmas.{retune_goes_on, retune_with}
 use Rattle.tk_world.proofs.TurnLemmas.{retune_stays}
-use Rattle.tk_world.proofs.WorldLemmas.{Leaves, adds_behind, few_behind, retune_leaves}
+use Rattle.tk_world.proofs.WorldLemmas.{Leaves, adds_behind, few_behind}
 use Rattle.tk_world.proofs.world.World.retune.Goals as goal
 
 pub returns-then-is_some-clause-ok : goal.returns-then-is_some-clause-ok
-returns-then-is_some-clause-ok c =
+returns-then-is_some-clause-ok g c =
     let w = c.self.inside in
+    let v = g.N.Nodes.seen w.nodes in
     let why = there_is c.retune_refusal.result (sym c.is_some.ensures ∙ c.if-is_some.true) in (
       ap (λ (k : KeptStory). next_of k.story (Retune c.args.retuning)) (sym c.self.view_is)
-          ∙ retune_stays (story_in w.coordinator.settings w.logs w.from w.coordinator.journal w.seats.items) c.args.retuning why.0
-          (ap₂ (λ (k e : ℕ). retune_refusal_of w.coordinator.settings w.coordinator.journal k e) (sym c.k-k.ensures) (sym c.epsilon-epsilon.ensures) ∙ sym c.retune_refusal.ensures ∙ why.1),
+          ∙ retune_stays (story_with v w.logs w.from) c.args.retuning why.0
+          (ap₂ (λ (k e : ℕ). retune_refusal_of v.coordinator.settings v.coordinator.journal k e) (sym c.k-k.ensures) (sym c.epsilon-epsilon.ensures)
+          ∙ sym (c.retune_refusal.ensures ∙ ap (λ (x : CoordinatorView). retune_refusal_of x.settings x.journal c.k-k.result c.epsilon-epsilon.result) c.coordinator.ensures) ∙ why.1),
       refl,
     )
 
 pub returns-in_err-reserve-clause-enabled : goal.returns-in_err-reserve-clause-enabled
-returns-in_err-reserve-clause-enabled c =
+returns-in_err-reserve-clause-enabled g c =
     let w = c.self.inside in
+    let v = g.N.Nodes.seen w.nodes in
     on_err c.from_residual.result
     (ap (λ (k : KeptStory). is_some (next_of k.story (Retune c.args.retuning))) (sym c.self.view_is)
-    ∙ retune_enabled (story_in w.coordinator.settings w.logs w.from w.coordinator.journal w.seats.items) c.args.retuning
-    (ap₂ (λ (k e : ℕ). retune_refusal_of w.coordinator.settings w.coordinator.journal k e) (sym c.k-k.ensures) (sym c.epsilon-epsilon.ensures) ∙ sym c.retune_refusal.ensures ∙ not_there c.retune_refusal.result (sym c.is_some.ensures ∙ c.if-is_some.false)))
+    ∙ retune_enabled (story_with v w.logs w.from) c.args.retuning
+    (ap₂ (λ (k e : ℕ). retune_refusal_of v.coordinator.settings v.coordinator.journal k e) (sym c.k-k.ensures) (sym c.epsilon-epsilon.ensures)
+    ∙ sym (c.retune_refusal.ensures ∙ ap (λ (x : CoordinatorView). retune_refusal_of x.settings x.journal c.k-k.result c.epsilon-epsilon.result) c.coordinator.ensures)
+    ∙ not_there c.retune_refusal.result (sym c.is_some.ensures ∙ c.if-is_some.false)))
 
-pub returns-in-Err-clause-enabled : goal.returns-in-Err-clause-enabled
-returns-in-Err-clause-enabled c =
+pub returns-in_err-retune-clause-enabled : goal.returns-in_err-retune-clause-enabled
+returns-in_err-retune-clause-enabled g c =
     let w = c.self.inside in
-    ap (λ (k : KeptStory). is_some (next_of k.story (Retune c.args.retuning))) (sym c.self.view_is)
-    ∙ retune_enabled (story_in w.coordinator.settings w.logs w.from w.coordinator.journal w.seats.items) c.args.retuning
-    (ap₂ (λ (k e : ℕ). retune_refusal_of w.coordinator.settings w.coordinator.journal k e) (sym c.k-k.ensures) (sym c.epsilon-epsilon.ensures) ∙ sym c.retune_refusal.ensures ∙ not_there c.retune_refusal.result (sym c.is_some.ensures ∙ c.if-is_some.false))
+    let v = g.N.Nodes.seen w.nodes in
+    on_err c.from_residual-in_err-retune.result
+    (ap (λ (k : KeptStory). is_some (next_of k.story (Retune c.args.retuning))) (sym c.self.view_is)
+    ∙ retune_enabled (story_with v w.logs w.from) c.args.retuning
+    (ap₂ (λ (k e : ℕ). retune_refusal_of v.coordinator.settings v.coordinator.journal k e) (sym c.k-k.ensures) (sym c.epsilon-epsilon.ensures)
+    ∙ sym (c.retune_refusal.ensures ∙ ap (λ (x : CoordinatorView). retune_refusal_of x.settings x.journal c.k-k.result c.epsilon-epsilon.result) c.coordinator.ensures)
+    ∙ not_there c.retune_refusal.result (sym c.is_some.ensures ∙ c.if-is_some.false)))
+
+-- the journal before is a front of that behind
+pub slice_bounds-insert_sent-count : goal.slice_bounds-insert_sent-count
+slice_bounds-insert_sent-count g c =
+    let w = c.self.inside in
+    let on = retune_goes_on (g.N.Nodes.seen w.nodes) (g.N.Nodes.seen c.retune.new.self) c.k-k.result c.epsilon-epsilon.result c.in_ok-retune.ensures.ok in
+    let before : length c.journal-before.result.now ≡ length (g.N.Nodes.seen w.nodes).coordinator.journal = ap (λ xs. length xs) (c.journal-before.ensures.value ∙ ap (λ (x : CoordinatorView). x.journal) c.coordinator-2.ensures) in
+    let now : length c.journal.result.now ≡ length (g.N.Nodes.seen c.retune.new.self).coordinator.journal = ap (λ xs. length xs) (c.journal.ensures.value ∙ ap (λ (x : CoordinatorView). x.journal) c.coordinator-3.ensures) in
+    let longer = on.longer in
+    omega (arith, before, now, longer)
+
+pub slice_bounds-insert_sent-start : goal.slice_bounds-insert_sent-start
+slice_bounds-insert_sent-start g c =
+    let w = c.self.inside in
+    let on = retune_goes_on (g.N.Nodes.seen w.nodes) (g.N.Nodes.seen c.retune.new.self) c.k-k.result c.epsilon-epsilon.result c.in_ok-retune.ensures.ok in
+    let before : length c.journal-before.result.now ≡ length (g.N.Nodes.seen w.nodes).coordinator.journal = ap (λ xs. length xs) (c.journal-before.ensures.value ∙ ap (λ (x : CoordinatorView). x.journal) c.coordinator-2.ensures) in
+    let now : length c.journal.result.now ≡ length (g.N.Nodes.seen c.retune.new.self).coordinator.journal = ap (λ xs. length xs) (c.journal.ensures.value ∙ ap (λ (x : CoordinatorView). x.journal) c.coordinator-3.ensures) in
+    let longer = on.longer in
+    omega (arith, before, now, longer)
 
 pub insert_sent-requires : goal.insert_sent-requires
-insert_sent-requires c =
-    few_behind c.self.inside.coordinator.settings c.retune.new.self.settings c.retune.new.self.journal c.journal.result.now c.journal-before.result.now c.self.invariant.story.limits
-    c.in-Ok.ensures.settings (sym c.journal.ensures.value) c.journal.ensures.entries
-
-pub leaves : (c : goal.After-note) → Leaves (story_in c.self.inside.coordinator.settings c.self.inside.logs c.self.inside.from c.self.inside.coordinator.journal c.self.inside.seats.items) (Retune c.args.retuning)
-    c.retune.new.self.settings c.self.inside.logs c.self.inside.from c.retune.new.self.journal c.self.inside.seats.items
-    c.note.new.self.raises c.insert_sent.new.self
-leaves c =
+insert_sent-requires g c =
     let w = c.self.inside in
-    let tuning = c.args.retuning in
-    retune_leaves w.coordinator.settings c.retune.new.self.settings w.logs w.from w.coordinator.journal c.retune.new.self.journal w.seats.items w.diary.raises c.note.new.self.raises w.work c.insert_sent.new.self tuning
-    c.self.invariant
-    (ap₂ (λ (k e : ℕ). retune_refusal_of w.coordinator.settings w.coordinator.journal k e) (sym c.k-k.ensures) (sym c.epsilon-epsilon.ensures) ∙ c.in-Ok.ensures.ok)
-    c.in-Ok.ensures.settings
-    (c.in-Ok.ensures.turn ∙ ap₂ (λ (k e : ℕ). w.coordinator.journal ++ turn_of w.coordinator.settings w.coordinator.journal (n.Tuned k (pos e))) c.k-k.ensures c.epsilon-epsilon.ensures)
-    c.journal.ensures.entries
-    (adds_behind c.retune.new.self.journal c.journal.result.now w.coordinator.journal c.journal-before.result.now w.work c.insert_sent.new.self (sym c.journal.ensures.value) (sym c.journal-before.ensures.value) c.insert_sent.ensures)
+    let on = retune_goes_on (g.N.Nodes.seen w.nodes) (g.N.Nodes.seen c.retune.new.self) c.k-k.result c.epsilon-epsilon.result c.in_ok-retune.ensures.ok in
+    few_behind (g.N.Nodes.seen w.nodes).coordinator.settings c.coordinator-3.result.now.settings c.coordinator-3.result.now.journal c.journal.result.now c.journal-before.result.now c.self.invariant.story.limits
+    (ap (λ (x : CoordinatorView). x.settings) c.coordinator-3.ensures ∙ on.settings) (sym c.journal.ensures.value) c.journal.ensures.entries
+
+pub leaves : (g : _) (c : goal.After-note g) → Leaves (story_with (g.N.Nodes.seen c.self.inside.nodes) c.self.inside.logs c.self.inside.from) (Retune c.args.retuning)
+    (g.N.Nodes.seen c.retune.new.self).coordinator.settings c.self.inside.logs c.self.inside.from (g.N.Nodes.seen c.retune.new.self).coordinator.journal (g.N.Nodes.seen c.retune.new.self).seats
+    c.note.new.self.raises c.insert_sent.new.self
+leaves g c =
+    let w = c.self.inside in
+    let v = g.N.Nodes.seen w.nodes in
+    let v' = g.N.Nodes.seen c.retune.new.self in
+    retune_with v v' w.logs w.from w.diary.raises c.note.new.self.raises w.work c.insert_sent.new.self c.args.retuning c.k-k.result c.epsilon-epsilon.result c.self.invariant
+    c.k-k.ensures c.epsilon-epsilon.ensures
+    (sym (c.retune_refusal.ensures ∙ ap (λ (x : CoordinatorView). retune_refusal_of x.settings x.journal c.k-k.result c.epsilon-epsilon.result) c.coordinator.ensures)
+    ∙ not_there c.retune_refusal.result (sym c.is_some.ensures ∙ c.if-is_some.false))
+    c.in_ok-retune.ensures.ok
+    (subst (λ (x : CoordinatorView). All (IsEntryOf x.settings.monitors x.settings.objects) x.journal) c.coordinator-3.ensures c.journal.ensures.entries)
+    (adds_behind v'.coordinator.journal c.journal.result.now v.coordinator.journal c.journal-before.result.now w.work c.insert_sent.new.self
+    (sym (c.journal.ensures.value ∙ ap (λ (x : CoordinatorView). x.journal) c.coordinator-3.ensures))
+    (sym (c.journal-before.ensures.value ∙ ap (λ (x : CoordinatorView). x.journal) c.coordinator-2.ensures)) c.insert_sent.ensures)
     (ap (λ (d : Written). d.raises) c.note.ensures ∙ c.reserve.ensures.raises)
 
 pub invariant_of-self-2 : goal.invariant_of-self-2
-invariant_of-self-2 c = (leaves c).holds
+invariant_of-self-2 g c = (leaves g c).holds
 
 pub returns-clause-ok : goal.returns-clause-ok
-returns-clause-ok c = (
-  ap (λ (k : KeptStory). next_of k.story (Retune c.args.retuning)) (sym c.self.view_is) ∙ (leaves c).next,
-  ap (λ (d : Written). d.events) c.note.ensures ∙ ap (λ (es : List Event). es ++ (Retune c.args.retuning) ∷ []) (c.reserve.ensures.events ∙ ap (λ (k : KeptStory). k.events) c.self.view_is),
+returns-clause-ok g c = (
+  ap (λ (k : KeptStory). next_of k.story (Retune c.args.retuning)) (sym c.self.view_is) ∙ (leaves g c).next,
+  ap (λ (d : Written). d.events) c.note.ensures ∙ ap (λ (es : List Event). es ++ Retune c.args.retuning ∷ []) (c.reserve.ensures.events ∙ ap (λ (k : KeptStory). k.events) c.self.view_is),
 )
 
 pub returns-clause-legal : goal.returns-clause-legal
-returns-clause-legal c = (leaves c).holds.story
+returns-clause-legal g c = (leaves g c).holds.story

@@ -1,0 +1,19 @@
+use Rattle.std.proofs.Common.{◌≡◌, ◌<◌, ◌+◌, ◌∙◌, false, get_or, length, sym, ap, subst, arith}
+use Rattle.tk_base.specs.Settings.{Setup}
+use Rattle.tk_coord.specs.Coordinator.{CoordinatorView}
+use Rattle.tk_world.specs.Nodes.{sent_to}
+use Rattle.tk_world.specs.Seats.{is_resting_seat}
+use Rattle.tk_world.proofs.NodesLemmas.{next_place, one_of}
+use Rattle.tk_world.proofs.seats.are_at_rest.Goals as goal
+
+pub returns-then-not-is_at_rest-clause-some : goal.returns-then-not-is_at_rest-clause-some
+returns-then-not-is_at_rest-clause-some g c = λ _.
+    let v = g.N.Nodes.seen c.args.nodes.now in
+    let j = c.loop-j.j in
+    let within : j < length v.seats =
+    (let count = c.monitors-j-end.ensures.value ∙ ap (λ (s : Setup). s.monitors) (c.settings.ensures ∙ ap (λ (x : CoordinatorView). x.settings) c.coordinator.ensures) in
+    let low = c.loop-j-test.true in
+    let all = c.requires in
+    omega (arith, count, low, all)) in
+    let d = one_of v.seats j within in
+    (j, d, within, sym c.contains.ensures ∙ c.if-contains.true, subst (λ i. is_resting_seat (sent_to v (j + 1)) (get_or v.seats i d) ≡ false) (next_place j) (sym (c.is_at_rest.ensures d) ∙ c.if-not-is_at_rest.true))

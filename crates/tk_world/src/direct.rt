@@ -1,0 +1,131 @@
+ghost use Rattle.std.specs.Prelude.{◌≡◌, IfOk, map};
+ghost use Rattle.tk_journal.specs.Legal.{opened, start};
+ghost use Rattle.tk_journal.specs.Readings.{monitors};
+ghost use Rattle.tk_world.specs.Nodes.{fresh_seat};
+ghost use Rattle.tk_world.specs.World.{CanRun};
+
+use crate::nodes::Nodes;
+use crate::seat::{Seat, new_seats};
+use std::alloc::Global;
+use tk_base::{Cut, Feeder, Mon, NoMemory, Settings};
+use tk_coord::{CoordRefusal, Coordinator};
+use tk_input::Logs;
+use tk_monitor::{Monitor, Raised};
+use tk_trail::MonitorRefusal;
+
+/// A coordinator and its monitors, which are handed one another's frames.
+#[derive(Drop)]
+pub struct Direct {
+    coordinator: Coordinator,
+    seats: Vec<Seat>,
+}
+
+impl Direct {
+    /// A coordinator that has opened, and the monitors of some logs, which have taken and sent nothing.
+    pub fn new(
+        alloc: Global,
+        settings: Settings,
+        logs: &Logs,
+        from: &Cut,
+    ) -> Result<Direct, NoMemory>
+        requires { CanRun settings logs.now from.now }
+        ensures settings { IfOk result (λ d. d.coordinator.settings ≡ settings) }
+        ensures journal { IfOk result (λ d. d.coordinator.journal ≡ opened (start settings)) }
+        ensures seats { IfOk result (λ d. d.seats.items ≡ map (fresh_seat settings logs.now from.now) (monitors settings)) }
+    {
+        Ok(Direct {
+            seats: new_seats(alloc, &settings, logs, from)?,
+            coordinator: Coordinator::new(alloc, settings)?,
+        })
+    }
+}
+
+/// Want of memory, the only refusal that an accepted frame meets at the coordinator.
+fn of_coordinator(refusal: CoordRefusal) -> NoMemory
+    requires { refusal ≡ CoordRefusal.NoMemory }
+{
+    match refusal {
+        CoordRefusal::NoMemory => NoMemory,
+        _ => unreachable!(),
+    }
+}
+
+/// Want of memory, the only refusal that an accepted frame meets at its monitor.
+fn of_monitor(refusal: MonitorRefusal) -> NoMemory
+    requires { refusal ≡ MonitorRefusal.NoMemory }
+{
+    match refusal {
+        MonitorRefusal::NoMemory => NoMemory,
+        _ => unreachable!(),
+    }
+}
+
+impl Nodes for Direct {
+    ghost seen = { λ d. record { coordinator = d.coordinator; seats = d.seats.items } };
+
+    fn coordinator(&self) -> &Coordinator {
+        &self.coordinator
+    }
+
+    fn monitor(&self, mon: Mon) -> &Monitor {
+        &self.seats[mon.0 as usize - 1].monitor
+    }
+
+    fn taken(&self, mon: Mon) -> usize {
+        self.seats[mon.0 as usize - 1].taken
+    }
+
+    fn got(&self, mon: Mon) -> usize {
+        self.seats[mon.0 as usize - 1].got
+    }
+
+    fn raise(&mut self, mon: Mon, f: Feeder) -> Raised {
+        self.seats[mon.0 as usize - 1].monitor.raise(f)
+    }
+
+    fn check(&mut self, mon: Mon) -> Result<(), NoMemory> {
+        self.seats[mon.0 as usize - 1].monitor.check()?;
+        Ok(())
+    }
+
+    fn up(&mut self, mon: Mon) -> Result<(), NoMemory> {
+        let seat = &mut self.seats[mon.0 as usize - 1];
+        let frame = seat.monitor.sent_at(seat.got).try_clone()?;
+        match self.coordinator.take(mon, frame) {
+            Ok(()) => {}
+            Err((refusal, _)) => return Err(of_coordinator(refusal)),
+        }
+        prove!(seat.got < seat.monitor.sent());
+        seat.got += 1;
+        Ok(())
+    }
+
+    fn down(&mut self, mon: Mon) -> Result<(), NoMemory> {
+        let seat = &mut self.seats[mon.0 as usize - 1];
+        let frame = self.coordinator.sent_at(mon, seat.taken).try_clone()?;
+        match seat.monitor.take(frame) {
+            Ok(()) => {}
+            Err((refusal, _)) => return Err(of_monitor(refusal)),
+        }
+        prove!(seat.taken < self.coordinator.sent(mon));
+        seat.taken += 1;
+        Ok(())
+    }
+
+    fn retune(&mut self, k: u64, epsilon: u128) -> Result<(), NoMemory> {
+        match self.coordinator.retune(k, epsilon) {
+            Ok(()) => Ok(()),
+            Err(_) => Err(NoMemory),
+        }
+    }
+
+    fn into_parts(self, alloc: Global) -> Result<(Coordinator, Vec<Monitor>), NoMemory> {
+        let Direct { coordinator, seats } = self;
+        let mut monitors = Vec::with_capacity(alloc, seats.len())?;
+        for seat in seats {
+            let Seat { monitor, .. } = seat;
+            monitors.push(monitor)?;
+        }
+        Ok((coordinator, monitors))
+    }
+}
