@@ -1,8 +1,7 @@
 -- What a frame that comes back says.
-use Rattle.std.proofs.Common.{◌≡◌, Option, Some, None, Err, refl}
+use Rattle.std.proofs.Common.{◌≡◌, Option, Some, None, Err}
 use Rattle.tk_frames.specs.declared.frame.Frame.{Frame}
 use Rattle.tk_end.specs.Actor.{AnswersTake}
-use Rattle.tk_end.specs.declared.actor.Declined.{Declined}
 use Rattle.tk_end.specs.declared.actor.Declined.TheVariants.{Refused, NoMemory}
 
 pub is_refused : {R : Type 0} (first : Option R) (frame back : Frame) (why : R) → AnswersTake first frame (Err (Refused why back)) → (first ≡ Some why) × (back ≡ frame)

@@ -1,11 +1,10 @@
 -- What was heard and said stays what came and went.
-use Rattle.std.proofs.Common.{◌≡◌, ◌≤◌, ◌+◌, ◌-◌, ◌^◌, min, ℕ, List, [], ◌++◌, length, take, ap, sym, ◌∙◌, refl, subst, append_assoc, arith, Option, Bool, true}
+use Rattle.std.proofs.Common.{◌≡◌, ◌≤◌, ◌+◌, ◌-◌, ◌^◌, min, ℕ, List, ◌++◌, length, take, ap, sym, ◌∙◌, subst, append_assoc, arith, Option}
 use Rattle.std.proofs.lemmas.List.{length-append, take-take}
 use Rattle.std.proofs.lemmas.Grind.{flat_map-append}
 use Rattle.tk_base.specs.History.{IsFront}
 use Rattle.tk_frames.specs.declared.frame.Frame.{Frame}
 use Rattle.tk_frames.specs.Spelling.{spelling}
-use Rattle.tk_wire.specs.Meanings.{Arrives, Departs}
 use Rattle.tk_wire.specs.Parse.{HaveSpellings, IsEncoding, IsParse, spellings}
 use Rattle.tk_wire.proofs.ParseLemmas.{parse-piece}
 use Rattle.tk_end.specs.Hearing.{Hears}

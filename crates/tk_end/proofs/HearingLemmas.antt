@@ -1,5 +1,5 @@
 -- Frames that are taken one after the other.
-use Rattle.std.proofs.Common.{◌≡◌, ◌≤◌, ◌<◌, min, ℕ, ◌+◌, List, [], ◌∷◌, ◌++◌, length, take, ap, sym, ◌∙◌, refl, subst, append_assoc, arith, Option, Some, None}
+use Rattle.std.proofs.Common.{◌≡◌, ◌≤◌, ◌<◌, min, ℕ, List, [], ◌∷◌, ◌++◌, length, take, ap, sym, ◌∙◌, refl, subst, append_assoc, arith, Option, Some, None}
 use Rattle.std.proofs.lemmas.List.{append-nil, length-append, length-take, take-take, take_all}
 use Rattle.std.proofs.lemmas.Grind.{flat_map-append}
 use Rattle.tk_base.specs.History.{IsFront}

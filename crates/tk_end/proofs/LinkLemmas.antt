@@ -1,17 +1,16 @@
 -- Bytes that come, one piece behind the other, and the frames that the actor takes of them.
-use Rattle.std.proofs.Common.{◌≡◌, ◌≤◌, ◌<◌, ◌+◌, ◌^◌, ◌-◌, min, ℕ, List, [], ◌++◌, length, ap, sym, ◌∙◌, refl, subst, append_assoc, arith, Option, Some, None, IfNone, OnSome, Bool, true}
+use Rattle.std.proofs.Common.{◌≡◌, ◌≤◌, ◌<◌, ◌+◌, ℕ, List, [], ◌++◌, length, ap, sym, ◌∙◌, refl, subst, append_assoc, arith, Option, Some, None, IfNone, OnSome, Bool, true}
 use Rattle.std.proofs.lemmas.List.{append-nil, length-append}
 use Rattle.tk_frames.specs.declared.frame.Frame.{Frame}
 use Rattle.tk_frames.specs.declared.answer.Next.TheVariants as n
 use Rattle.tk_frames.specs.Answer.{Answers}
-use Rattle.tk_frames.specs.Spelling.{spelling}
-use Rattle.tk_wire.specs.Meanings.{Arrives, Traffic, Counts}
+use Rattle.tk_wire.specs.Meanings.{Arrives, Traffic}
 use Rattle.tk_wire.specs.Buffered.{Pulls, counts_pulled}
-use Rattle.tk_wire.specs.Parse.{IsParse, spellings}
+use Rattle.tk_wire.specs.Parse.{spellings}
 use Rattle.tk_wire.specs.declared.in_buffer.Pulled.{Pulled}
 use Rattle.tk_wire.specs.declared.in_buffer.Pulled.TheVariants as p
 use Rattle.tk_wire.proofs.BufferLemmas.{arrives_more}
-use Rattle.tk_end.specs.Hearing.{Hears, Takes, pieces_in}
+use Rattle.tk_end.specs.Hearing.{Hears, Takes, least_of}
 use Rattle.tk_end.specs.declared.hearing.Heard.{Heard}
 use Rattle.tk_end.specs.declared.hearing.Heard.TheVariants as h
 use Rattle.tk_end.specs.Link.{Keeps, LinkView, Listens}
@@ -123,7 +122,7 @@ pub part_is_short : (version : ℕ) (bytes : List ℕ) → Answers version bytes
 part_is_short version bytes part = omega arith
 
 -- no hearing has more than its pieces
-pub pieces_are_few : {R : Type 0} (heard : Heard R) → pieces_in heard ≤ 64
+pub pieces_are_few : {R : Type 0} (heard : Heard R) → least_of heard ≤ 64
 pieces_are_few h.More = omega arith
 pieces_are_few h.Quiet = omega arith
 pieces_are_few h.Done = omega arith

@@ -1,5 +1,5 @@
 -- Bytes that pass over a wire during a whole call.
-use Rattle.std.proofs.Common.{◌≡◌, ◌≤◌, ◌+◌, ℕ, List, [], ◌++◌, length, ap, sym, ◌∙◌, refl, append_assoc, append-nil, arith, Option, Bool, true}
+use Rattle.std.proofs.Common.{◌≤◌, ◌+◌, ℕ, List, [], ◌++◌, ap, sym, ◌∙◌, refl, append_assoc, append-nil, arith, Option}
 use Rattle.std.proofs.lemmas.List.{length-append}
 use Rattle.tk_frames.specs.declared.frame.Frame.{Frame}
 use Rattle.tk_wire.specs.Meanings.{Traffic}

@@ -1,7 +1,6 @@
 -- Frames that leave the front of bytes.
-use Rattle.std.proofs.Common.{◌≡◌, ℕ, List, ◌++◌, drop, ap, sym, ◌∙◌, subst, refl, Ok, Result}
+use Rattle.std.proofs.Common.{◌≡◌, ℕ, List, ◌++◌, drop, ap, sym, ◌∙◌, subst, refl, Ok}
 use Rattle.std.proofs.lemmas.List.{take-append-drop}
-use Rattle.tk_base.specs.declared.memory.NoMemory.{NoMemory}
 use Rattle.tk_frames.specs.declared.frame.Frame.{Frame}
 use Rattle.tk_frames.specs.declared.answer.Next.{Next}
 use Rattle.tk_frames.specs.declared.answer.Next.TheVariants.{Whole}

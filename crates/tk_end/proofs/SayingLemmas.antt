@@ -1,5 +1,5 @@
 -- Frames that are written and bytes that are given.
-use Rattle.std.proofs.Common.{◌≡◌, ◌≤◌, ◌<◌, ◌+◌, ℕ, List, [], ◌∷◌, ◌++◌, length, take, ap, sym, ◌∙◌, refl, subst, append_assoc, arith, Bool, true, Some, slice_get}
+use Rattle.std.proofs.Common.{◌≡◌, ◌≤◌, ◌+◌, ℕ, List, [], ◌∷◌, ◌++◌, length, take, ap, sym, ◌∙◌, refl, subst, append_assoc, arith, Some, slice_get}
 use Rattle.std.proofs.lemmas.List.{append-nil, take_more}
 use Rattle.std.proofs.lemmas.Option.{get_or_from_slice_get, slice_get_within}
 use Rattle.std.proofs.lemmas.Grind.{flat_map-append}
@@ -10,7 +10,7 @@ use Rattle.tk_wire.specs.Meanings.{Counts, Departs, Traffic}
 use Rattle.tk_wire.specs.Buffered.{Loses, counts_pushed}
 use Rattle.tk_wire.specs.declared.out_buffer.Pushed.{Pushed}
 use Rattle.tk_wire.specs.declared.out_buffer.Pushed.TheVariants as p
-use Rattle.tk_wire.specs.Parse.{HaveSpellings, spellings}
+use Rattle.tk_wire.specs.Parse.{spellings}
 use Rattle.tk_wire.proofs.BufferLemmas.{departs_more}
 use Rattle.tk_end.specs.Link.{LinkView, Says}
 use Rattle.tk_end.proofs.HearingLemmas.{HaveSpellings-append}

@@ -1,10 +1,10 @@
 -- What the taking of frames leaves, and why it ended.
-use Rattle.std.specs.Prelude.{◌≡◌, ℕ, ◌+◌, ◌^◌, ◌-◌, ◌≤◌, min, List, [], ◌++◌, length, Bool, true, Option, Some, None, ⊤}
+use Rattle.std.specs.Prelude.{◌≡◌, ℕ, ◌≤◌, List, [], ◌++◌, length, Bool, true, Option, Some, None, ⊤}
 use Rattle.tk_base.specs.History.{IsFront}
 use Rattle.tk_frames.specs.declared.frame.Frame.{Frame}
 use Rattle.tk_frames.specs.declared.answer.Next.TheVariants as n
 use Rattle.tk_frames.specs.Answer.{Answers}
-use Rattle.tk_wire.specs.Meanings.{Traffic, Counts, Arrives, raised_by}
+use Rattle.tk_wire.specs.Meanings.{Counts, raised_by}
 use Rattle.tk_wire.specs.Parse.{IsParse}
 use Rattle.tk_end.specs.Actor.{TakesAll}
 use Rattle.tk_end.specs.Inbox.{Inbox, Leaves}
@@ -38,6 +38,10 @@ pub record Takes {A R : Type 0} (refusal : ℕ → Frame → A → Option R) (af
   pub more : heard peer now ≡ heard peer before ++ frames
   pub grown : IsFront (said peer before) (said peer now)
 
+-- the same of what an inbox has
+abbrev pub TakesIn : {A R : Type 0} → (ℕ → Frame → A → Option R) → (ℕ → Frame → A → A) → (heard said : ℕ → A → List Frame) → ℕ → Inbox → Inbox → A → A → Type 0
+TakesIn refusal after heard said peer old new before now = Takes refusal after heard said peer old.version old.unread new.unread before now
+
 -- bytes came, at least so many, and of all that is not read the actor took some frames in turn
 pub record Hears {W A R : Type 0} (refusal : ℕ → Frame → A → Option R) (after : ℕ → Frame → A → A) (heard said : ℕ → A → List Frame) (peer least : ℕ) (old new : LinkView W) (before now : A) : Type 0 where
   pub piece : List ℕ
@@ -45,13 +49,13 @@ pub record Hears {W A R : Type 0} (refusal : ℕ → Frame → A → Option R) (
   pub listens : Listens piece old new
   pub takes : Takes refusal after heard said peer old.version (old.unread ++ piece) new.unread before now
 
--- why a hearing ended; Quiet says that nothing waits and no frame is whole
+-- why a hearing ended; Quiet says that nothing waits, and both it and Ended that no frame is whole
 abbrev pub Ends : {W A R : Type 0} → (ℕ → Frame → A → Option R) → (ℕ → A → Bool) → ℕ → LinkView W → A → Heard R → Type 0
 Ends refusal done peer link actor h.Quiet = Answers link.version link.unread n.Part × (link.tells ≡ true → link.traffic.waiting ≡ [])
 Ends refusal done peer link actor h.More = ⊤
 Ends refusal done peer link actor h.Done = done peer actor ≡ true
 Ends refusal done peer link actor h.Failed = ⊤
-Ends refusal done peer link actor h.Ended = ⊤
+Ends refusal done peer link actor h.Ended = Answers link.version link.unread n.Part
 Ends refusal done peer link actor (h.Refused why) = IsRefused refusal peer link.version link.unread link.front actor why
 Ends refusal done peer link actor (h.Bad fault) = Answers link.version link.unread (n.Bad fault) × (link.front ≡ None)
 Ends refusal done peer link actor h.NoMemory = ⊤
@@ -68,15 +72,15 @@ CountsHeard (h.Bad fault) old new = (new.faults ≡ old.faults) × (new.ends ≡
 CountsHeard h.NoMemory old new = (new.faults ≡ old.faults) × (new.ends ≡ old.ends)
 
 -- how many bytes came at least: one for each piece
-abbrev pub pieces_in : {R : Type 0} → Heard R → ℕ
-pieces_in h.More = 64
-pieces_in h.Quiet = 0
-pieces_in h.Done = 0
-pieces_in h.Failed = 0
-pieces_in h.Ended = 0
-pieces_in (h.Refused why) = 0
-pieces_in (h.Bad fault) = 0
-pieces_in h.NoMemory = 0
+abbrev pub least_of : {R : Type 0} → Heard R → ℕ
+least_of h.More = 64
+least_of h.Quiet = 0
+least_of h.Done = 0
+least_of h.Failed = 0
+least_of h.Ended = 0
+least_of (h.Refused why) = 0
+least_of (h.Bad fault) = 0
+least_of h.NoMemory = 0
 
 -- a hearing of one frame takes one where it ends so, and else none
 pub record TakesOne {A R : Type 0} (refusal : ℕ → Frame → A → Option R) (after : ℕ → Frame → A → A) (peer : ℕ) (before now : A) : Type 0 where

@@ -2,7 +2,10 @@
 use Rattle.std.specs.Prelude.{◌≡◌, ℕ, ◌+◌, ◌-◌, ◌^◌, ◌≤◌, min, List, ◌++◌, length, take, Bool, true, Option}
 use Rattle.tk_frames.specs.declared.frame.Frame.{Frame}
 use Rattle.tk_wire.specs.Meanings.{Traffic, Counts, Arrives, Departs}
+use Rattle.tk_wire.specs.Buffered.{IsFull}
 use Rattle.tk_wire.specs.PipeWire.{MemoryWire}
+use Rattle.tk_wire.specs.declared.out_buffer.Pushed.{Pushed}
+use Rattle.tk_wire.specs.declared.out_buffer.Pushed.TheVariants.{NotYet}
 use Rattle.tk_wire.specs.Parse.{HaveSpellings, IsEncoding, IsParse, spellings}
 
 -- its wire, with the bytes that it tells and its counts; the version of its frames; the bytes that came and are not
@@ -68,6 +71,14 @@ pub record Says {W : Type 0} (said : List Frame) (old new : LinkView W) : Type 0
   pub given : List ℕ
   pub output : old.output ++ spellings old.version frames ≡ given ++ new.output
   pub departed : old.tells ≡ true → Departs given old.traffic new.traffic
+
+-- where a push left bytes, the wire has no room for more
+abbrev pub LeavesFull : {W : Type 0} → Pushed → LinkView W → Type 0
+LeavesFull pushed link = pushed ≡ NotYet → link.tells ≡ true → IsFull link.traffic
+
+-- the end before, but with the wire and the bytes to be given of the one now
+abbrev pub with_given : {W : Type 0} → LinkView W → LinkView W → LinkView W
+with_given now link = record link { wire = now.wire; traffic = now.traffic; counts = now.counts; output = now.output }
 
 -- its wire is shut, and all else is as it was
 pub record IsShut {W : Type 0} (old new : LinkView W) : Type 0 where

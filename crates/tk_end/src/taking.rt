@@ -1,5 +1,5 @@
 ghost use Rattle.std.specs.Prelude.{◌≡◌, ◌<◌, IfSome, IfNone, OnSome, length};
-ghost use Rattle.tk_end.specs.Hearing.{Stops, Takes, TakesOne};
+ghost use Rattle.tk_end.specs.Hearing.{Stops, TakesIn, TakesOne};
 
 use crate::actor::{Actor, Declined};
 use crate::hearing::Step;
@@ -11,7 +11,7 @@ pub fn take_front<A: Actor>(inbox: &mut Inbox, actor: &mut A, peer: Mon) -> Opti
     requires { A.IsPeer peer.0 actor.old }
     ensures stops { IfSome result (Stops A.refusal_of A.is_done peer.0 inbox.new actor.new) }
     ensures same { OnSome result ((inbox.new.unread ≡ inbox.old.unread) × (actor.new ≡ actor.old)) }
-    ensures takes { IfNone result (Takes A.refusal_of A.after A.heard A.said peer.0 inbox.old.version inbox.old.unread inbox.new.unread actor.old actor.new) }
+    ensures takes { IfNone result (TakesIn A.refusal_of A.after A.heard A.said peer.0 inbox.old inbox.new actor.old actor.new) }
     ensures one { IfNone result (TakesOne A.refusal_of A.after peer.0 actor.old actor.new) }
     ensures less { IfNone result (length inbox.new.unread < length inbox.old.unread) }
     ensures version { inbox.new.version ≡ inbox.old.version }
@@ -40,7 +40,7 @@ pub fn take_front<A: Actor>(inbox: &mut Inbox, actor: &mut A, peer: Mon) -> Opti
 pub fn take_all<A: Actor>(inbox: &mut Inbox, actor: &mut A, peer: Mon) -> Step<A::Refusal>
     requires { A.IsPeer peer.0 actor.old }
     ensures stops { Stops A.refusal_of A.is_done peer.0 inbox.new actor.new result }
-    ensures takes { Takes A.refusal_of A.after A.heard A.said peer.0 inbox.old.version inbox.old.unread inbox.new.unread actor.old actor.new }
+    ensures takes { TakesIn A.refusal_of A.after A.heard A.said peer.0 inbox.old inbox.new actor.old actor.new }
     ensures version { inbox.new.version ≡ inbox.old.version }
     ensures peer { A.IsPeer peer.0 actor.new }
 {

@@ -1,7 +1,7 @@
 -- What the coordinator takes and sends.
-use Rattle.std.proofs.Common.{◌≡◌, ◌<◌, ◌≤◌, ℕ, zero, suc, ◌+◌, ◌==◌, List, [], ◌∷◌, ◌++◌, length, take, Option, Some, None, Result, Ok, Err, slice_get, Bool, true, false, refl, sym, ap, ◌∙◌, subst, arith, append-nil, eq-eqb, inl, inr}
-use Rattle.std.specs.Prelude.{ℤ, not, ◌&&◌, if◌then◌else◌, find}
-use Rattle.std.specs.List.{cons_option}
+use Rattle.std.proofs.Common.{◌≡◌, ◌<◌, ◌≤◌, ℕ, zero, suc, ◌+◌, ◌==◌, List, [], ◌∷◌, ◌++◌, length, take, Option, Some, None, Err, slice_get, Bool, true, false, refl, sym, ap, ◌∙◌, subst, arith, eq-eqb, inl, inr}
+use Rattle.std.specs.Prelude.{ℤ, map, if◌then◌else◌}
+use Rattle.std.specs.List.{cons_option, enumerate_from}
 use Rattle.std.specs.Option.{option_map}
 use Rattle.std.proofs.lemmas.List.{take_at}
 use Rattle.tk_base.specs.History.{IsFront}
@@ -19,13 +19,23 @@ use Rattle.tk_journal.proofs.SentLemmas.{is_other, only_three_kinds}
 use Rattle.tk_journal.proofs.SoundLemmas.{legal_firm}
 use Rattle.tk_journal.proofs.WholeLemmas.{turn_is}
 use Rattle.tk_journal.specs.Laws.{AreSentShort}
-use Rattle.tk_journal.specs.Legal.{IsAccepted, inputs_of, turn_of}
+use Rattle.tk_journal.specs.Legal.{Opening, inputs_of, opened, turn_of}
 use Rattle.tk_journal.specs.Links.{frames_from, frames_to}
-use Rattle.tk_journal.specs.Refusal.{Known, Shown, bad_border, go_on, are_places, known_by, not_broken, or_else, refusal_of, refusal_of_answer, refusal_of_awaited, refusal_of_border, refusal_of_cut, refusal_of_kind, refusal_of_report, refusal_of_values, shown_by, too_great}
+use Rattle.tk_journal.specs.Refusal.{Known, Shown, bad_border, known_by, not_broken, or_else, refusal_of, refusal_of_answer, refusal_of_border, refusal_of_cut, refusal_of_kind, refusal_of_report, refusal_of_values, shown_by, too_great}
 use Rattle.tk_journal.specs.declared.noted.Noted.{Noted}
 use Rattle.tk_journal.specs.declared.noted.Noted.TheVariants as n
 use Rattle.tk_journal.specs.declared.refusal.CoordRefusal.{CoordRefusal}
 use Rattle.tk_journal.specs.declared.refusal.CoordRefusal.TheVariants as r
+
+-- ---- an opening
+
+sent_only : (members : List ℕ) (rows : List (ℕ × List (ℕ × ℤ))) → inputs_of (map (λ p. n.Sent (record { 0 = p.0 }) (f.Assign 1 members p.1)) rows) ≡ []
+sent_only members [] = refl
+sent_only members (p ∷ rows) = sent_only members rows
+
+-- it has Assigns alone
+pub opened_inputs : (o : Opening) → inputs_of (opened o) ≡ []
+opened_inputs o = sent_only o.members (enumerate_from 1 o.factors)
 
 -- ---- what was got and what was sent, once a frame is taken
 

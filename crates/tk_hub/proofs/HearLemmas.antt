@@ -1,5 +1,5 @@
 -- Links that are heard one behind the other.
-use Rattle.std.proofs.Common.{◌≡◌, ◌<◌, ◌≤◌, ◌+◌, ◌-◌, ℕ, List, [], length, get_or, set, Bool, true, false, Option, Some, None, IfSome, refl, sym, ap, ◌∙◌, subst, arith, inl, inr}
+use Rattle.std.proofs.Common.{◌≡◌, ◌<◌, ◌≤◌, ◌+◌, ◌-◌, ℕ, List, length, set, true, false, Option, Some, None, IfSome, refl, sym, ap, ◌∙◌, subst, arith, inl, inr}
 use Rattle.std.proofs.lemmas.Bool.{cases_eq, cases_lt, false≢true}
 use Rattle.std.proofs.lemmas.List.{get_or-set_other, get_or-set_same, get_or_past, length-set}
 use Rattle.tk_coord.specs.Coordinator.{CoordinatorView}
@@ -10,7 +10,7 @@ use Rattle.tk_hub.proofs.SeatsLemmas.{reaches_seat}
 use Rattle.tk_hub.proofs.TakenLemmas.{reaches_on, stopped_stays}
 use Rattle.tk_hub.specs.Desk.{heard_from, refuses, said_to, takes}
 use Rattle.tk_hub.specs.Seats.{SeatsView, link_at}
-use Rattle.tk_hub.specs.Slot.{HearsAt, SeatHears}
+use Rattle.tk_hub.specs.Slot.{SeatHears}
 use Rattle.tk_hub.specs.Turn.{CountsAt, CountsEach, EachSteady, EndsAt, EndsEach, GivesPieces, Hears, HoldsAt, IsRefusedAt, IsSteadyAt, IsStopGiven, PassesAt, Reaches, SomeFails, Stays, SteadyAt, goes_on, joined, pieces_of}
 use Rattle.tk_hub.specs.declared.course.HubTurn.{HubTurn}
 use Rattle.tk_hub.specs.declared.course.HubTurn.TheVariants as t
@@ -61,8 +61,7 @@ ends_seat mon next (Some x) (Some y) a b h = h.ends
 -- what an end says where the turn goes on
 ends_joined : {W : Type 0} (mon : ℕ) (c : CoordinatorView) (turn next : HubTurn) (link : LinkView W) → goes_on turn ≡ true → goes_on next ≡ true → EndsAt mon c link next → EndsAt mon c link (joined turn next)
 ends_joined mon c t.Quiet t.Quiet link on goes e = e
-ends_joined mon c t.More t.Quiet link on goes (inl e) = inl e.0
-ends_joined mon c t.More t.Quiet link on goes (inr e) = inr e
+ends_joined mon c t.More t.Quiet link on goes e = e.0
 ends_joined mon c t.Quiet t.More link on goes e = e
 ends_joined mon c t.More t.More link on goes e = e
 ends_joined mon c t.Finished next link on goes e = absurd (cc)
@@ -86,14 +85,11 @@ ends_joined mon c t.More t.NoMemory link on goes e = absurd (cc)
 
 -- what an end said before, where the turn goes on
 ends_kept : {W : Type 0} (mon : ℕ) (c d : CoordinatorView) (turn next : HubTurn) (link : LinkView W) → goes_on turn ≡ true → goes_on next ≡ true → (IsStopGiven mon c link → IsStopGiven mon d link) → EndsAt mon c link turn → EndsAt mon d link (joined turn next)
-ends_kept mon c d t.Quiet t.Quiet link on goes given (inl e) = inl e
-ends_kept mon c d t.Quiet t.Quiet link on goes given (inr e) = inr (given e)
-ends_kept mon c d t.Quiet t.More link on goes given (inl e) = inl e.0
-ends_kept mon c d t.Quiet t.More link on goes given (inr e) = inr (given e)
-ends_kept mon c d t.More t.Quiet link on goes given (inl e) = inl e
-ends_kept mon c d t.More t.Quiet link on goes given (inr e) = inr (given e)
-ends_kept mon c d t.More t.More link on goes given (inl e) = inl e
-ends_kept mon c d t.More t.More link on goes given (inr e) = inr (given e)
+ends_kept mon c d t.Quiet t.Quiet link on goes given (all, inl e) = (all, inl e)
+ends_kept mon c d t.Quiet t.Quiet link on goes given (all, inr e) = (all, inr (given e.0, e.1))
+ends_kept mon c d t.Quiet t.More link on goes given e = e.0
+ends_kept mon c d t.More t.Quiet link on goes given e = e
+ends_kept mon c d t.More t.More link on goes given e = e
 ends_kept mon c d t.Finished next link on goes given e = absurd (cc)
 ends_kept mon c d t.Failed next link on goes given e = absurd (cc)
 ends_kept mon c d (t.Refused m why) next link on goes given e = absurd (cc)
@@ -237,7 +233,7 @@ counts_ended p (t.Bad m fault) old new x y a b stops was is h steady = steady (�
 counts_ended p t.WriteFailed old new x y a b stops was is h steady = steady (λ e. absurd (cc))
 counts_ended p t.NoMemory old new x y a b stops was is h steady = steady (λ e. absurd (cc))
 
-holds_at : {W : Type 0} (p mon : ℕ) (new : List (Option (LinkView W))) (link : LinkView W) (P : LinkView W → Type 0) → mon ≡ p + 1 → link_at new p ≡ Some link → P link → HoldsAt new mon P
+pub holds_at : {W : Type 0} (p mon : ℕ) (new : List (Option (LinkView W))) (link : LinkView W) (P : LinkView W → Type 0) → mon ≡ p + 1 → link_at new p ≡ Some link → P link → HoldsAt new mon P
 holds_at p mon new link P same at holds = record { some = omega (arith, same); link = link; at = ap (link_at new) (let e : mon - 1 ≡ p = omega (arith, same) in e) ∙ at; holds = holds }
 
 ends_ended : {W : Type 0} (p : ℕ) (next : HubTurn) (new : List (Option (LinkView W))) (x y : Option (LinkView W)) (a b : Desk) → goes_on next ≡ false → link_at new p ≡ y → SeatHears (p + 1) next x y a b → EndsEach next b.coordinator new

@@ -1,26 +1,27 @@
 -- What the type of a hub keeps, and what the course leaves of a turn.
-use Rattle.std.proofs.Common.{◌≡◌, ◌<◌, ◌≤◌, ◌+◌, ◌-◌, ℕ, List, [], ◌++◌, length, take, get_or, set, Bool, true, false, Option, Some, None, IfSome, Result, refl, sym, ap, ◌∙◌, subst, arith, inl, inr}
-use Rattle.std.proofs.lemmas.Bool.{false≢true}
+use Rattle.std.proofs.Common.{◌≡◌, ◌<◌, ◌≤◌, ◌+◌, ◌-◌, ℕ, List, [], ◌||◌, nat_lt, length, set, Bool, true, false, Option, Some, None, IfSome, Result, refl, sym, ap, ◌∙◌, subst, arith, inl, inr}
+use Rattle.std.proofs.lemmas.Bool.{false≢true, lt-ltb}
 use Rattle.std.proofs.lemmas.List.{get_or-set_other, get_or-set_same}
 use Rattle.slab.specs.Slab.{Slab, slab_len}
 use Rattle.tk_base.specs.declared.memory.NoMemory.{NoMemory}
 use Rattle.tk_coord.specs.Coordinator.{CoordinatorView}
 use Rattle.tk_end.proofs.PassingLemmas.{passes_heard, passes_on, passes_shut}
 use Rattle.tk_end.specs.Inbox.{Leaves}
-use Rattle.tk_end.specs.Link.{IsShut, LinkView, Passes}
+use Rattle.tk_end.specs.Link.{IsShut, LinkView}
 use Rattle.tk_frames.specs.Answer.{Answers}
 use Rattle.tk_frames.specs.declared.answer.Next.TheVariants as n
 use Rattle.tk_journal.specs.declared.refusal.CoordRefusal.{CoordRefusal}
 use Rattle.tk_journal.specs.Laws.{IsMonitor}
-use Rattle.tk_wire.specs.Meanings.{HasRisen}
+use Rattle.tk_wire.specs.Meanings.{raised_by}
 use Rattle.tk_wire.specs.declared.out_buffer.Pushed.{Pushed}
+use Rattle.tk_hub.proofs.HearLemmas.{holds_at}
 use Rattle.tk_hub.specs.Desk.{refuses}
 use Rattle.tk_hub.specs.Door.{DoorView, LobbyView}
 use Rattle.tk_hub.specs.Lines.{IsAt}
 use Rattle.tk_hub.specs.Hub.{Closes, EachOpen, Exchanges, HubView, IsClosed, IsHub, IsOnCourse, SlotPasses, TakesFrom, Turns, TurnsOne, Works, seats_of}
 use Rattle.tk_hub.specs.Seats.{AreSeats, EachShuts, SeatShuts, SeatsView, link_at}
 use Rattle.tk_hub.specs.Slot.{EndsOne, HearsOneAt, SeatHearsOne, SeatSays, TakesUpTo}
-use Rattle.tk_hub.specs.Turn.{CountsAt, CountsEach, EndsEach, FailsAt, HoldsAt, IsBadAt, IsRefusedAt, IsSteadyAt, IsStopGiven, SomeFails, SteadyAt, answer_of, course_of, goes_on, halted_of, is_open}
+use Rattle.tk_hub.specs.Turn.{CountsAt, CountsEach, EndsEach, FailsAt, HoldsAt, IsBadAt, IsRefusedAt, IsSteadyAt, IsStopGiven, SomeFails, SomeLost, SteadyAt, answer_of, course_of, goes_on, halted_of, is_lost, is_open}
 use Rattle.tk_hub.specs.Visitor.{VisitorView}
 use Rattle.tk_hub.specs.declared.course.Course.{Course}
 use Rattle.tk_hub.specs.declared.course.Course.TheVariants as cs
@@ -72,8 +73,8 @@ ends_shut t.WriteFailed c old new stops shuts e = tt
 ends_shut t.NoMemory c old new stops shuts e = tt
 
 fails_shut : {W : Type 0} (mon : ℕ) (c : CoordinatorView) (x y z : LinkView W) → IsShut y z → FailsAt mon c x y → FailsAt mon c x z
-fails_shut mon c x y z s (inl faults) = inl (subst (λ k. HasRisen x.counts.faults k.faults) (sym s.counts) faults)
-fails_shut mon c x y z s (inr (ends, early)) = inr (subst (λ k. HasRisen x.counts.ends k.ends) (sym s.counts) ends, λ g. early (given_back mon c y z s g))
+fails_shut mon c x y z s (inl faults) = inl (ap (λ k. k.faults) s.counts ∙ faults)
+fails_shut mon c x y z s (inr (ends, early)) = inr (ap (λ k. k.ends) s.counts ∙ ends, λ g. early (given_back mon c y z s g))
 
 some_fails_shut : {W : Type 0} (c : CoordinatorView) (old mid new : List (Option (LinkView W))) → EachShuts mid new → SomeFails c old mid → SomeFails c old new
 some_fails_shut c old mid new shuts f =
@@ -155,12 +156,34 @@ shut_seat (Some y) (Some z) s = s.shut
 pub closed_by : {W : Type 0} (old new : List (Option (LinkView W))) (held : Slab (VisitorView W)) → EachShuts old new → held.slots ≡ [] → IsClosed new held
 closed_by old new held shuts none = record { shut = λ place. shut_seat (link_at old place) (link_at new place) (shuts place); held_none = none }
 
+-- ---- a wire that failed, or has ended
+
+or_second : (a b : Bool) → b ≡ true → (a || b) ≡ true
+or_second true b is = refl
+or_second false b is = is
+
+some_raised : (n x : ℕ) → x ≡ raised_by 1 n → nat_lt 0 x ≡ true
+some_raised n x is = let some : 0 < x = omega (arith, is) in lt-ltb 0 x some
+
+lost_by : {W : Type 0} (mon : ℕ) (c : CoordinatorView) (x y : LinkView W) → FailsAt mon c x y → is_lost y.counts ≡ true
+lost_by mon c x y (inl faults) = ap (λ b. b || nat_lt 0 y.counts.ends) (some_raised x.counts.faults y.counts.faults faults)
+lost_by mon c x y (inr (ends, early)) = or_second (nat_lt 0 y.counts.faults) (nat_lt 0 y.counts.ends) (some_raised x.counts.ends y.counts.ends ends)
+
+some_lost : {W : Type 0} (c : CoordinatorView) (old new : List (Option (LinkView W))) → SomeFails c old new → SomeLost new
+some_lost c old new f = (f.place + 1, holds_at f.place (f.place + 1) new f.now (λ link. is_lost link.counts ≡ true) refl f.is (lost_by (f.place + 1) c f.before f.now f.fails))
+
+lost_shut : {W : Type 0} (y z : LinkView W) → IsShut y z → is_lost y.counts ≡ true → is_lost z.counts ≡ true
+lost_shut y z s lost = ap is_lost s.counts ∙ lost
+
+lost_closed : {W : Type 0} (old new : List (Option (LinkView W))) → EachShuts old new → SomeLost old → SomeLost new
+lost_closed old new shuts lost = (lost.0, holds_shut lost.0 old new (λ link. is_lost link.counts ≡ true) shuts lost_shut lost.1)
+
 -- what stands next at the monitor that ended a turn
 abbrev pub Stands : {W : Type 0} → CoordinatorView → List (Option (LinkView W)) → HubTurn → Type 0
 Stands c links t.Quiet = Unit {0}
 Stands c links t.More = Unit {0}
 Stands c links t.Finished = Unit {0}
-Stands c links t.Failed = Unit {0}
+Stands c links t.Failed = SomeLost links
 Stands c links (t.Refused mon why) = HoldsAt links mon.0 (IsRefusedAt mon.0 c why)
 Stands c links (t.Bad mon fault) = HoldsAt links mon.0 (IsBadAt fault)
 Stands c links t.WriteFailed = Unit {0}
@@ -171,27 +194,27 @@ course_after t.Quiet c before after on closes s = subst EachOpen (sym (ap (λ d.
 course_after t.More c before after on closes s = subst EachOpen (sym (ap (λ d. d.links) closes)) on
 course_after t.Finished c before after on closes s = subst EachOpen (sym (ap (λ d. d.links) closes)) on
 course_after t.NoMemory c before after on closes s = subst EachOpen (sym (ap (λ d. d.links) closes)) on
-course_after t.Failed c before after on closes s = closed_by before.links after.links after.lobby.held closes.0 closes.1
+course_after t.Failed c before after on closes s = (closed_by before.links after.links after.lobby.held closes.0 closes.1, lost_closed before.links after.links closes.0 s)
 course_after t.WriteFailed c before after on closes s = closed_by before.links after.links after.lobby.held closes.0 closes.1
 course_after (t.Refused mon why) c before after on closes s = (closed_by before.links after.links after.lobby.held closes.0 closes.1, holds_shut mon.0 before.links after.links (IsRefusedAt mon.0 c why) closes.0 (refused_shut mon.0 c why) s)
 course_after (t.Bad mon fault) c before after on closes s = (closed_by before.links after.links after.lobby.held closes.0 closes.1, holds_shut mon.0 before.links after.links (IsBadAt fault) closes.0 (bad_shut fault) s)
 
-pub stands_of : {W : Type 0} (turn : HubTurn) (c : CoordinatorView) (links : List (Option (LinkView W))) → EndsEach turn c links → Stands c links turn
-stands_of t.Quiet c links e = tt
-stands_of t.More c links e = tt
-stands_of t.Finished c links e = tt
-stands_of t.Failed c links e = tt
-stands_of (t.Refused mon why) c links e = e
-stands_of (t.Bad mon fault) c links e = e
-stands_of t.WriteFailed c links e = tt
-stands_of t.NoMemory c links e = tt
+pub stands_of : {W : Type 0} (turn : HubTurn) (c : CoordinatorView) (old links : List (Option (LinkView W))) → EndsEach turn c links → CountsEach turn c old links → Stands c links turn
+stands_of t.Quiet c old links e k = tt
+stands_of t.More c old links e k = tt
+stands_of t.Finished c old links e k = tt
+stands_of t.Failed c old links e k = some_lost c old links k
+stands_of (t.Refused mon why) c old links e k = e
+stands_of (t.Bad mon fault) c old links e k = e
+stands_of t.WriteFailed c old links e k = tt
+stands_of t.NoMemory c old links e k = tt
 
 -- ---- halting, a saying, and a turn of one frame
 
 pub course_halted : {W : Type 0} (c : CoordinatorView) (old new : List (Option (LinkView W))) (before after : Slab (VisitorView W)) (course : Course) → EachShuts old new → after.slots ≡ [] → IsOnCourse c old before course → IsOnCourse c new after (halted_of course)
 course_halted c old new before after cs.Open shuts none on = closed_by old new after shuts none
 course_halted c old new before after cs.Halted shuts none on = closed_by old new after shuts none
-course_halted c old new before after cs.Failed shuts none on = closed_by old new after shuts none
+course_halted c old new before after cs.Failed shuts none on = (closed_by old new after shuts none, lost_closed old new shuts on.1)
 course_halted c old new before after (cs.Refused mon why) shuts none on = (closed_by old new after shuts none, holds_shut mon.0 old new (IsRefusedAt mon.0 c why) shuts (refused_shut mon.0 c why) on.1)
 course_halted c old new before after (cs.Bad mon fault) shuts none on = (closed_by old new after shuts none, holds_shut mon.0 old new (IsBadAt fault) shuts (bad_shut fault) on.1)
 course_halted c old new before after cs.WriteFailed shuts none on = closed_by old new after shuts none
@@ -266,7 +289,7 @@ closes_open : {W : Type 0} (p : Bool) (before after : DoorView W) → Closes p b
 closes_open true before after closes is = closes
 closes_open false before after closes is = absurd (false≢true is)
 
-closes_count : {W : Type 0} (p : Bool) (before after : DoorView W) → Closes p before after → after.lobby.strangers ≡ before.lobby.strangers
+pub closes_count : {W : Type 0} (p : Bool) (before after : DoorView W) → Closes p before after → after.lobby.strangers ≡ before.lobby.strangers
 closes_count true before after closes = ap (λ d. d.lobby.strangers) closes
 closes_count false before after closes = closes.2
 
@@ -298,15 +321,15 @@ turns_one {W} mon turn old y b after course is h there hears closes on =
       held = λ open_. ap (λ d. d.lobby.held) (closes_open (is_open (course_of turn)) before after closes open_);
     }
 
-pub stands_one : {W : Type 0} (mon : ℕ) (turn : HubTurn) (c : CoordinatorView) (links : List (Option (LinkView W))) (now : LinkView W) → 0 < mon → link_at links (mon - 1) ≡ Some now → EndsOne mon c now turn → Stands c links turn
-stands_one mon t.Quiet c links now some at e = tt
-stands_one mon t.More c links now some at e = tt
-stands_one mon t.Finished c links now some at e = tt
-stands_one mon t.Failed c links now some at e = tt
-stands_one mon (t.Refused m why) c links now some at e = subst (λ k. HoldsAt links k (IsRefusedAt k c why)) (sym e.0) (record { some = some; link = now; at = at; holds = e.1 })
-stands_one mon (t.Bad m fault) c links now some at e = subst (λ k. HoldsAt links k (IsBadAt fault)) (sym e.0) (record { some = some; link = now; at = at; holds = e.1 })
-stands_one mon t.WriteFailed c links now some at e = tt
-stands_one mon t.NoMemory c links now some at e = tt
+pub stands_one : {W : Type 0} (mon : ℕ) (turn : HubTurn) (c : CoordinatorView) (links : List (Option (LinkView W))) (before now : LinkView W) → 0 < mon → link_at links (mon - 1) ≡ Some now → EndsOne mon c now turn → CountsAt mon c before now turn → Stands c links turn
+stands_one mon t.Quiet c links before now some at e k = tt
+stands_one mon t.More c links before now some at e k = tt
+stands_one mon t.Finished c links before now some at e k = tt
+stands_one mon t.Failed c links before now some at e k = (mon, record { some = some; link = now; at = at; holds = lost_by mon c before now k })
+stands_one mon (t.Refused m why) c links before now some at e k = subst (λ k. HoldsAt links k (IsRefusedAt k c why)) (sym e.0) (record { some = some; link = now; at = at; holds = e.1 })
+stands_one mon (t.Bad m fault) c links before now some at e k = subst (λ k. HoldsAt links k (IsBadAt fault)) (sym e.0) (record { some = some; link = now; at = at; holds = e.1 })
+stands_one mon t.WriteFailed c links before now some at e k = tt
+stands_one mon t.NoMemory c links before now some at e k = tt
 
 pub open_one : {W : Type 0} (mon : ℕ) (turn : HubTurn) (x y : Option (LinkView W)) (a b : Desk) → SeatHearsOne mon turn x y a b → IfSome x (λ link. link.shut ≡ false) → IfSome y (λ link. link.shut ≡ false)
 open_one mon turn None y a b h o = subst (λ s. IfSome s (λ link. link.shut ≡ false)) (sym h.0) tt
@@ -362,6 +385,18 @@ goes cs.Failed halted none = absurd (cc)
 goes (cs.Refused mon why) halted none = absurd (cc)
 goes (cs.Bad mon fault) halted none = absurd (cc)
 goes cs.WriteFailed halted none = absurd (cc)
+
+some_turn : (x y : HubTurn) → Some x ≡ Some y → x ≡ y
+some_turn x y is = cc
+
+-- a closed course is that of the answer on it
+pub course_again : (course : Course) (turn : HubTurn) → answer_of course ≡ Some turn → course ≡ course_of turn
+course_again cs.Open turn answers = absurd (cc)
+course_again cs.Halted turn answers = absurd (cc)
+course_again cs.Failed turn answers = ap course_of (some_turn t.Failed turn answers)
+course_again (cs.Refused mon why) turn answers = ap course_of (some_turn (t.Refused mon why) turn answers)
+course_again (cs.Bad mon fault) turn answers = ap course_of (some_turn (t.Bad mon fault) turn answers)
+course_again cs.WriteFailed turn answers = ap course_of (some_turn t.WriteFailed turn answers)
 
 pub not_write_failed : (course : Course) (turn : HubTurn) → (course ≡ cs.WriteFailed → ⊥) → answer_of course ≡ Some turn → turn ≡ t.WriteFailed → ⊥
 not_write_failed cs.Open turn other answers is = absurd (cc)

@@ -1,9 +1,7 @@
 -- What the type of a hub keeps, over each of its calls.
-use Rattle.std.proofs.Common.{◌≡◌, ◌<◌, ◌≤◌, ◌+◌, ◌-◌, ℕ, List, [], length, set, Option, Some, None, IfSome, Result, refl, sym, ap, ◌∙◌, subst, arith, true, false, count_by, is_some, zero, suc, replicate}
+use Rattle.std.proofs.Common.{◌≡◌, ◌<◌, ◌≤◌, ◌-◌, ℕ, [], length, set, None, IfSome, Result, sym, ap, ◌∙◌, subst, arith, false, count_by, is_some, zero, suc, replicate}
 use Rattle.slab.specs.Slab.{Slab, slab_len}
 use Rattle.tk_base.specs.declared.memory.NoMemory.{NoMemory}
-use Rattle.tk_coord.specs.Coordinator.{CoordinatorView}
-use Rattle.tk_end.specs.Link.{LinkView}
 use Rattle.tk_journal.specs.Laws.{IsMonitor}
 use Rattle.tk_wire.specs.declared.out_buffer.Pushed.{Pushed}
 use Rattle.tk_hub.proofs.HubLemmas.{Stands, course_halted, hub_after, on_open, one_turn, open_hub, open_one, open_said, stands_one, turns_one}
@@ -74,7 +72,7 @@ hub_taken {W} mon turn s mid last before after lines course next on is h there h
     let reaches = reaches_taking mon x y a b is (taken_by_one mon turn x y a b hears) in
     let at : IsAt mid.coordinator.journal lines = at_grown s.coordinator.journal mid.coordinator.journal lines (reaches_grown s.coordinator mid.coordinator reaches) h.lines in
     let Kept : SeatsView W → Type 0 = λ v. IsHub (hub_of v after lines next) in
-    subst Kept (sym last_is) (hub_after turn (record { lobby = before; links = mid.links }) (record { lobby = after; links = last.links }) mid lines next (subst AreSeats last_is seats) at few opens closes (stands_one mon turn mid.coordinator mid.links one.now is.from_one one.is one.ends) next_is)
+    subst Kept (sym last_is) (hub_after turn (record { lobby = before; links = mid.links }) (record { lobby = after; links = last.links }) mid lines next (subst AreSeats last_is seats) at few opens closes (stands_one mon turn mid.coordinator mid.links there.link one.now is.from_one one.is one.ends one.counts) next_is)
 
 -- a turn
 pub hub_turned : {W : Type 0} (turn : HubTurn) (mid last : SeatsView W) (before after : LobbyView W) (lines : Lines) (next : Course) → IsAt mid.coordinator.journal lines → EachOpen mid.links → (Stands mid.coordinator mid.links turn)

@@ -1,5 +1,5 @@
 -- What came next at some link and was not taken, as the links are left one by one, and what that is of a hub.
-use Rattle.std.proofs.Common.{◌≡◌, ◌⊎◌, ◌<◌, ◌≤◌, ◌+◌, ◌-◌, ℕ, List, [], ◌∷◌, ◌++◌, length, get_or, append-nil, Option, Some, None, IfSome, is_some, refl, sym, ap, ◌∙◌, subst, arith, inl, inr}
+use Rattle.std.proofs.Common.{◌≡◌, ◌<◌, ◌≤◌, ◌+◌, ◌-◌, ◌||◌, Bool, true, false, ℕ, zero, suc, List, [], ◌∷◌, ◌++◌, length, get_or, append-nil, Option, Some, None, IfSome, is_some, refl, sym, ap, ◌∙◌, subst, arith, inl, inr}
 use Rattle.std.specs.Option.{ForSome, option_map}
 use Rattle.std.proofs.lemmas.Bool.{cases_eq, cases_lt}
 use Rattle.std.proofs.lemmas.List.{get_or_append_left, get_or_default, get_or_past, get_or_push, length_push}
@@ -10,9 +10,7 @@ use Rattle.tk_coord.specs.Coordinator.{CoordinatorView}
 use Rattle.tk_frames.specs.Spelling.{IsVersion}
 use Rattle.tk_frames.specs.declared.answer.BadFrame.{BadFrame}
 use Rattle.tk_frames.specs.declared.answer.BadFrame.TheVariants.{BadLength, BadKind, BadFields}
-use Rattle.tk_frames.specs.declared.frame.Frame.{Frame}
 use Rattle.tk_journal.specs.Laws.{IsMonitor}
-use Rattle.tk_journal.specs.Refusal.{refusal_of}
 use Rattle.tk_journal.specs.declared.noted.Noted.{Noted}
 use Rattle.tk_journal.specs.declared.refusal.CoordRefusal.{CoordRefusal}
 use Rattle.tk_story.specs.Odd.{IsNoFrame, IsOddUp}
@@ -21,11 +19,11 @@ use Rattle.tk_story.specs.declared.ends.received.Received.TheVariants as r
 use Rattle.tk_end.specs.Inbox.{IsOdd, IsOddPayload}
 use Rattle.tk_wire.specs.Meanings.{Counts}
 use Rattle.tk_end.specs.Link.{Covers, LinkView}
-use Rattle.tk_hub.specs.End.{CoversHeard, IsOddBytes, IsOddFrame, LeavesOdd, wire_of, wires_of}
+use Rattle.tk_hub.specs.End.{AreCounted, CoversHeard, IsOddBytes, IsOddFrame, LeavesOdd, is_some_lost, wire_of, wires_of}
 use Rattle.tk_hub.specs.Hub.{IsOnCourse}
-use Rattle.tk_hub.specs.Leaving.{AreCounted, IsLeftOn, IsOfOrNone, IsStanding, LeavesAt, StandsAt}
+use Rattle.tk_hub.specs.Leaving.{IsLeftOn, IsOfOrNone, IsStanding, LeavesAt, StandsAt}
 use Rattle.tk_hub.specs.Seats.{AreSeats, IsSeat, SeatsView, heard_at, link_at}
-use Rattle.tk_hub.specs.Turn.{HoldsAt, IsBadAt, IsRefusedAt}
+use Rattle.tk_hub.specs.Turn.{HoldsAt, IsBadAt, IsRefusedAt, is_lost}
 use Rattle.tk_hub.specs.Visitor.{VisitorView}
 use Rattle.tk_hub.specs.declared.course.Course.{Course}
 use Rattle.tk_hub.specs.declared.course.Course.TheVariants as cs
@@ -179,6 +177,26 @@ covered_of counts s h counted place = elim (cases_lt place (length s.links)) [
   | inr past ↦ subst (λ o. IfSome o (CoversHeard counts s.run s.coordinator.journal (place + 1))) (sym (get_or_past s.links place None past)) tt
 ]
 
+or_second : (a b : Bool) → b ≡ true → (a || b) ≡ true
+or_second true b is = refl
+or_second false b is = is
+
+lost_in : {W : Type 0} (counts : W → Counts) (links : List (Option (LinkView W))) (place : ℕ) (link : LinkView W) → AreCounted counts links → link_at links place ≡ Some link → is_lost link.counts ≡ true → is_some_lost counts (wires_of links) ≡ true
+lost_in counts [] place link counted at lost = absurd (cc)
+lost_in counts (None ∷ links) zero link counted at lost = absurd (cc)
+lost_in counts (None ∷ links) (suc place) link counted at lost = lost_in counts links place link (λ i. counted (suc i)) at lost
+lost_in counts (Some x ∷ links) zero link counted at lost =
+    let one : x ≡ link = cc in
+    ap (λ b. b || is_some_lost counts (wires_of links)) (ap is_lost (counted zero ∙ ap (λ (l : LinkView _). l.counts) one) ∙ lost)
+lost_in counts (Some x ∷ links) (suc place) link counted at lost =
+    or_second (is_lost (counts x.wire)) (is_some_lost counts (wires_of links)) (lost_in counts links place link (λ i. counted (suc i)) at lost)
+
+-- of a hub that failed some wire shows it
+pub lost_of : {W : Type 0} (counts : W → Counts) (c : CoordinatorView) (links : List (Option (LinkView W))) (held : Slab (VisitorView W)) (course : Course) (wires : List W) → AreCounted counts links → wires ≡ wires_of links → IsOnCourse c links held course → course ≡ cs.Failed → is_some_lost counts wires ≡ true
+lost_of counts c links held course wires counted is on failed =
+    let lost = (subst (IsOnCourse c links held) failed on).1 in
+    ap (is_some_lost counts) is ∙ lost_in counts links (lost.0 - 1) lost.1.link counted lost.1.at lost.1.holds
+
 -- ---- all links
 
 there : {W : Type 0} (links : List (Option (LinkView W))) (p : ℕ) (link : LinkView W) → link_at links p ≡ Some link → p < length links
@@ -239,7 +257,7 @@ no_frame version (BadLength size) unread odd is p = inr (record { whole = p.1; s
 no_frame version (BadKind code) unread odd is p = no_payload version unread odd is p
 no_frame version (BadFields kind) unread odd is p = no_payload version unread odd is p
 
-monitor_is : {W : Type 0} (mon : ℕ) (s : SeatsView W) (link : LinkView W) → 0 < mon → link_at s.links (mon - 1) ≡ Some link → AreSeats s → IsMonitor s.coordinator.settings mon
+pub monitor_is : {W : Type 0} (mon : ℕ) (s : SeatsView W) (link : LinkView W) → 0 < mon → link_at s.links (mon - 1) ≡ Some link → AreSeats s → IsMonitor s.coordinator.settings mon
 monitor_is mon s link some is h = record { from_one = omega (arith, some); within = omega (arith, some, h.count, there s.links (mon - 1) link is) }
 
 version_in : {W : Type 0} (run mon : ℕ) (j : List Noted) (o : Option (LinkView W)) (link : LinkView W) → o ≡ Some link → IsSeat run j mon o → IsVersion link.version

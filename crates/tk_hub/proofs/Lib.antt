@@ -1,3 +1,4 @@
+pub mod AdmittedLemmas
 pub mod DeskLemmas
 pub mod HearLemmas
 pub mod HubLemmas

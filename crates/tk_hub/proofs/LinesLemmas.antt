@@ -2,16 +2,18 @@
 use Rattle.std.proofs.Common.{◌≡◌, ℕ, ◌+◌, ◌-◌, ◌≤◌, ◌<◌, ◌||◌, Bool, true, false, List, [], ◌∷◌, ◌++◌, length, take, drop, get_or, Option, Some, None, option_map, refl, sym, ap, subst, ◌∙◌, append_assoc, append-nil, arith, length-append, length-drop, zero-add}
 use Rattle.std.specs.Prelude.{unwrap_or}
 use Rattle.std.specs.List.{concat, cons_option, list_any, slice_range}
-use Rattle.std.proofs.lemmas.List.{drop-append-le, take-append-drop, take-append-le, take_at, take_more, take_rest}
+use Rattle.std.proofs.lemmas.List.{drop-append-le, take-append-drop, take-append-le, take-take, take_at, take_more, take_rest}
 use Rattle.std.proofs.Math.Seq.{take-length}
 use Rattle.std.proofs.lemmas.List.Folds.{concat-append, drop_split, list_any-append}
+use Rattle.tk_base.specs.History.{IsFront}
 use Rattle.tk_input.specs.Sink.{Grows, GrowsByFront}
 use Rattle.tk_journal.proofs.Appends.{walk-append}
 use Rattle.tk_journal.specs.Publishing.{publications}
 use Rattle.tk_journal.specs.Walks.{walk}
 use Rattle.tk_journal.specs.declared.noted.Noted.{Noted}
 use Rattle.tk_journal.specs.declared.noted.Noted.TheVariants as n
-use Rattle.tk_hub.specs.Lines.{IsAt, IsCutShort, is_tuned, line_at, lines_in, lines_of, text_between, text_from, written_in}
+use Rattle.tk_ledger.specs.Text.{is_tuned, line_at, lines_in, lines_of}
+use Rattle.tk_hub.specs.Lines.{IsAt, IsCutShort, text_between, text_from, text_written, written_in}
 use Rattle.tk_hub.specs.declared.lines.Lines.{Lines}
 
 -- ---- what is written piece by piece
@@ -238,3 +240,37 @@ cut_next names journal start was e a b c at here grown line =
     let due = due_next names journal was.passed e here ∙ ap (λ xs. xs ++ text_from names journal (lines_before journal (was.passed + 1))) (sym (line_here names journal was e at)) in
     cut_short a b c (text_between names journal (written_in journal start) (written_in journal was)) (unwrap_or (line_at names was.tuned e) []) (text_from names journal (lines_before journal (was.passed + 1)))
     (text_from names journal (written_in journal was)) due grown line
+
+-- ---- a journal that grows, and turn after turn
+
+-- what is written so far stays so as the journal grows
+pub text_stays : (names : List (List ℕ)) (old new : List Noted) (lines : Lines) → IsFront old new → IsAt old lines → text_written names new lines ≡ text_written names old lines
+text_stays names old new lines front at =
+    let n = lines.passed in
+    let same : take n new ≡ take n old = sym (ap (take n) front.is ∙ take-take n (length old) new at.within) in
+    text_passed names new 0 n (omega arith) ∙ ap (λ j. concat (drop 0 (lines_of names j))) same ∙ sym (text_passed names old 0 n (omega arith))
+
+-- the lines of the first entries, and those of the entries up to further ones
+text_add : (names : List (List ℕ)) (journal : List Noted) (i j : ℕ) → i ≤ j
+    → text_between names journal 0 (lines_before journal j) ≡ text_between names journal 0 (lines_before journal i) ++ text_between names journal (lines_before journal i) (lines_before journal j)
+text_add names journal i j below =
+    let front : List Noted = take j journal in
+    let at : ℕ = lines_before journal i in
+    let all : List (List ℕ) = lines_of names front in
+    let again : take i front ≡ take i journal = take-take i j journal below in
+    let same : lines_before front i ≡ at = ap (λ xs. length (publications xs)) again in
+    let within : at ≤ lines_before journal j = omega (arith, same, lines_within front i) in
+    let first : text_between names front 0 at ≡ text_between names journal 0 at =
+    ap (text_between names front 0) (sym same) ∙ text_passed names front 0 i (omega arith) ∙ ap (λ xs. concat (drop 0 (lines_of names xs))) again ∙ sym (text_passed names journal 0 i (omega arith)) in
+    text_passed names journal 0 j (omega arith) ∙ ap concat (drop_split all 0 at (omega arith)) ∙ concat-append (slice_range all 0 at) (drop at all)
+    ∙ ap (λ xs. xs ++ concat (drop at all)) first ∙ ap (λ xs. text_between names journal 0 at ++ xs) (sym (text_passed names journal at j within))
+
+pub lines_add : (names : List (List ℕ)) (journal : List Noted) (from to : Lines) (a b c : Option (List ℕ)) → from.passed ≤ to.passed → Grows a b (text_written names journal from)
+    → Grows b c (text_between names journal (written_in journal from) (written_in journal to)) → Grows a c (text_written names journal to)
+lines_add names journal from to a b c below first second =
+    subst (Grows a c) (sym (text_add names journal from.passed to.passed below))
+    (grows_more a b c (text_written names journal from) (text_between names journal (written_in journal from) (written_in journal to)) first second)
+
+pub text_all : (names : List (List ℕ)) (journal : List Noted) (lines : Lines) → lines.passed ≡ length journal → text_written names journal lines ≡ concat (lines_of names journal)
+text_all names journal lines all =
+    text_passed names journal 0 lines.passed (omega arith) ∙ ap (λ j. concat (drop 0 (lines_of names j))) (ap (λ k. take k journal) all ∙ take-length journal)

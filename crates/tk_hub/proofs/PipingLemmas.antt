@@ -20,7 +20,7 @@ use Rattle.tk_hub.proofs.SeatsLemmas.{seat_of, seats_put}
 use Rattle.tk_hub.specs.End.{SeatDrains, SeatFills}
 use Rattle.tk_hub.specs.Hub.{HubView, IsClosed, IsHub, IsOnCourse, seats_of}
 use Rattle.tk_hub.specs.Seats.{AreSeats, IsSeat, IsSeated, SeatsView, heard_at, link_at, said_at}
-use Rattle.tk_hub.specs.Turn.{HoldsAt, IsBadAt, IsRefusedAt}
+use Rattle.tk_hub.specs.Turn.{HoldsAt, IsBadAt, IsRefusedAt, is_lost}
 use Rattle.tk_hub.specs.Visitor.{VisitorView}
 use Rattle.tk_hub.specs.declared.course.Course.{Course}
 use Rattle.tk_hub.specs.declared.course.Course.TheVariants as cs
@@ -75,6 +75,7 @@ record AreAlike {W : Type 0} (x y : LinkView W) : Type 0 where
   unread : y.unread ≡ x.unread
   front : y.front ≡ x.front
   shut : y.shut ≡ x.shut
+  counts : y.counts ≡ x.counts
 
 abbrev SeatsAlike : {W : Type 0} → Option (LinkView W) → Option (LinkView W) → Type 0
 SeatsAlike None new = new ≡ None
@@ -83,12 +84,12 @@ SeatsAlike (Some x) (Some y) = AreAlike x y
 
 alike_same : {W : Type 0} (x : Option (LinkView W)) → SeatsAlike x x
 alike_same None = refl
-alike_same (Some x) = record { version = refl; unread = refl; front = refl; shut = refl }
+alike_same (Some x) = record { version = refl; unread = refl; front = refl; shut = refl; counts = refl }
 
 alike_piped : (x y : Option (LinkView MemoryWire)) → SeatPipes x y → SeatsAlike x y
 alike_piped None y s = s
 alike_piped (Some x) None s = s
-alike_piped (Some x) (Some y) s = record { version = ap (λ l. l.version) s.is; unread = ap (λ l. l.unread) s.is; front = ap (λ l. l.front) s.is; shut = ap (λ l. l.shut) s.is }
+alike_piped (Some x) (Some y) s = record { version = ap (λ l. l.version) s.is; unread = ap (λ l. l.unread) s.is; front = ap (λ l. l.front) s.is; shut = ap (λ l. l.shut) s.is; counts = ap (λ l. l.counts) s.is }
 
 abbrev EachAlike : {W : Type 0} → List (Option (LinkView W)) → List (Option (LinkView W)) → Type 0
 EachAlike old new = (place : ℕ) → SeatsAlike (link_at old place) (link_at new place)
@@ -132,7 +133,7 @@ closed_alike old new held alike closed = record { shut = λ place. shut_alike tr
 course_alike : {W : Type 0} (c : CoordinatorView) (old new : List (Option (LinkView W))) (held : Slab (VisitorView W)) (course : Course) → EachAlike old new → IsOnCourse c old held course → IsOnCourse c new held course
 course_alike c old new held cs.Open alike on = λ place. shut_alike false (link_at old place) (link_at new place) (alike place) (on place)
 course_alike c old new held cs.Halted alike on = closed_alike old new held alike on
-course_alike c old new held cs.Failed alike on = closed_alike old new held alike on
+course_alike c old new held cs.Failed alike on = (closed_alike old new held alike on.0, (on.1.0, holds_alike on.1.0 old new (λ link. is_lost link.counts ≡ true) alike (λ y z s lost. ap is_lost s.counts ∙ lost) on.1.1))
 course_alike c old new held (cs.Refused mon why) alike on = (closed_alike old new held alike on.0, holds_alike mon.0 old new (IsRefusedAt mon.0 c why) alike (refused_alike mon.0 c why) on.1)
 course_alike c old new held (cs.Bad mon fault) alike on = (closed_alike old new held alike on.0, holds_alike mon.0 old new (IsBadAt fault) alike (bad_alike fault) on.1)
 course_alike c old new held cs.WriteFailed alike on = closed_alike old new held alike on

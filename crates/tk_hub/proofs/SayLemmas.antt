@@ -1,24 +1,24 @@
 -- What is said behind a hearing leaves what that was.
-use Rattle.std.proofs.Common.{◌≡◌, ◌<◌, ◌≤◌, ◌+◌, ◌-◌, ◌^◌, min, ℕ, List, [], ◌∷◌, ◌++◌, length, take, get_or, set, Bool, true, false, Option, Some, None, IfSome, Result, Ok, Err, refl, sym, ap, ◌∙◌, subst, arith, inl, inr}
+use Rattle.std.proofs.Common.{◌≡◌, ◌<◌, ◌≤◌, ◌+◌, min, ℕ, List, [], ◌∷◌, ◌++◌, length, take, set, true, Option, Some, None, IfSome, Result, Ok, Err, refl, sym, ap, ◌∙◌, subst, arith, inl, inr}
 use Rattle.std.proofs.lemmas.Bool.{cases_eq, cases_lt, false≢true}
 use Rattle.std.proofs.lemmas.List.{get_or-set_same, get_or_past, length-append, length-take}
 use Rattle.tk_base.specs.declared.memory.NoMemory.{NoMemory}
 use Rattle.tk_coord.specs.Coordinator.{CoordinatorView}
 use Rattle.tk_end.proofs.PassingLemmas.{passes_said}
-use Rattle.tk_end.specs.Link.{LinkView, Passes, Says}
+use Rattle.tk_end.specs.Link.{LinkView, Says}
 use Rattle.tk_frames.specs.Answer.{Answers}
 use Rattle.tk_frames.specs.declared.answer.Next.{Next}
 use Rattle.tk_frames.specs.declared.answer.Next.TheVariants as n
 use Rattle.tk_frames.specs.declared.frame.Frame.{Frame}
 use Rattle.tk_journal.specs.Links.{frames_to}
-use Rattle.tk_wire.specs.Meanings.{Counts, HasRisen, raised_by}
+use Rattle.tk_wire.specs.Meanings.{raised_by}
 use Rattle.tk_wire.specs.Parse.{spellings}
 use Rattle.tk_wire.specs.declared.out_buffer.Pushed.{Pushed}
 use Rattle.tk_wire.specs.declared.out_buffer.Pushed.TheVariants as p
-use Rattle.tk_hub.proofs.HearLemmas.{all_ends, at_other, gives_on, if_some_map, passes_at_on, passes_set, steady_kept}
+use Rattle.tk_hub.proofs.HearLemmas.{all_ends, at_other, gives_on, passes_at_on, passes_set}
 use Rattle.tk_hub.specs.Seats.{AreSeats, HasGiven, SeatsView, link_at}
 use Rattle.tk_hub.specs.Slot.{SaysAt, SeatSays}
-use Rattle.tk_hub.specs.Turn.{CountsEach, EachSaid, EachSteady, EndsAt, EndsEach, FailsAt, HasSaid, Hears, IsDrained, IsStopGiven, PassesAt, SomeFails, SteadyAt, goes_on, joined}
+use Rattle.tk_hub.specs.Turn.{CountsEach, EachSaid, EachSteady, EndsAt, EndsEach, HasSaid, Hears, IsStopGiven, PassesAt, SomeFails, SteadyAt, goes_on}
 use Rattle.tk_hub.specs.declared.course.HubTurn.{HubTurn}
 use Rattle.tk_hub.specs.declared.course.HubTurn.TheVariants as t
 
@@ -46,22 +46,28 @@ stop_said mon c x y s g =
 answers_said : {W : Type 0} (frames : List Frame) (x y : LinkView W) (next : Next) → Says frames x y → Answers x.version x.unread next → Answers y.version y.unread next
 answers_said frames x y next s a = subst (λ v. Answers v y.unread next) (sym s.version) (subst (λ xs. Answers x.version xs next) (sym s.unread) a)
 
-ends_said : {W : Type 0} (mon : ℕ) (c : CoordinatorView) (turn : HubTurn) (x y : LinkView W) → goes_on turn ≡ true → Says (frames_to mon c.journal) x y → EndsAt mon c x turn → EndsAt mon c y turn
-ends_said mon c t.Quiet x y goes s (inl e) = inl (answers_said (frames_to mon c.journal) x y n.Part s e.0, λ tells. let told = sym s.tells ∙ tells in (s.departed told).waiting ∙ e.1 told)
-ends_said mon c t.Quiet x y goes s (inr e) = inr (stop_said mon c x y s e)
-ends_said mon c t.More x y goes s (inl e) = inl (answers_said (frames_to mon c.journal) x y n.Part s e)
-ends_said mon c t.More x y goes s (inr e) = inr (stop_said mon c x y s e)
-ends_said mon c t.Finished x y goes s e = absurd (cc)
-ends_said mon c t.Failed x y goes s e = absurd (cc)
-ends_said mon c (t.Refused m why) x y goes s e = absurd (cc)
-ends_said mon c (t.Bad m fault) x y goes s e = absurd (cc)
-ends_said mon c t.WriteFailed x y goes s e = absurd (cc)
-ends_said mon c t.NoMemory x y goes s e = absurd (cc)
+-- a saying finds no end
+ends_counted : {W : Type 0} (mon : ℕ) (c : CoordinatorView) (result : Result Pushed NoMemory) (x y : LinkView W) → SaysAt mon c result x y → y.counts.ends ≡ x.counts.ends
+ends_counted mon c (Ok p.Empty) x y s = ap (λ k. k.ends) s.counted
+ends_counted mon c (Ok p.NotYet) x y s = ap (λ k. k.ends) s.counted
+ends_counted mon c (Ok p.Failed) x y s = ap (λ k. k.ends) s.counted
+ends_counted mon c (Err e) x y s = ap (λ k. k.ends) s.err.1
+
+ends_said : {W : Type 0} (mon : ℕ) (c : CoordinatorView) (turn : HubTurn) (x y : LinkView W) → goes_on turn ≡ true → Says (frames_to mon c.journal) x y → y.counts.ends ≡ x.counts.ends → EndsAt mon c x turn → EndsAt mon c y turn
+ends_said mon c t.Quiet x y goes s ends (all, inl e) = (answers_said (frames_to mon c.journal) x y n.Part s all, inl (λ tells. let told = sym s.tells ∙ tells in (s.departed told).waiting ∙ e told))
+ends_said mon c t.Quiet x y goes s ends (all, inr e) = (answers_said (frames_to mon c.journal) x y n.Part s all, inr (stop_said mon c x y s e.0, omega (arith, ends, e.1)))
+ends_said mon c t.More x y goes s ends e = answers_said (frames_to mon c.journal) x y n.Part s e
+ends_said mon c t.Finished x y goes s ends e = absurd (cc)
+ends_said mon c t.Failed x y goes s ends e = absurd (cc)
+ends_said mon c (t.Refused m why) x y goes s ends e = absurd (cc)
+ends_said mon c (t.Bad m fault) x y goes s ends e = absurd (cc)
+ends_said mon c t.WriteFailed x y goes s ends e = absurd (cc)
+ends_said mon c t.NoMemory x y goes s ends e = absurd (cc)
 
 ends_seat : {W : Type 0} (mon : ℕ) (c : CoordinatorView) (turn : HubTurn) (result : Result Pushed NoMemory) (x y : Option (LinkView W)) → goes_on turn ≡ true → SeatSays mon c result x y → IfSome x (λ link. EndsAt mon c link turn) → IfSome y (λ link. EndsAt mon c link turn)
 ends_seat mon c turn result None y goes s e = subst (λ o. IfSome o (λ link. EndsAt mon c link turn)) (sym s.0) tt
 ends_seat mon c turn result (Some x) None goes s e = absurd s
-ends_seat mon c turn result (Some x) (Some y) goes s e = ends_said mon c turn x y goes s.says e
+ends_seat mon c turn result (Some x) (Some y) goes s e = ends_said mon c turn x y goes s.says (ends_counted mon c result x y s) e
 
 passes_seat : {W : Type 0} (mon : ℕ) (c : CoordinatorView) (result : Result Pushed NoMemory) (x y : Option (LinkView W)) → SeatSays mon c result x y → PassesAt x y
 passes_seat mon c result None y s = s.0
@@ -95,8 +101,8 @@ steady_all p c result old mid y other within s each = λ i. elim (cases_eq i p) 
   | inr apart ↦ subst (SteadyAt (i + 1) c (link_at old i)) (sym (at_other mid p i y apart)) (each i)
 ]
 
-risen : (a b x : ℕ) → b ≡ a → x ≡ raised_by 1 b → HasRisen a x
-risen a b x same is = λ few. omega (arith, same, is, few)
+raised : (a b x : ℕ) → b ≡ a → x ≡ raised_by 1 b → x ≡ raised_by 1 a
+raised a b x same is = is ∙ ap (raised_by 1) same
 
 fails_said : {W : Type 0} (q : ℕ) (c : CoordinatorView) (old new : List (Option (LinkView W))) (o x y : Option (LinkView W)) → link_at old q ≡ o → link_at new q ≡ y → PassesAt o x → SteadyAt (q + 1) c o x → SeatSays (q + 1) c (Ok p.Failed) x y → SomeFails c old new
 fails_said q c old new o None y was is passes k s = absurd (let e = s.1 in cc)
@@ -108,7 +114,7 @@ fails_said q c old new (Some o) (Some x) (Some y) was is passes k s = record {
   now = y;
   was = was;
   is = is;
-  fails = inl (risen o.counts.faults x.counts.faults y.counts.faults k.0 (ap (λ z. z.faults) s.counted));
+  fails = inl (raised o.counts.faults x.counts.faults y.counts.faults k.0 (ap (λ z. z.faults) s.counted));
 }
 
 -- ---- a hearing, and then one saying

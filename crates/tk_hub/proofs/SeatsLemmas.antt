@@ -1,5 +1,5 @@
 -- What the seats keep, over each of their calls.
-use Rattle.std.proofs.Common.{◌≡◌, ◌<◌, ◌≤◌, ◌+◌, ◌-◌, ℕ, suc, zero, List, [], ◌∷◌, ◌++◌, length, take, get_or, set, replicate, Option, Some, None, Result, refl, sym, ap, ◌∙◌, subst, arith, true, inl, inr}
+use Rattle.std.proofs.Common.{◌≡◌, ◌<◌, ◌≤◌, ◌+◌, ◌-◌, ℕ, suc, zero, List, [], ◌∷◌, ◌++◌, length, take, get_or, set, replicate, Option, Some, None, Result, refl, sym, ap, ◌∙◌, subst, arith, inl, inr}
 use Rattle.std.proofs.lemmas.Bool.{cases_eq}
 use Rattle.std.proofs.lemmas.List.{get_or_default, get_or-set_other, get_or-set_same, length-replicate, length-set, length-take}
 use Rattle.tk_base.specs.History.{IsFront}
@@ -11,7 +11,6 @@ use Rattle.tk_end.proofs.HearingLemmas.{front_refl}
 use Rattle.tk_end.specs.Hearing.{Hears}
 use Rattle.tk_end.specs.Link.{IsEnd, IsShut, LinkView, Says}
 use Rattle.tk_frames.specs.Spelling.{IsVersion}
-use Rattle.tk_frames.specs.declared.frame.Frame.{Frame}
 use Rattle.tk_frames.specs.declared.frame.Frame.TheVariants as f
 use Rattle.tk_journal.proofs.WholeLemmas.{goes_on}
 use Rattle.tk_journal.specs.Laws.{IsMonitor}

@@ -1,5 +1,5 @@
 -- A turn of a hub, put together of its parts.
-use Rattle.std.proofs.Common.{◌≡◌, ◌<◌, ◌≤◌, ◌+◌, ◌-◌, ℕ, List, [], ◌++◌, length, take, get_or, set, Bool, true, false, Option, Some, None, IfSome, Result, IsErr, is_err, refl, sym, ap, ◌∙◌, subst, arith, inl, inr}
+use Rattle.std.proofs.Common.{◌≡◌, ◌<◌, ◌+◌, ℕ, List, ◌++◌, length, take, set, true, false, Option, Some, None, IfSome, Result, IsErr, is_err, refl, sym, ap, ◌∙◌, subst, arith, inl, inr}
 use Rattle.std.proofs.lemmas.Bool.{cases_eq, false≢true}
 use Rattle.std.proofs.lemmas.List.{get_or-set_other, get_or-set_same, take-take, take_at}
 use Rattle.std.specs.List.{list_any}
@@ -17,9 +17,10 @@ use Rattle.tk_hub.proofs.SeatsLemmas.{front_size}
 use Rattle.tk_hub.specs.Desk.{getting}
 use Rattle.tk_hub.specs.Door.{GreetsHeld, LobbyView}
 use Rattle.tk_hub.specs.Hub.{EachOpen, Exchanges, IsFinishedBy, SlotPasses, Works}
-use Rattle.tk_hub.specs.Lines.{IsAt, is_tuned}
+use Rattle.tk_ledger.specs.Text.{is_tuned}
+use Rattle.tk_hub.specs.Lines.{IsAt}
 use Rattle.tk_hub.specs.Seats.{SeatsView, link_at}
-use Rattle.tk_hub.specs.Turn.{CountsEach, EachSaid, EndsEach, Hears, PassesAt, Reaches, Stays, Takes, goes_on}
+use Rattle.tk_hub.specs.Turn.{EachSaid, EndsEach, Hears, PassesAt, Reaches, Stays, Takes, goes_on}
 use Rattle.tk_hub.specs.declared.course.HubTurn.{HubTurn}
 use Rattle.tk_hub.specs.declared.course.HubTurn.TheVariants as t
 use Rattle.tk_hub.specs.declared.lines.Lines.{Lines}

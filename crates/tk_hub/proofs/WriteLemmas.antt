@@ -1,12 +1,12 @@
 -- The lines that a turn writes.
-use Rattle.std.proofs.Common.{◌≡◌, ◌<◌, ◌≤◌, ◌-◌, ℕ, List, [], ◌++◌, length, take, drop, Option, Some, None, refl, sym, ap, ◌∙◌, subst, arith, append-nil, All}
+use Rattle.std.proofs.Common.{◌≡◌, ◌≤◌, ◌-◌, ℕ, List, [], ◌++◌, take, drop, Option, Some, None, refl, sym, ap, ◌∙◌, arith, append-nil, All}
 use Rattle.std.specs.List.{concat}
-use Rattle.std.specs.Prelude.{slice_range, option_map}
 use Rattle.tk_input.specs.Sink.{Grows}
 use Rattle.tk_journal.specs.Entries.{IsEntryOf}
 use Rattle.tk_journal.specs.declared.noted.Noted.{Noted}
 use Rattle.tk_journal.specs.declared.noted.Noted.TheVariants as n
-use Rattle.tk_hub.specs.Lines.{AreNamed, lines_of, text_between, written_in}
+use Rattle.tk_ledger.specs.Text.{lines_of}
+use Rattle.tk_hub.specs.Lines.{AreNamed, text_between, written_in}
 use Rattle.tk_hub.specs.Writing.{WritesLines}
 use Rattle.tk_hub.specs.declared.lines.Lines.{Lines}
 

@@ -1,12 +1,14 @@
 -- The coordinator as one who takes frames of monitors and has frames for them.
-use Rattle.std.specs.Prelude.{ℕ, ◌<◌, ◌≤◌, ◌++◌, Bool, false, List, Option}
+use Rattle.std.specs.Prelude.{ℕ, ◌<◌, ◌≤◌, ◌++◌, Bool, false, List, Option, pos}
 use Rattle.tk_coord.specs.Coordinator.{CoordinatorView}
 use Rattle.tk_frames.specs.declared.frame.Frame.{Frame}
 use Rattle.tk_journal.specs.Legal.{turn_of}
 use Rattle.tk_journal.specs.Links.{frames_from, frames_to}
-use Rattle.tk_journal.specs.Refusal.{refusal_of}
-use Rattle.tk_journal.specs.declared.noted.Noted.TheVariants.{Got}
+use Rattle.tk_journal.specs.Refusal.{refusal_of, retune_refusal_of}
+use Rattle.tk_journal.specs.declared.noted.Noted.{Noted}
+use Rattle.tk_journal.specs.declared.noted.Noted.TheVariants.{Got, Tuned}
 use Rattle.tk_journal.specs.declared.refusal.CoordRefusal.{CoordRefusal}
+use Rattle.tk_journal.specs.declared.refusal.RetuneRefusal.{RetuneRefusal}
 use Rattle.tk_hub.specs.declared.desk.Desk.{Desk}
 
 -- there is such a monitor
@@ -33,3 +35,10 @@ getting c mon frame = record c { journal = c.journal ++ turn_of c.settings c.jou
 
 abbrev pub takes : ℕ → Frame → Desk → Desk
 takes mon frame desk = record desk { coordinator = getting desk.coordinator mon frame }
+
+-- the first reason against another k and epsilon, if there is one, and the journal once they are taken
+abbrev pub refuses_to_tune : CoordinatorView → ℕ → ℕ → Option RetuneRefusal
+refuses_to_tune c k epsilon = retune_refusal_of c.settings c.journal k epsilon
+
+abbrev pub tuned : CoordinatorView → ℕ → ℕ → List Noted
+tuned c k epsilon = c.journal ++ turn_of c.settings c.journal (Tuned k (pos epsilon))

@@ -1,11 +1,11 @@
 -- Connections that have said no Hello yet, and what a greeting does with each.
-use Rattle.std.specs.Prelude.{◌≡◌, ◌⊎◌, ℕ, ◌+◌, ◌-◌, ◌≤◌, zero, suc, List, length, set, Option, Some, None, Result, Ok, OnOk, IsErr, ◌↔◌}
+use Rattle.std.specs.Prelude.{◌≡◌, ◌⊎◌, ℕ, ◌+◌, ◌-◌, ◌≤◌, zero, suc, Bool, List, [], length, set, Option, Some, None, Result, Ok, OnOk, IsErr, ◌↔◌}
 use Rattle.slab.specs.Slab.{Slab, Updates, get, slab_len}
 use Rattle.tk_base.specs.declared.ids.Mon.{Mon}
 use Rattle.tk_base.specs.declared.memory.NoMemory.{NoMemory}
-use Rattle.tk_wire.specs.Meanings.{raised_by}
+use Rattle.tk_wire.specs.Meanings.{Counts, Traffic, raised_by}
 use Rattle.tk_end.specs.Link.{LinkView}
-use Rattle.tk_hub.specs.Seats.{IsFree}
+use Rattle.tk_hub.specs.Seats.{IsFree, SeatsView}
 use Rattle.tk_hub.specs.Visitor.{Gathers, GoesOn, Greets, HasGreeted, VisitorView}
 use Rattle.tk_hub.specs.declared.visitor.Greeting.{Greeting}
 use Rattle.tk_hub.specs.declared.visitor.Greeting.TheVariants as g
@@ -19,6 +19,21 @@ pub record LobbyView (W : Type 0) : Type 0 where
 pub record DoorView (W : Type 0) : Type 0 where
   pub lobby : LobbyView W
   pub links : List (Option (LinkView W))
+
+-- a lobby beside the seats
+abbrev pub door : {W : Type 0} → LobbyView W → SeatsView W → DoorView W
+door lobby seats = record { lobby = lobby; links = seats.links }
+
+-- one more connection is held, of which nothing came yet
+abbrev pub HoldsNew : {W : Type 0} → Bool → Traffic → Counts → W → Slab (VisitorView W) → Slab (VisitorView W) → Type 0
+HoldsNew tells traffic counts wire old new = Updates old new old.vacant_key (Some (record {
+  wire = wire;
+  tells = tells;
+  traffic = traffic;
+  counts = counts;
+  bytes = [];
+  front = None;
+}))
 
 -- the connection is held on, with what came since
 pub record StaysHeld {W : Type 0} (key : ℕ) (after : VisitorView W) (old new : DoorView W) : Type 0 where

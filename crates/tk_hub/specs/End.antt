@@ -1,5 +1,6 @@
 -- What is left of a hub that is done with, and what its wires in memory give and get.
-use Rattle.std.specs.Prelude.{◌≡◌, ◌<◌, ◌≤◌, ◌-◌, ℕ, List, [], length, map, filter_map, take, min, true, false, Option, Some, None, IfSome, is_some, ⊤}
+use Rattle.std.specs.Prelude.{◌≡◌, ◌+◌, ℕ, Bool, List, filter_map, Option, Some, None, IfSome}
+use Rattle.std.specs.List.{list_any}
 use Rattle.std.specs.Option.{option_map}
 use Rattle.tk_base.specs.declared.ids.Mon.{Mon}
 use Rattle.tk_frames.specs.declared.answer.BadFrame.{BadFrame}
@@ -8,13 +9,14 @@ use Rattle.tk_journal.specs.declared.noted.Noted.{Noted}
 use Rattle.tk_story.specs.declared.ends.received.Received.{Received}
 use Rattle.tk_story.specs.declared.ends.received.Received.TheVariants as r
 use Rattle.tk_wire.specs.Meanings.{Counts}
-use Rattle.tk_wire.specs.Pipe.{Queue, free, with_more, without}
-use Rattle.tk_wire.specs.PipeWire.{MemoryWire, drained, filled, left_in, with_traffic}
+use Rattle.tk_wire.specs.Pipe.{Queue}
+use Rattle.tk_wire.specs.PipeWire.{MemoryWire}
 use Rattle.tk_end.specs.Inbox.{IsOdd}
-use Rattle.tk_end.specs.Link.{Covers, LinkView, over}
+use Rattle.tk_end.specs.Link.{Covers, LinkView}
+use Rattle.tk_end.specs.Piping.{Drains, Fills}
 use Rattle.tk_hub.specs.Hub.{HubView}
 use Rattle.tk_hub.specs.Seats.{heard_at, link_at}
-use Rattle.tk_hub.specs.Turn.{HoldsAt}
+use Rattle.tk_hub.specs.Turn.{HoldsAt, is_lost}
 use Rattle.tk_hub.specs.declared.course.Course.{Course}
 use Rattle.tk_hub.specs.declared.course.Course.TheVariants as cs
 
@@ -30,6 +32,18 @@ wires_of links = filter_map wire_of links
 -- the wire of a monitor took no fewer bytes than Hello has, with the frames that the journal got of it and what came since
 abbrev pub CoversHeard : {W : Type 0} → (W → Counts) → ℕ → List Noted → ℕ → LinkView W → Type 0
 CoversHeard counts run journal mon link = Covers link.version (heard_at run journal mon link) link.unread (counts link.wire).taken
+
+-- so each wire of those that were admitted
+abbrev pub EachCovers : {W : Type 0} → (W → Counts) → HubView W → Type 0
+EachCovers counts hub = (place : ℕ) → IfSome (link_at hub.links place) (CoversHeard counts hub.run hub.coordinator.journal (place + 1))
+
+-- the counts of each link are those of its wire
+abbrev pub AreCounted : {W : Type 0} → (W → Counts) → List (Option (LinkView W)) → Type 0
+AreCounted counts links = (place : ℕ) → IfSome (link_at links place) (λ link. counts link.wire ≡ link.counts)
+
+-- whether some wire failed, or has ended
+abbrev pub is_some_lost : {W : Type 0} → (W → Counts) → List W → Bool
+is_some_lost counts wires = list_any (λ wire. is_lost (counts wire)) wires
 
 -- ---- what came next and was not taken
 
@@ -61,20 +75,6 @@ abbrev pub IsLeft : {W : Type 0} → HubView W → Option (Mon × Received) → 
 IsLeft hub odd = LeavesOdd hub.course hub.links odd
 
 -- ---- wires in memory
-
--- bytes went from the front of the wire's outbox to the end of a pipe, as many as both let; none where the link is shut
-pub record Drains (moved : ℕ) (x y : LinkView MemoryWire) (before now : Queue) : Type 0 where
-  pub shut : x.shut ≡ true → moved ≡ 0
-  pub value : x.shut ≡ false → moved ≡ min x.wire.piece (min (length x.traffic.held) (free before))
-  pub wire : y ≡ over (with_traffic (drained moved x.traffic) x.wire) x
-  pub pipe : now ≡ with_more (take moved x.traffic.held) before
-
--- bytes went from the front of a pipe to the end of the wire's inbox, as many as both let; none where the link is shut
-pub record Fills (moved : ℕ) (x y : LinkView MemoryWire) (before now : Queue) : Type 0 where
-  pub shut : x.shut ≡ true → moved ≡ 0
-  pub value : x.shut ≡ false → moved ≡ min x.wire.piece (min (length before.bytes) (left_in x.traffic))
-  pub wire : y ≡ over (with_traffic (filled (take moved before.bytes) x.traffic) x.wire) x
-  pub pipe : now ≡ without moved before
 
 -- at a seat that is free nothing moves
 abbrev pub SeatDrains : ℕ → Option (LinkView MemoryWire) → Option (LinkView MemoryWire) → Queue → Queue → Type 0

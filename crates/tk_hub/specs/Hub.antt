@@ -9,8 +9,9 @@ use Rattle.tk_hub.specs.Door.{DoorView, GreetsHeld, LobbyView}
 use Rattle.tk_hub.specs.Lines.{IsAt}
 use Rattle.tk_hub.specs.Seats.{AreSeats, EachShuts, IsAllGiven, SeatsView, link_at}
 use Rattle.tk_hub.specs.Slot.{EndsOne, TakesUpTo}
-use Rattle.tk_hub.specs.Turn.{CountsAt, CountsEach, EachSaid, EndsEach, GivesPieces, HoldsAt, IsBadAt, IsRefusedAt, Reaches, course_of, goes_on, is_open}
+use Rattle.tk_hub.specs.Turn.{CountsAt, CountsEach, EachSaid, EndsEach, GivesPieces, HoldsAt, IsBadAt, IsRefusedAt, Reaches, SomeLost, course_of, goes_on, is_open}
 use Rattle.tk_hub.specs.Visitor.{VisitorView}
+use Rattle.tk_hub.specs.Writing.{CutsWhere, WritesUnless}
 use Rattle.tk_hub.specs.declared.course.Course.{Course}
 use Rattle.tk_hub.specs.declared.course.Course.TheVariants as cs
 use Rattle.tk_hub.specs.declared.course.HubTurn.{HubTurn}
@@ -34,6 +35,17 @@ seats_of hub = record { run = hub.run; coordinator = hub.coordinator; links = hu
 abbrev pub door_of : {W : Type 0} → HubView W → DoorView W
 door_of hub = record { lobby = record { held = hub.held; strangers = hub.strangers }; links = hub.links }
 
+-- the hub before, but with another door
+abbrev pub with_door : {W : Type 0} → DoorView W → HubView W → HubView W
+with_door now hub = record hub { held = now.lobby.held; strangers = now.lobby.strangers; links = now.links }
+
+-- what a turn writes: the lines of the publications that were passed since and, where the sink failed, a front of the next
+abbrev pub Writes : {W : Type 0} → HubTurn → List (List ℕ) → HubView W → HubView W → Option (List ℕ) → Option (List ℕ) → Type 0
+Writes turn names old new before now = WritesUnless turn names new.coordinator.journal old.lines new.lines before now
+
+abbrev pub Cuts : {W : Type 0} → HubTurn → List (List ℕ) → HubView W → HubView W → Option (List ℕ) → Option (List ℕ) → Type 0
+Cuts turn names old new before now = CutsWhere turn names new.coordinator.journal old.lines new.lines before now
+
 -- ---- the course
 
 abbrev pub EachOpen : {W : Type 0} → List (Option (LinkView W)) → Type 0
@@ -48,7 +60,7 @@ pub record IsClosed {W : Type 0} (links : List (Option (LinkView W))) (held : Sl
 abbrev pub IsOnCourse : {W : Type 0} → CoordinatorView → List (Option (LinkView W)) → Slab (VisitorView W) → Course → Type 0
 IsOnCourse coordinator links held cs.Open = EachOpen links
 IsOnCourse coordinator links held cs.Halted = IsClosed links held
-IsOnCourse coordinator links held cs.Failed = IsClosed links held
+IsOnCourse coordinator links held cs.Failed = IsClosed links held × SomeLost links
 IsOnCourse coordinator links held (cs.Refused mon why) = IsClosed links held × HoldsAt links mon.0 (IsRefusedAt mon.0 coordinator why)
 IsOnCourse coordinator links held (cs.Bad mon fault) = IsClosed links held × HoldsAt links mon.0 (IsBadAt fault)
 IsOnCourse coordinator links held cs.WriteFailed = IsClosed links held

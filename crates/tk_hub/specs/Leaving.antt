@@ -1,11 +1,10 @@
 -- How a hub leaves its seats one by one. No public clause cites it.
-use Rattle.std.specs.Prelude.{◌≡◌, ◌⊎◌, ◌<◌, ◌≤◌, ◌-◌, ℕ, List, length, Option, None, IfSome, ⊤}
+use Rattle.std.specs.Prelude.{◌≡◌, ◌⊎◌, List, Option, None, ⊤}
 use Rattle.tk_base.specs.declared.ids.Mon.{Mon}
 use Rattle.tk_story.specs.declared.ends.received.Received.{Received}
-use Rattle.tk_wire.specs.Meanings.{Counts}
 use Rattle.tk_end.specs.Link.{LinkView}
 use Rattle.tk_hub.specs.End.{IsOddBytes, IsOddFrame}
-use Rattle.tk_hub.specs.Seats.{SeatsView, link_at}
+use Rattle.tk_hub.specs.Seats.{SeatsView}
 use Rattle.tk_hub.specs.Turn.{HoldsAt, IsBadAt, IsRefusedAt}
 use Rattle.tk_hub.specs.declared.course.Course.{Course}
 use Rattle.tk_hub.specs.declared.course.Course.TheVariants as cs
@@ -49,7 +48,3 @@ IsLeftOn cs.Failed seats = ⊤
 IsLeftOn (cs.Refused mon why) seats = HoldsAt seats.links mon.0 (IsRefusedAt mon.0 seats.coordinator why)
 IsLeftOn (cs.Bad mon fault) seats = HoldsAt seats.links mon.0 (IsBadAt fault)
 IsLeftOn cs.WriteFailed seats = ⊤
-
--- the counts of each link are those of its wire
-abbrev pub AreCounted : {W : Type 0} → (W → Counts) → List (Option (LinkView W)) → Type 0
-AreCounted counts links = (place : ℕ) → IfSome (link_at links place) (λ link. counts link.wire ≡ link.counts)

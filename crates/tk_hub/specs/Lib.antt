@@ -12,3 +12,5 @@ pub mod VisitorInside
 pub mod Writing
 pub use Rattle.tk_end.specs.Hearing
 pub use Rattle.tk_end.specs.Link
+pub use Rattle.tk_end.specs.Piping
+pub use Rattle.tk_ledger.specs.Text

@@ -1,5 +1,5 @@
 -- The coordinator with a seat for each monitor, which is taken once that has greeted.
-use Rattle.std.specs.Prelude.{◌≡◌, ◌<◌, ◌≤◌, ℕ, ◌+◌, ◌-◌, List, [], ◌∷◌, length, take, get_or, Option, Some, None, ⊤}
+use Rattle.std.specs.Prelude.{◌≡◌, ◌<◌, ◌≤◌, ℕ, ◌+◌, ◌-◌, Bool, false, not, ◌&&◌, nat_lt, List, [], ◌∷◌, length, take, get_or, set, Option, Some, None, ⊤}
 use Rattle.tk_coord.specs.Coordinator.{CoordinatorView, IsJournal}
 use Rattle.tk_frames.specs.Spelling.{IsVersion}
 use Rattle.tk_frames.specs.declared.frame.Frame.{Frame}
@@ -14,9 +14,34 @@ pub record SeatsView (W : Type 0) : Type 0 where
   pub coordinator : CoordinatorView
   pub links : List (Option (LinkView W))
 
+-- how many monitors there are
+abbrev pub monitors_of : {W : Type 0} → SeatsView W → ℕ
+monitors_of seats = seats.coordinator.settings.monitors
+
 -- the link at a place from 0, if that seat is taken
 abbrev pub link_at : {W : Type 0} → List (Option (LinkView W)) → ℕ → Option (LinkView W)
 link_at links place = get_or links place None
+
+-- the link of a monitor, if that is admitted
+abbrev pub link_of : {W : Type 0} → List (Option (LinkView W)) → ℕ → Option (LinkView W)
+link_of links mon = link_at links (mon - 1)
+
+-- the links before, but for that of one monitor as it is now
+abbrev pub with_link : {W : Type 0} → ℕ → List (Option (LinkView W)) → List (Option (LinkView W)) → List (Option (LinkView W))
+with_link mon now links = set links (mon - 1) (link_of now mon)
+
+-- the seats before, but with the coordinator and the link of one monitor as they are now
+abbrev pub with_seat : {W : Type 0} → ℕ → SeatsView W → SeatsView W → SeatsView W
+with_seat mon now seats = record seats { coordinator = now.coordinator; links = with_link mon now.links seats.links }
+
+-- whether a seat is taken by a link that is not shut
+abbrev pub is_used : {W : Type 0} → Option (LinkView W) → Bool
+is_used None = false
+is_used (Some link) = not link.shut
+
+-- whether a monitor is admitted, by a connection that is not shut
+abbrev pub admits : {W : Type 0} → List (Option (LinkView W)) → ℕ → Bool
+admits links mon = nat_lt 0 mon && is_used (link_of links mon)
 
 -- the frames that were heard of a monitor: its Hello, and those that the coordinator has taken
 abbrev pub heard_at : {W : Type 0} → ℕ → List Noted → ℕ → LinkView W → List Frame

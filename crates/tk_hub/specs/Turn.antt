@@ -1,5 +1,5 @@
 -- What a turn does with the links, why it ended, and what it leaves.
-use Rattle.std.specs.Prelude.{◌≡◌, ◌<◌, ◌≤◌, ◌⊎◌, ℕ, ◌+◌, ◌-◌, List, [], length, Bool, true, false, Option, Some, None, IfSome, ⊤}
+use Rattle.std.specs.Prelude.{◌≡◌, ◌<◌, ◌⊎◌, ℕ, ◌+◌, ◌-◌, List, [], length, Bool, true, false, ◌||◌, nat_lt, Option, Some, None, IfSome, ⊤}
 use Rattle.tk_coord.specs.Coordinator.{CoordinatorView}
 use Rattle.tk_frames.specs.declared.frame.Frame.{Frame}
 use Rattle.tk_frames.specs.declared.answer.Next.TheVariants as n
@@ -10,7 +10,7 @@ use Rattle.tk_journal.specs.Readings.{is_stopped}
 use Rattle.tk_journal.specs.Refusal.{refusal_of}
 use Rattle.tk_journal.specs.declared.refusal.CoordRefusal.{CoordRefusal}
 use Rattle.tk_wire.specs.Buffered.{IsFull}
-use Rattle.tk_wire.specs.Meanings.{Counts, HasRisen}
+use Rattle.tk_wire.specs.Meanings.{Counts, raised_by}
 use Rattle.tk_end.specs.Hearing.{IsRefused}
 use Rattle.tk_end.specs.Link.{LinkView, Passes}
 use Rattle.tk_hub.specs.Desk.{getting, refuses}
@@ -90,9 +90,13 @@ pub record IsStopGiven {W : Type 0} (mon : ℕ) (c : CoordinatorView) (link : Li
   pub written : link.written ≡ length (frames_to mon c.journal)
   pub given : link.output ≡ []
 
--- no frame is whole, and nothing waits on the wire
-abbrev pub IsDrained : {W : Type 0} → LinkView W → Type 0
-IsDrained link = Answers link.version link.unread n.Part × (link.tells ≡ true → link.traffic.waiting ≡ [])
+-- every whole frame that came was taken
+abbrev pub IsAllTaken : {W : Type 0} → LinkView W → Type 0
+IsAllTaken link = Answers link.version link.unread n.Part
+
+-- nothing waits on the wire, or it has ended after Stop was given to its monitor
+abbrev pub IsEmptied : {W : Type 0} → ℕ → CoordinatorView → LinkView W → Type 0
+IsEmptied mon c link = (link.tells ≡ true → link.traffic.waiting ≡ []) ⊎ (IsStopGiven mon c link × (0 < link.counts.ends))
 
 -- the next frame of a monitor was read and is refused, and its next bytes are no frame
 abbrev pub IsRefusedAt : {W : Type 0} → ℕ → CoordinatorView → CoordRefusal → LinkView W → Type 0
@@ -109,10 +113,10 @@ pub record HoldsAt {W : Type 0} (links : List (Option (LinkView W))) (mon : ℕ)
   pub holds : P link
 
 -- why the hearing of a link ended: Quiet says that nothing waits, or that the wire ended after Stop was given to it,
--- and both it and More that no frame is whole
+-- and both it and More that every whole frame was taken
 abbrev pub EndsAt : {W : Type 0} → ℕ → CoordinatorView → LinkView W → HubTurn → Type 0
-EndsAt mon c link t.Quiet = IsDrained link ⊎ IsStopGiven mon c link
-EndsAt mon c link t.More = Answers link.version link.unread n.Part ⊎ IsStopGiven mon c link
+EndsAt mon c link t.Quiet = IsAllTaken link × IsEmptied mon c link
+EndsAt mon c link t.More = IsAllTaken link
 EndsAt mon c link t.Finished = ⊥
 EndsAt mon c link t.Failed = ⊤
 EndsAt mon c link (t.Refused of_ why) = (of_.0 ≡ mon) × IsRefusedAt mon c why link
@@ -122,7 +126,8 @@ EndsAt mon c link t.NoMemory = ⊤
 
 -- the wire failed, or ended before Stop was given to it
 abbrev pub FailsAt : {W : Type 0} → ℕ → CoordinatorView → LinkView W → LinkView W → Type 0
-FailsAt mon c old new = HasRisen old.counts.faults new.counts.faults ⊎ (HasRisen old.counts.ends new.counts.ends × (IsStopGiven mon c new → ⊥))
+FailsAt mon c old new =
+    (new.counts.faults ≡ raised_by 1 old.counts.faults) ⊎ ((new.counts.ends ≡ raised_by 1 old.counts.ends) × (IsStopGiven mon c new → ⊥))
 
 -- the wire did not fail, and did not end but after Stop was given to it
 abbrev pub IsSteadyAt : {W : Type 0} → ℕ → CoordinatorView → LinkView W → LinkView W → Type 0
@@ -192,6 +197,14 @@ CountsEach (t.Refused mon why) c old new = EachSteady c old new
 CountsEach (t.Bad mon fault) c old new = EachSteady c old new
 CountsEach t.WriteFailed c old new = EachSteady c old new
 CountsEach t.NoMemory c old new = EachSteady c old new
+
+-- whether a wire failed, or has ended
+abbrev pub is_lost : Counts → Bool
+is_lost counts = nat_lt 0 counts.faults || nat_lt 0 counts.ends
+
+-- some wire of a monitor failed, or has ended
+abbrev pub SomeLost : {W : Type 0} → List (Option (LinkView W)) → Type 0
+SomeLost links = (mon : ℕ) × HoldsAt links mon (λ link. is_lost link.counts ≡ true)
 
 -- why a turn ended: Quiet and More by each link, and a refusal by that of its monitor
 abbrev pub EndsEach : {W : Type 0} → HubTurn → CoordinatorView → List (Option (LinkView W)) → Type 0

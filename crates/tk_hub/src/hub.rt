@@ -1,15 +1,16 @@
-ghost use Rattle.std.specs.Prelude.{◌≡◌, ◌≤◌, ◌-◌, ◌↔◌, [], true, false, None, Ok, Some, IfOk, IsTrue, length, replicate, slice_set};
-ghost use Rattle.slab.specs.Slab.{Updates, slab_len};
+ghost use Rattle.std.specs.Prelude.{◌≡◌, ◌≤◌, ◌↔◌, [], true, None, Ok, Some, IfOk, IsTrue, length, replicate};
+ghost use Rattle.slab.specs.Slab.{slab_len};
+ghost use Rattle.tk_base.specs.History.{IsFront};
 ghost use Rattle.tk_input.specs.Files.{HasRisen};
-ghost use Rattle.tk_journal.specs.Laws.{IsMonitor};
 ghost use Rattle.tk_journal.specs.Legal.{inputs_of};
-ghost use Rattle.tk_hub.specs.Door.{GreetsHeld};
-ghost use Rattle.tk_hub.specs.Hub.{Closes, EachOpen, IsFinished, IsFinishedBy, IsHub, Turns, TurnsOne, Works, door_of};
+ghost use Rattle.tk_hub.specs.Door.{GreetsHeld, HoldsNew, door};
+ghost use Rattle.tk_hub.specs.Hub.{Closes, Cuts, EachOpen, IsFinished, IsFinishedBy, IsHub, Turns, TurnsOne, Works, Writes};
+ghost use Rattle.tk_hub.specs.Hub.{door_of, seats_of, with_door};
 ghost use Rattle.tk_hub.specs.Lines.{IsAt};
-ghost use Rattle.tk_hub.specs.Writing.{CutsLine, WritesLines};
-ghost use Rattle.tk_hub.specs.Seats.{AreSeats, EachShuts, link_at};
+ghost use Rattle.tk_hub.specs.Writing.{CutsWhere, WritesUnless};
+ghost use Rattle.tk_hub.specs.Seats.{AreSeats, EachShuts, admits, link_of, monitors_of, with_link};
 ghost use Rattle.tk_hub.specs.Slot.{SeatSays};
-ghost use Rattle.tk_hub.specs.Turn.{HoldsAt, answer_of, course_of, halted_of, is_open};
+ghost use Rattle.tk_hub.specs.Turn.{answer_of, course_of, halted_of, is_open};
 ghost use Rattle.tk_hub.specs.Visitor.{IsUnused};
 ghost use Rattle.tk_hub.specs.declared.course.HubTurn.{HubTurn as Turned};
 
@@ -92,8 +93,12 @@ fn exchange<W: Wire + Drop, O: Sink>(
     ensures at { IsAt seats.new.coordinator.journal lines.new }
     ensures going { EachOpen seats.old.links → EachOpen seats.new.links }
     ensures few { slab_len lobby.new.held ≤ 64 }
-    ensures lines { (result ≡ HubTurn.WriteFailed → ⊥) → WritesLines names.now seats.new.coordinator.journal lines.old lines.new (O.written out.old) (O.written out.new) }
-    ensures cut { result ≡ HubTurn.WriteFailed → CutsLine names.now seats.new.coordinator.journal lines.old lines.new (O.written out.old) (O.written out.new) }
+    ensures more { lobby.old.strangers ≤ lobby.new.strangers }
+    ensures forward { lines.old.passed ≤ lines.new.passed }
+    ensures lines { WritesUnless result
+        names.now seats.new.coordinator.journal lines.old lines.new (O.written out.old) (O.written out.new) }
+    ensures cut { CutsWhere result
+        names.now seats.new.coordinator.journal lines.old lines.new (O.written out.old) (O.written out.new) }
     ensures failed { result ≡ HubTurn.WriteFailed → HasRisen (O.fault_count out.old) (O.fault_count out.new) }
 {
     if lobby.greet(seats).is_err() {
@@ -119,7 +124,7 @@ fn exchange<W: Wire + Drop, O: Sink>(
 fn conclude<W: Wire + Drop>(seats: &mut Seats<W>, lobby: &mut Lobby<W>, turn: HubTurn) -> Course
     requires { slab_len lobby.old.held ≤ 64 }
     ensures course { result ≡ course_of turn }
-    ensures closes { Closes (is_open (course_of turn)) (record { lobby = lobby.old; links = seats.old.links }) (record { lobby = lobby.new; links = seats.new.links }) }
+    ensures closes { Closes (is_open (course_of turn)) (door lobby.old seats.old) (door lobby.new seats.new) }
     ensures rest { seats.new ≡ record seats.old { links = seats.new.links } }
     ensures kept { AreSeats seats.old → AreSeats seats.new }
     ensures few { slab_len lobby.new.held ≤ 64 }
@@ -179,14 +184,8 @@ impl<W: Wire + Drop> Hub<W> {
         requires unused { IsUnused W.tells (W.traffic wire) }
         requires going { self.old.course ≡ Course.Open }
         ensures closed { (result ≡ Ok Admitted.Closed) ↔ (slab_len self.old.held ≡ 64) }
-        ensures kept { result ≡ Ok Admitted.Kept → Updates self.old.held self.new.held self.old.held.vacant_key (Some (record {
-          wire = wire;
-          tells = W.tells;
-          traffic = W.traffic wire;
-          counts = W.counts wire;
-          bytes = [];
-          front = None;
-        })) }
+        ensures kept { result ≡ Ok Admitted.Kept
+            → HoldsNew W.tells (W.traffic wire) (W.counts wire) wire self.old.held self.new.held }
         ensures same { (result ≡ Ok Admitted.Kept → ⊥) → self.new.held.slots ≡ self.old.held.slots }
         ensures rest { self.new ≡ record self.old { held = self.new.held } }
         ensures hub { IsHub self.new }
@@ -197,8 +196,9 @@ impl<W: Wire + Drop> Hub<W> {
     /// Pulls from each connection without a Hello until its first frame is whole, and admits or closes it.
     pub fn greet(&mut self) -> Result<(), NoMemory>
         requires { self.old.course ≡ Course.Open }
-        ensures greets { GreetsHeld self.old.run self.old.coordinator.settings.monitors result (door_of self.old) (door_of self.new) }
-        ensures rest { self.new ≡ record self.old { held = self.new.held; strangers = self.new.strangers; links = self.new.links } }
+        ensures greets { GreetsHeld self.old.run (monitors_of (seats_of self.old)) result (door_of self.old) (door_of self.new) }
+        ensures more { self.old.strangers ≤ self.new.strangers }
+        ensures rest { self.new ≡ with_door (door_of self.new) self.old }
         ensures kept { IsHub self.new }
     {
         self.lobby.greet(&mut self.seats)
@@ -210,16 +210,24 @@ impl<W: Wire + Drop> Hub<W> {
         requires not_halted { self.old.course ≡ Course.Halted → ⊥ }
         requires written { self.old.course ≡ Course.WriteFailed → ⊥ }
         requires named { self.old.coordinator.settings.objects ≤ length names.now }
-        // A hub that failed gives the same answer, and one that has finished too.
-        ensures closed { (turn : Turned) → answer_of self.old.course ≡ Some turn → (result ≡ turn) × (self.new ≡ self.old) × (out.new ≡ out.old) }
-        ensures finished { self.old.course ≡ Course.Open → IsFinished self.old → (result ≡ HubTurn.Finished) × (self.new ≡ self.old) × (out.new ≡ out.old) }
+        // A hub that failed gives the same answer, one that has finished too, and neither does anything else.
+        ensures closed { (turn : Turned) → answer_of self.old.course ≡ Some turn → (result ≡ turn) × (self.new ≡ self.old) }
+        ensures over { self.old.course ≡ Course.Open → IsFinished self.old → (result ≡ HubTurn.Finished) × (self.new ≡ self.old) }
+        ensures silent { (self.old.course ≡ Course.Open → IsFinished self.old) → out.new ≡ out.old }
+        // Any other takes a turn. Finished says that all lines of all publications are written, and all is given.
         ensures goes { self.old.course ≡ Course.Open → (IsFinished self.old → ⊥) → Turns result self.old self.new }
+        ensures finished { result ≡ HubTurn.Finished → IsFinished self.new }
         // The lines of the publications that were passed are written, and only WriteFailed leaves a part of one.
-        ensures lines { (result ≡ HubTurn.WriteFailed → ⊥)
-            → WritesLines names.now self.new.coordinator.journal self.old.lines self.new.lines (O.written out.old) (O.written out.new) }
-        ensures cut { result ≡ HubTurn.WriteFailed
-            → CutsLine names.now self.new.coordinator.journal self.old.lines self.new.lines (O.written out.old) (O.written out.new) }
+        ensures lines { Writes result names.now self.old self.new (O.written out.old) (O.written out.new) }
+        ensures cut { Cuts result names.now self.old self.new (O.written out.old) (O.written out.new) }
+        ensures forward { self.old.lines.passed ≤ self.new.lines.passed }
         ensures failed { result ≡ HubTurn.WriteFailed → HasRisen (O.fault_count out.old) (O.fault_count out.new) }
+        // Whatever it answers, its course is that of the answer, and what it was made with stays.
+        ensures course { self.new.course ≡ course_of result }
+        ensures run { self.new.run ≡ self.old.run }
+        ensures settings { self.new.coordinator.settings ≡ self.old.coordinator.settings }
+        ensures grows { IsFront self.old.coordinator.journal self.new.coordinator.journal }
+        ensures more { self.old.strangers ≤ self.new.strangers }
         ensures kept { IsHub self.new }
     {
         if let Some(turn) = self.course.answer() {
@@ -240,12 +248,22 @@ impl<W: Wire + Drop> Hub<W> {
         turn
     }
 
+    /// Whether a connection of this monitor is admitted, and not shut.
+    pub fn is_admitted(&self, mon: Mon) -> bool
+        ensures { result ≡ admits self.now.links mon.0 }
+    {
+        self.seats.is_admitted(mon)
+    }
+
     /// Pulls until a frame of this monitor is whole, and takes that one.
     pub fn take_one(&mut self, mon: Mon) -> HubTurn
         requires going { self.old.course ≡ Course.Open }
-        requires monitor { IsMonitor self.old.coordinator.settings mon.0 }
-        requires admitted { HoldsAt self.old.links mon.0 (λ link. link.shut ≡ false) }
+        requires admitted { admits self.old.links mon.0 ≡ true }
         ensures turns { TurnsOne mon.0 result self.old self.new }
+        ensures course { self.new.course ≡ course_of result }
+        ensures run { self.new.run ≡ self.old.run }
+        ensures settings { self.new.coordinator.settings ≡ self.old.coordinator.settings }
+        ensures grows { IsFront self.old.coordinator.journal self.new.coordinator.journal }
         ensures kept { IsHub self.new }
     {
         let turn = self.seats.hear_one(mon);
@@ -256,10 +274,9 @@ impl<W: Wire + Drop> Hub<W> {
     /// Writes the frames for this monitor that are not written, then gives until nothing is left to give.
     pub fn push(&mut self, mon: Mon) -> Result<Pushed, NoMemory>
         requires going { self.old.course ≡ Course.Open }
-        requires monitor { IsMonitor self.old.coordinator.settings mon.0 }
-        requires admitted { HoldsAt self.old.links mon.0 (λ link. link.shut ≡ false) }
-        ensures says { SeatSays mon.0 self.old.coordinator result (link_at self.old.links (mon.0 - 1)) (link_at self.new.links (mon.0 - 1)) }
-        ensures rest { self.new ≡ record self.old { links = slice_set self.old.links (mon.0 - 1) (link_at self.new.links (mon.0 - 1)) } }
+        requires admitted { admits self.old.links mon.0 ≡ true }
+        ensures says { SeatSays mon.0 self.old.coordinator result (link_of self.old.links mon.0) (link_of self.new.links mon.0) }
+        ensures rest { self.new ≡ record self.old { links = with_link mon.0 self.new.links self.old.links } }
         ensures kept { IsHub self.new }
     {
         self.seats.say_at(mon)

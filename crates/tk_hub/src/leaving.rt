@@ -1,8 +1,8 @@
 //! What is left at the seats of a hub that is done with.
 
 ghost use Rattle.std.specs.Prelude.{◌≡◌, ◌≤◌, [], None, length, vec_capacity};
-ghost use Rattle.tk_hub.specs.End.{LeavesOdd, wires_of};
-ghost use Rattle.tk_hub.specs.Leaving.{AreCounted, IsStanding, LeavesAt, StandsAt};
+ghost use Rattle.tk_hub.specs.End.{AreCounted, LeavesOdd, wires_of};
+ghost use Rattle.tk_hub.specs.Leaving.{IsStanding, LeavesAt, StandsAt};
 
 use crate::course::Course;
 use tk_base::Mon;

@@ -1,8 +1,10 @@
-ghost use Rattle.std.specs.Prelude.{◌≡◌, ◌+◌, ◌-◌, ◌^◌, ◌<◌, ◌≤◌, ◌||◌, [], false, length, unwrap_or, IsErrOf, OnOk, OnErr};
+ghost use Rattle.std.specs.Prelude.{◌≡◌, ◌-◌, ◌^◌, ◌<◌, ◌≤◌, [], false, length, unwrap_or, IsErrOf, OnOk, OnErr};
 ghost use Rattle.std.specs.List.{All};
 ghost use Rattle.tk_input.specs.Files.{HasRisen};
 ghost use Rattle.tk_input.specs.Sink.{Grows, GrowsByFront};
-ghost use Rattle.tk_hub.specs.Lines.{AreNamed, IsAt, IsCutShort, is_tuned, line_at, line_faults, text_between, text_from, written_in};
+ghost use Rattle.tk_ledger.specs.Text.{line_at};
+ghost use Rattle.tk_hub.specs.Lines.{AreNamed, IsAt, line_faults, passing};
+ghost use Rattle.tk_hub.specs.Writing.{CutsLine, WritesLines};
 ghost use Rattle.tk_hub.specs.declared.lines.LineFault.TheVariants.{NoMemory as OutOfMemory, WriteFailed as NotWritten};
 
 use std::alloc::Global;
@@ -61,7 +63,7 @@ impl Lines {
     ) -> Result<(), LineFault>
         requires room { self.old.passed < 2 ^ 64 - 1 }
         requires named { AreNamed (length names.now) entry.now }
-        ensures ok { OnOk result (self.new ≡ record { passed = self.old.passed + 1; tuned = self.old.tuned || is_tuned entry.now }) }
+        ensures ok { OnOk result (self.new ≡ passing entry.now self.old) }
         ensures err { OnErr result (self.new ≡ self.old) }
         ensures written { let line = unwrap_or (line_at names.now self.old.tuned entry.now) [] in
             OnOk result (Grows (O.written out.old) (O.written out.new) line) }
@@ -97,13 +99,12 @@ impl Lines {
         ensures forward { self.old.passed ≤ self.new.passed }
         ensures all { OnOk result (self.new.passed ≡ length journal.now) }
         // Without a fault of writing, the lines of those publications are written that were passed since.
-        ensures ok { let from = written_in journal.now self.old in let to = written_in journal.now self.new in
-            OnOk result (Grows (O.written out.old) (O.written out.new) (text_between names.now journal.now from to)) }
-        ensures memory { let from = written_in journal.now self.old in let to = written_in journal.now self.new in
-            IsErrOf result LineFault.NoMemory → Grows (O.written out.old) (O.written out.new) (text_between names.now journal.now from to) }
+        ensures ok { OnOk result (WritesLines names.now journal.now self.old self.new (O.written out.old) (O.written out.new)) }
+        ensures memory { IsErrOf result LineFault.NoMemory
+            → WritesLines names.now journal.now self.old self.new (O.written out.old) (O.written out.new) }
         // With one, a front of the next line may stand behind them.
-        ensures cut { let from = written_in journal.now self.old in let to = written_in journal.now self.new in
-            IsErrOf result LineFault.WriteFailed → IsCutShort (text_between names.now journal.now from to) (text_from names.now journal.now to) (O.written out.old) (O.written out.new) }
+        ensures cut { IsErrOf result LineFault.WriteFailed
+            → CutsLine names.now journal.now self.old self.new (O.written out.old) (O.written out.new) }
         ensures failed { IsErrOf result LineFault.WriteFailed → HasRisen (O.fault_count out.old) (O.fault_count out.new) }
         ensures counted { O.fault_count out.new ≡ line_faults result (O.fault_count out.old) }
     {

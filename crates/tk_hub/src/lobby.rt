@@ -2,9 +2,9 @@ ghost use Rattle.std.specs.Prelude.{◌≡◌, ◌↔◌, ◌+◌, ◌<◌, ◌�
 ghost use Rattle.slab.specs.Slab.{HasRoomFor, Updates, slab_len};
 ghost use Rattle.tk_frames.specs.Spelling.{IsVersion};
 ghost use Rattle.tk_wire.specs.Meanings.{raised_by};
-ghost use Rattle.tk_hub.specs.Door.{GreetsAt, GreetsHeld, IsWelcomed};
+ghost use Rattle.tk_hub.specs.Door.{GreetsAt, GreetsHeld, HoldsNew, IsWelcomed, door};
 ghost use Rattle.tk_hub.specs.Hub.{EachOpen};
-ghost use Rattle.tk_hub.specs.Seats.{AreSeats};
+ghost use Rattle.tk_hub.specs.Seats.{AreSeats, monitors_of};
 ghost use Rattle.tk_hub.specs.Visitor.{IsUnused, hello_of};
 
 use crate::seats::Seats;
@@ -70,14 +70,8 @@ impl<W: Wire + Drop> Lobby<W> {
     pub fn admit(&mut self, wire: W) -> Result<Admitted, NoMemory>
         requires { IsUnused W.tells (W.traffic wire) }
         ensures closed { (result ≡ Ok Admitted.Closed) ↔ (slab_len self.old.held ≡ 64) }
-        ensures kept { result ≡ Ok Admitted.Kept → Updates self.old.held self.new.held self.old.held.vacant_key (Some (record {
-          wire = wire;
-          tells = W.tells;
-          traffic = W.traffic wire;
-          counts = W.counts wire;
-          bytes = [];
-          front = None;
-        })) }
+        ensures kept { result ≡ Ok Admitted.Kept
+            → HoldsNew W.tells (W.traffic wire) (W.counts wire) wire self.old.held self.new.held }
         ensures more { result ≡ Ok Admitted.Kept → slab_len self.new.held ≡ slab_len self.old.held + 1 }
         ensures same { (result ≡ Ok Admitted.Kept → ⊥) → self.new.held.slots ≡ self.old.held.slots }
         ensures strangers { self.new.strangers ≡ self.old.strangers }
@@ -106,7 +100,8 @@ impl<W: Wire + Drop> Lobby<W> {
 
     /// Closes a connection and counts it.
     fn turn_away(&mut self, visitor: Visitor<W>)
-        ensures { self.new ≡ record self.old { strangers = raised_by 1 self.old.strangers } }
+        ensures counts { self.new ≡ record self.old { strangers = raised_by 1 self.old.strangers } }
+        ensures more { self.old.strangers ≤ self.new.strangers }
     {
         visitor.close();
         self.strangers = self.strangers.saturating_add(1);
@@ -116,8 +111,10 @@ impl<W: Wire + Drop> Lobby<W> {
     fn welcome(&mut self, seats: &mut Seats<W>, visitor: Visitor<W>, guest: Guest)
         requires greeted { visitor.front ≡ Some (hello_of seats.old.run guest) }
         requires version { IsVersion guest.version }
-        ensures answer { IsWelcomed seats.old.run seats.old.coordinator.settings.monitors guest.mon visitor (record { lobby = self.old; links = seats.old.links }) (record { lobby = self.new; links = seats.new.links }) }
+        ensures answer { IsWelcomed seats.old.run (monitors_of seats.old) guest.mon visitor
+            (door self.old seats.old) (door self.new seats.new) }
         ensures held { self.new.held ≡ self.old.held }
+        ensures more { self.old.strangers ≤ self.new.strangers }
         ensures rest { seats.new ≡ record seats.old { links = seats.new.links } }
         ensures kept { AreSeats seats.old → AreSeats seats.new }
         ensures going { EachOpen seats.old.links → EachOpen seats.new.links }
@@ -131,10 +128,12 @@ impl<W: Wire + Drop> Lobby<W> {
 
     /// Pulls from the connection at a key until its first frame is whole, and admits or closes it.
     fn greet_at(&mut self, seats: &mut Seats<W>, key: usize) -> Result<(), NoMemory>
-        ensures greets { GreetsAt seats.old.run seats.old.coordinator.settings.monitors key result (record { lobby = self.old; links = seats.old.links }) (record { lobby = self.new; links = seats.new.links }) }
+        ensures greets { GreetsAt seats.old.run (monitors_of seats.old) key result
+            (door self.old seats.old) (door self.new seats.new) }
         ensures rest { seats.new ≡ record seats.old { links = seats.new.links } }
         ensures kept { AreSeats seats.old → AreSeats seats.new }
         ensures going { EachOpen seats.old.links → EachOpen seats.new.links }
+        ensures more { self.old.strangers ≤ self.new.strangers }
         ensures few { slab_len self.new.held ≤ 64 }
     {
         let Some(mut visitor) = self.held.try_remove(key) else {
@@ -162,10 +161,12 @@ impl<W: Wire + Drop> Lobby<W> {
 
     /// Pulls from each connection until its first frame is whole, and admits or closes it.
     pub fn greet(&mut self, seats: &mut Seats<W>) -> Result<(), NoMemory>
-        ensures greets { GreetsHeld seats.old.run seats.old.coordinator.settings.monitors result (record { lobby = self.old; links = seats.old.links }) (record { lobby = self.new; links = seats.new.links }) }
+        ensures greets { GreetsHeld seats.old.run (monitors_of seats.old) result
+            (door self.old seats.old) (door self.new seats.new) }
         ensures rest { seats.new ≡ record seats.old { links = seats.new.links } }
         ensures kept { AreSeats seats.old → AreSeats seats.new }
         ensures going { EachOpen seats.old.links → EachOpen seats.new.links }
+        ensures more { self.old.strangers ≤ self.new.strangers }
         ensures few { slab_len self.new.held ≤ 64 }
     {
         for key in 0..self.held.capacity() {

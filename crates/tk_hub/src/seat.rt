@@ -2,7 +2,7 @@
 
 ghost use Rattle.std.specs.Prelude.{◌≡◌, ◌↔◌, IfSome, IsTrue, OnSome};
 ghost use Rattle.tk_hub.specs.Desk.{IsDesk};
-ghost use Rattle.tk_hub.specs.Seats.{HasGiven, IsWithin, SeatShuts};
+ghost use Rattle.tk_hub.specs.Seats.{HasGiven, IsWithin, SeatShuts, is_used};
 ghost use Rattle.tk_hub.specs.Slot.{HearsAt, HearsOneAt, SeatHears, SeatHearsOne, SeatSays};
 ghost use Rattle.tk_hub.specs.Turn.{IsStopGiven};
 
@@ -97,6 +97,16 @@ pub fn shut<W: Wire>(seat: &mut Option<Link<W>>)
     match seat {
         Some(link) => link.shut(),
         None => {}
+    }
+}
+
+/// Whether the seat is taken by a link that is not shut.
+pub fn is_open<W: Wire>(seat: &Option<Link<W>>) -> bool
+    ensures { result ≡ is_used seat.now }
+{
+    match seat {
+        Some(link) => !link.is_shut(),
+        None => false,
     }
 }
 

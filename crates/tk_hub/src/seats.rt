@@ -2,8 +2,9 @@ ghost use Rattle.std.specs.Prelude.{◌≡◌, ◌↔◌, ◌-◌, [], true, Non
 ghost use Rattle.tk_journal.specs.Laws.{IsMonitor};
 ghost use Rattle.tk_journal.specs.Legal.{inputs_of};
 ghost use Rattle.tk_journal.specs.Links.{frames_to};
-ghost use Rattle.tk_hub.specs.Seats.{AreSeats, EachShuts, HasGiven, IsAllGiven, IsFree, SeatShuts, SeatsView, link_at};
-ghost use Rattle.tk_hub.specs.Slot.{SeatHears, SeatHearsOne, SeatSays};
+ghost use Rattle.tk_hub.specs.Seats.{AreSeats, EachShuts, HasGiven, IsAllGiven, IsFree, SeatShuts, SeatsView};
+ghost use Rattle.tk_hub.specs.Seats.{admits, link_of, with_link, with_seat};
+ghost use Rattle.tk_hub.specs.Slot.{HearsOneSeat, HearsSeat, SeatSays};
 ghost use Rattle.tk_hub.specs.Turn.{EachSaid, Hears, goes_on, joined};
 ghost use Rattle.tk_hub.specs.Visitor.{HasGreeted};
 ghost use Rattle.tk_hub.specs.declared.course.HubTurn.{HubTurn as Turned};
@@ -14,7 +15,7 @@ mod retuning;
 
 use crate::course::HubTurn;
 use crate::desk::Desk;
-use crate::seat::{has_given, hear, hear_one, say, shut};
+use crate::seat::{has_given, hear, hear_one, is_open, say, shut};
 use std::alloc::Global;
 use std::marker::Model;
 use tk_base::{Mon, NoMemory};
@@ -98,8 +99,8 @@ impl<W: Wire + Drop> Seats<W> {
     /// Takes frames at one seat.
     fn hear_at(&mut self, mon: Mon) -> HubTurn
         requires { IsMonitor self.old.coordinator.settings mon.0 }
-        ensures hears { SeatHears mon.0 result (link_at self.old.links (mon.0 - 1)) (link_at self.new.links (mon.0 - 1)) (record { coordinator = self.old.coordinator }) (record { coordinator = self.new.coordinator }) }
-        ensures rest { self.new ≡ record self.old { coordinator = self.new.coordinator; links = slice_set self.old.links (mon.0 - 1) (link_at self.new.links (mon.0 - 1)) } }
+        ensures hears { HearsSeat mon.0 result self.old self.new }
+        ensures rest { self.new ≡ with_seat mon.0 self.new self.old }
         ensures kept { AreSeats self.new }
     {
         hear(&mut self.links[mon.0 as usize - 1], &mut self.desk, mon)
@@ -125,8 +126,8 @@ impl<W: Wire + Drop> Seats<W> {
     /// Says at one seat what was sent to its monitor and is not said.
     pub fn say_at(&mut self, mon: Mon) -> Result<Pushed, NoMemory>
         requires { IsMonitor self.old.coordinator.settings mon.0 }
-        ensures says { SeatSays mon.0 self.old.coordinator result (link_at self.old.links (mon.0 - 1)) (link_at self.new.links (mon.0 - 1)) }
-        ensures rest { self.new ≡ record self.old { links = slice_set self.old.links (mon.0 - 1) (link_at self.new.links (mon.0 - 1)) } }
+        ensures says { SeatSays mon.0 self.old.coordinator result (link_of self.old.links mon.0) (link_of self.new.links mon.0) }
+        ensures rest { self.new ≡ record self.old { links = with_link mon.0 self.new.links self.old.links } }
         ensures kept { AreSeats self.new }
     {
         say(&mut self.links[mon.0 as usize - 1], &self.desk, mon)
@@ -135,7 +136,8 @@ impl<W: Wire + Drop> Seats<W> {
     /// Says to each monitor, ascending, what was sent to it.
     fn say(&mut self) -> HubTurn
         ensures rest { self.new ≡ record self.old { links = self.new.links } }
-        ensures heard { (old : SeatsView W) (turn : Turned) → goes_on turn ≡ true → Hears turn old self.old → Hears (joined turn result) old self.new }
+        ensures heard { (old : SeatsView W) (turn : Turned)
+            → goes_on turn ≡ true → Hears turn old self.old → Hears (joined turn result) old self.new }
         ensures said { goes_on result ≡ true → EachSaid self.new.coordinator self.new.links }
         ensures unwritten { result ≡ HubTurn.WriteFailed → ⊥ }
         ensures kept { AreSeats self.new }
@@ -168,8 +170,8 @@ impl<W: Wire + Drop> Seats<W> {
     /// Takes the next frame at one seat.
     pub fn hear_one(&mut self, mon: Mon) -> HubTurn
         requires { IsMonitor self.old.coordinator.settings mon.0 }
-        ensures hears { SeatHearsOne mon.0 result (link_at self.old.links (mon.0 - 1)) (link_at self.new.links (mon.0 - 1)) (record { coordinator = self.old.coordinator }) (record { coordinator = self.new.coordinator }) }
-        ensures rest { self.new ≡ record self.old { coordinator = self.new.coordinator; links = slice_set self.old.links (mon.0 - 1) (link_at self.new.links (mon.0 - 1)) } }
+        ensures hears { HearsOneSeat mon.0 result self.old self.new }
+        ensures rest { self.new ≡ with_seat mon.0 self.new self.old }
         ensures kept { AreSeats self.new }
     {
         hear_one(&mut self.links[mon.0 as usize - 1], &mut self.desk, mon)
@@ -188,6 +190,13 @@ impl<W: Wire + Drop> Seats<W> {
         0 < mon.0 && mon.0 <= self.monitors() && self.links[mon.0 as usize - 1].is_none()
     }
 
+    /// Whether a monitor is admitted, and its link is not shut.
+    pub fn is_admitted(&self, mon: Mon) -> bool
+        ensures { result ≡ admits self.now.links mon.0 }
+    {
+        0 < mon.0 && mon.0 as usize <= self.links.len() && is_open(&self.links[mon.0 as usize - 1])
+    }
+
     /// Seats a monitor that has greeted.
     pub fn seat(&mut self, mon: Mon, link: Link<W>)
         requires free { IsFree mon.0 self.old.coordinator.settings.monitors self.old.links }
@@ -202,8 +211,8 @@ impl<W: Wire + Drop> Seats<W> {
     /// Shuts the link of one seat.
     fn shut_at(&mut self, mon: Mon)
         requires { IsMonitor self.old.coordinator.settings mon.0 }
-        ensures shuts { SeatShuts (link_at self.old.links (mon.0 - 1)) (link_at self.new.links (mon.0 - 1)) }
-        ensures rest { self.new ≡ record self.old { links = slice_set self.old.links (mon.0 - 1) (link_at self.new.links (mon.0 - 1)) } }
+        ensures shuts { SeatShuts (link_of self.old.links mon.0) (link_of self.new.links mon.0) }
+        ensures rest { self.new ≡ record self.old { links = with_link mon.0 self.new.links self.old.links } }
         ensures kept { AreSeats self.new }
     {
         shut(&mut self.links[mon.0 as usize - 1]);
@@ -223,7 +232,8 @@ impl<W: Wire + Drop> Seats<W> {
     /// Whether all that was sent to a monitor is given.
     fn has_said(&self, mon: Mon) -> bool
         requires { IsMonitor self.now.coordinator.settings mon.0 }
-        ensures { IsTrue result ↔ HasGiven (length (frames_to mon.0 self.now.coordinator.journal)) (link_at self.now.links (mon.0 - 1)) }
+        ensures { IsTrue result
+            ↔ HasGiven (length (frames_to mon.0 self.now.coordinator.journal)) (link_of self.now.links mon.0) }
     {
         let count = self.desk.coordinator.sent(mon);
         has_given(&self.links[mon.0 as usize - 1], count)

@@ -3,7 +3,8 @@ ghost use Rattle.tk_base.specs.declared.ids.Mon.{Mon as Number};
 ghost use Rattle.tk_frames.specs.Spelling.{IsVersion};
 ghost use Rattle.tk_frames.specs.declared.frame.Frame.TheVariants as f;
 ghost use Rattle.tk_wire.specs.Buffered.{Pulls, counts_pulled};
-ghost use Rattle.tk_hub.specs.Visitor.{BeginsWithHello, Gathers, GoesOn, Greets, HasGreeted, HasStrangeLength, IsAwaited, IsStrange, IsUnlessMemory, IsUnused};
+ghost use Rattle.tk_hub.specs.Visitor.{BeginsWithHello, Gathers, GoesOn, Greets, HasGreeted, HasStrangeLength};
+ghost use Rattle.tk_hub.specs.Visitor.{IsAwaited, IsStrange, IsUnlessMemory, IsUnused};
 ghost use Rattle.tk_hub.specs.VisitorInside.{HasMore, Reads, Says, judged};
 ghost use Rattle.tk_hub.specs.declared.visitor.Guest.{Guest as Greeter};
 
@@ -176,7 +177,8 @@ impl<W: Wire> Visitor<W> {
     pub fn greet(&mut self, run: u64) -> Greeting
         ensures answer { Greets run result self.old self.new }
         // What came is answered, unless there was no memory to read it.
-        ensures hello { (guest : Greeter) → BeginsWithHello run guest self.new.bytes → IsUnlessMemory result (Greeting.Hello guest) }
+        ensures hello { (guest : Greeter)
+            → BeginsWithHello run guest self.new.bytes → IsUnlessMemory result (Greeting.Hello guest) }
         ensures strange { IsStrange run self.new.bytes → IsUnlessMemory result Greeting.Strange }
         // Whatever is answered, all that came is kept.
         ensures gathers { Gathers self.old self.new }

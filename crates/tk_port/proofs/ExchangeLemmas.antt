@@ -1,5 +1,5 @@
 -- What a port does in a turn, one part behind the other.
-use Rattle.std.proofs.Common.{◌≡◌, ◌≤◌, ◌+◌, ℕ, List, [], ◌∷◌, ◌++◌, length, take, refl, sym, ap, ◌∙◌, subst, arith, Bool, true, false, Option, Some, None, IfNone, is_some}
+use Rattle.std.proofs.Common.{◌≡◌, ◌≤◌, ◌+◌, ℕ, List, [], ◌∷◌, ◌++◌, length, take, refl, sym, ap, ◌∙◌, subst, arith, true, false, Option, Some, None, IfNone, is_some}
 use Rattle.std.proofs.lemmas.List.{length-take}
 use Rattle.tk_base.specs.History.{IsFront}
 use Rattle.tk_frames.specs.declared.frame.Frame.{Frame}
@@ -11,10 +11,9 @@ use Rattle.tk_trail.specs.Setup.{MonitorSetup}
 use Rattle.tk_trail.specs.declared.entry.Entry.{Entry}
 use Rattle.tk_trail.specs.declared.entry.Entry.TheVariants.{Sent}
 use Rattle.tk_trail.specs.Readings.{sent_by, taken_by}
-use Rattle.tk_trail.specs.Refusal.{refusal_of}
 use Rattle.tk_end.specs.Actor.{TakesAll}
 use Rattle.tk_end.specs.Hearing.{Hears}
-use Rattle.tk_end.specs.Link.{IsEnd, LinkView, Passes, Says}
+use Rattle.tk_end.specs.Link.{IsEnd, LinkView, Says}
 use Rattle.tk_end.proofs.EndLemmas.{hears_end, said_grown, says_end}
 use Rattle.tk_end.proofs.PassingLemmas.{passes_heard, passes_nothing, passes_on, passes_said}
 use Rattle.tk_port.specs.Side.{heard_by, refuses, said_by, takes, taking}
@@ -23,7 +22,7 @@ use Rattle.tk_port.specs.declared.turn.Turn.{Turn}
 use Rattle.tk_port.specs.declared.turn.Turn.TheVariants as t
 use Rattle.tk_port.specs.Turn.{Exchanges, HasSaid, IsAtRest, goes_on, pieces_of, Reaches, Stays, Takes, Checks, checking}
 use Rattle.tk_port.specs.declared.side.Side.{Side}
-use Rattle.tk_port.proofs.SideLemmas.{answered_sent, answered_taken, front_behind}
+use Rattle.tk_port.proofs.SideLemmas.{answered_sent, answered_taken}
 
 pub reaches_on : (a b c : MonitorView) → Reaches a b → Reaches b c → Reaches a c
 reaches_on a b c (Stays from to is) q = subst (λ m. Reaches m c) is q

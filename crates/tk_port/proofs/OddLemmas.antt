@@ -1,5 +1,5 @@
 -- What a port was given next and did not take.
-use Rattle.std.proofs.Common.{◌≡◌, ◌≤◌, ℕ, List, length, take, refl, sym, ap, ◌∙◌, subst, arith, Option, Some, None, is_some, inl, inr}
+use Rattle.std.proofs.Common.{◌≡◌, ℕ, List, refl, sym, ap, ◌∙◌, subst, Option, Some, None, is_some, inl, inr}
 use Rattle.std.specs.Option.{ForSome, option_map}
 use Rattle.std.specs.Prelude.{IfSome}
 use Rattle.tk_frames.specs.declared.answer.BadFrame.{BadFrame}
@@ -7,7 +7,7 @@ use Rattle.tk_frames.specs.declared.answer.BadFrame.TheVariants.{BadLength, BadK
 use Rattle.tk_frames.specs.declared.frame.Frame.{Frame}
 use Rattle.tk_frames.specs.Spelling.{IsVersion}
 use Rattle.tk_monitor.specs.Monitored.{MonitorView}
-use Rattle.tk_story.specs.Odd.{IsNoFrame, IsNotTaken, IsOddDown}
+use Rattle.tk_story.specs.Odd.{IsNoFrame, IsOddDown}
 use Rattle.tk_story.specs.declared.ends.received.Received.{Received}
 use Rattle.tk_story.specs.declared.ends.received.Received.TheVariants as r
 use Rattle.tk_trail.specs.Refusal.{refusal_of}

@@ -1,9 +1,8 @@
 -- What the type of a port keeps, over each of its calls.
-use Rattle.std.proofs.Common.{◌≡◌, ◌≢◌, ◌≤◌, ℕ, List, [], ◌∷◌, ◌++◌, length, take, refl, sym, ap, ◌∙◌, subst, true, false, Option, Some, None, Result, Ok, Err, OnOk, OnErr}
+use Rattle.std.proofs.Common.{◌≡◌, ◌≤◌, ℕ, [], ◌∷◌, ◌++◌, length, take, refl, sym, ap, ◌∙◌, subst, Result, Ok, Err, OnOk, OnErr}
 use Rattle.tk_base.specs.declared.memory.NoMemory.{NoMemory}
 use Rattle.tk_monitor.specs.declared.outcome.Checked.{Checked}
 use Rattle.tk_base.specs.declared.ids.Feeder.{Feeder}
-use Rattle.tk_frames.specs.declared.frame.Frame.{Frame}
 use Rattle.tk_frames.specs.declared.frame.Frame.TheVariants as f
 use Rattle.tk_frames.specs.Spelling.{IsVersion}
 use Rattle.tk_monitor.specs.Monitored.{MonitorView, Raises}
@@ -15,20 +14,17 @@ use Rattle.tk_trail.specs.Legal.{IsLegal}
 use Rattle.tk_trail.specs.Readings.{sent_by, taken_by}
 use Rattle.tk_trail.specs.Setup.{IsSetup}
 use Rattle.tk_trail.specs.declared.entry.Entry.TheVariants.{Raised}
-use Rattle.tk_end.specs.Hearing.{IsRefused}
-use Rattle.tk_end.specs.Link.{IsEnd, IsShut, LinkView, Passes, Says, over}
+use Rattle.tk_end.specs.Link.{IsEnd, IsShut, LinkView, Says, over}
 use Rattle.tk_wire.specs.Meanings.{Traffic}
 use Rattle.tk_wire.specs.Parse.{IsEncoding, IsParse}
 use Rattle.tk_wire.specs.PipeWire.{MemoryWire, with_traffic}
 use Rattle.tk_end.proofs.EndLemmas.{shut_end}
-use Rattle.tk_port.specs.Port.{IsOnCourse, IsPort, PortView, Shuts, course_of}
-use Rattle.tk_port.specs.Side.{refuses, taking}
-use Rattle.tk_port.specs.Turn.{Ends, Exchanges, Reaches, Stays, Takes, Checks, checking}
+use Rattle.tk_port.specs.Port.{IsOnCourse, IsPort}
+use Rattle.tk_port.specs.Side.{taking}
+use Rattle.tk_port.specs.Turn.{Exchanges, Reaches, Stays, Takes, Checks, checking}
 use Rattle.tk_port.specs.declared.course.Course.{Course}
 use Rattle.tk_port.specs.declared.course.Course.TheVariants as c
 use Rattle.tk_port.specs.declared.side.Side.{Side}
-use Rattle.tk_port.specs.declared.turn.Turn.{Turn}
-use Rattle.tk_port.specs.declared.turn.Turn.TheVariants as t
 use Rattle.tk_port.proofs.ExchangeLemmas.{exchanges_checked, exchanges_said}
 use Rattle.tk_port.proofs.SideLemmas.{refusal_raised}
 

@@ -1,6 +1,6 @@
 -- What a monitor takes and sends.
-use Rattle.std.proofs.Common.{◌≡◌, ◌<◌, ◌≤◌, ℕ, zero, suc, ◌+◌, List, [], ◌∷◌, ◌++◌, length, take, Option, Some, None, Result, Ok, Err, slice_get, Bool, true, false, refl, sym, ap, ◌∙◌, subst, arith, append-nil}
-use Rattle.std.specs.Prelude.{ℤ, not, ◌&&◌, if◌then◌else◌, find}
+use Rattle.std.proofs.Common.{◌≡◌, ℕ, zero, suc, List, [], ◌∷◌, ◌++◌, length, Option, Some, None, Result, Ok, Err, slice_get, Bool, true, false, refl, sym, ap, ◌∙◌, subst, append-nil}
+use Rattle.std.specs.Prelude.{ℤ, if◌then◌else◌, find}
 use Rattle.std.specs.Option.{option_map}
 use Rattle.std.proofs.lemmas.List.{take_at}
 use Rattle.tk_base.specs.History.{IsFront}
@@ -11,10 +11,10 @@ use Rattle.tk_end.specs.Actor.{AnswersTake}
 use Rattle.tk_end.specs.declared.actor.Declined.TheVariants.{NoMemory}
 use Rattle.tk_monitor.specs.Monitored.{AnswersTake as Answers}
 use Rattle.tk_trail.specs.Setup.{MonitorSetup}
-use Rattle.tk_trail.specs.Frames.{answer_at, answer_to, report_at, settled_at, values_at}
-use Rattle.tk_trail.specs.Legal.{Allowed, IsLegal, after_take, with_answer}
-use Rattle.tk_trail.specs.Readings.{is_broken, sent_by, taken_by, since_assign, is_end_told, is_stopped, is_end, is_stop, assigns_of, seq_of, members_at}
-use Rattle.tk_trail.specs.Refusal.{Shown, refusal_of, refusal_over, refusal_of_kind, refusal_of_assign, shown_by, is_collect, are_members, is_bad_change}
+use Rattle.tk_trail.specs.Frames.{answer_to, report_at, settled_at, values_at}
+use Rattle.tk_trail.specs.Legal.{after_take, with_answer}
+use Rattle.tk_trail.specs.Readings.{is_broken, sent_by, taken_by, since_assign, is_end_told, is_stopped, is_end, is_stop, seq_of, members_at}
+use Rattle.tk_trail.specs.Refusal.{Shown, refusal_of, refusal_over, refusal_of_kind, shown_by, is_collect, is_bad_change}
 use Rattle.tk_trail.specs.declared.entry.Entry.{Entry}
 use Rattle.tk_trail.specs.declared.entry.Entry.TheVariants.{Raised, Took, Sent}
 use Rattle.tk_trail.specs.declared.refusal.MonitorRefusal.{MonitorRefusal}
@@ -24,7 +24,7 @@ use Rattle.std.proofs.lemmas.List.Folds.{list_any-append}
 use Rattle.std.proofs.Math.Bool.{or-false}
 use Rattle.tk_base.specs.declared.ids.Feeder.{Feeder}
 use Rattle.tk_frames.specs.Assigns.{assign_in, members_of}
-use Rattle.tk_trail.proofs.ReadingsLemmas.{since-raised, taken_by-took, taken_by-sent, taken_by-raised, sent_by-took, sent_by-sent, sent_by-raised}
+use Rattle.tk_trail.proofs.ReadingsLemmas.{since-raised, taken_by-took, taken_by-sent, taken_by-raised, sent_by-took, sent_by-sent}
 use Rattle.tk_trail.proofs.SendsLemmas.{Sends, Answered, Gathered, Reported, Ended}
 
 pub front_behind : {X : Type 0} (xs ys : List X) → IsFront xs (xs ++ ys)

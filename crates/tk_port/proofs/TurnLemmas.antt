@@ -1,18 +1,17 @@
 -- A turn of a port, and what its course leaves.
-use Rattle.std.proofs.Common.{◌≡◌, ◌≤◌, ℕ, List, length, refl, sym, ap, ◌∙◌, subst, arith, true, false, Option, None}
-use Rattle.tk_frames.specs.declared.frame.Frame.{Frame}
+use Rattle.std.proofs.Common.{◌≡◌, ℕ, refl, sym, ◌∙◌, subst, arith, true, false, None}
 use Rattle.tk_frames.specs.declared.answer.Next.TheVariants as n
 use Rattle.tk_frames.specs.Answer.{Answers}
 use Rattle.tk_monitor.specs.Monitored.{MonitorView}
 use Rattle.tk_trail.specs.Readings.{is_stopped}
-use Rattle.tk_wire.specs.Meanings.{Counts, Traffic}
+use Rattle.tk_wire.specs.Meanings.{Counts}
 use Rattle.tk_end.specs.Hearing.{IsRefused}
 use Rattle.tk_end.specs.Inbox.{Leaves}
 use Rattle.tk_end.specs.Link.{IsShut, Keeps, LinkView, Passes}
 use Rattle.tk_end.proofs.PassingLemmas.{passes_nothing, passes_on, passes_shut}
 use Rattle.tk_port.specs.Port.{EndsOne, IsOnCourse, IsPort, PortView, Shuts, TakesUpTo, Turns, TurnsOne, answer_of, course_of}
 use Rattle.tk_port.specs.Side.{refuses}
-use Rattle.tk_port.specs.Turn.{CountsTurned, Ends, Exchanges, IsAtRest, Reaches, Stays, goes_on, pieces_of}
+use Rattle.tk_port.specs.Turn.{CountsTurned, Ends, Exchanges, IsAtRest, Stays, goes_on, pieces_of}
 use Rattle.tk_port.specs.declared.course.Course.{Course}
 use Rattle.tk_port.specs.declared.course.Course.TheVariants as c
 use Rattle.tk_port.specs.declared.side.Side.{Side}

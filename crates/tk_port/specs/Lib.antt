@@ -4,6 +4,7 @@ pub mod Turn
 pub use Rattle.tk_end.specs.Hearing
 pub use Rattle.tk_end.specs.Inbox
 pub use Rattle.tk_end.specs.Link
+pub use Rattle.tk_end.specs.Piping
 pub use Rattle.tk_monitor.specs.Monitored
 pub use Rattle.tk_trail.specs.Legal
 pub use Rattle.tk_trail.specs.Readings

@@ -1,13 +1,12 @@
-ghost use Rattle.std.specs.Prelude.{◌≡◌, ◌<◌, ◌≤◌, ◌↔◌, [], true, false, Some, IfOk, OnOk, OnErr, length, min, take};
+ghost use Rattle.std.specs.Prelude.{◌≡◌, ◌<◌, ◌≤◌, ◌↔◌, [], true, false, Some, IfOk, OnOk, OnErr, length};
 ghost use Rattle.tk_frames.specs.Encoding.{Appends};
 ghost use Rattle.tk_frames.specs.Spelling.{IsVersion};
 ghost use Rattle.tk_monitor.specs.Monitored.{IsFeederOf, Raises, checked_at};
 ghost use Rattle.tk_trail.specs.Readings.{is_stopped, sent_by, taken_by};
 ghost use Rattle.tk_trail.specs.Setup.{IsSetup};
-ghost use Rattle.tk_wire.specs.Buffered.{IsFull, counts_pushed};
-ghost use Rattle.tk_wire.specs.Pipe.{free, with_more, without};
-ghost use Rattle.tk_wire.specs.PipeWire.{drained, filled, left_in, with_traffic};
-ghost use Rattle.tk_end.specs.Link.{Covers, IsShut, Says, over};
+ghost use Rattle.tk_wire.specs.Buffered.{counts_pushed};
+ghost use Rattle.tk_end.specs.Link.{Covers, IsShut, LeavesFull, Says};
+ghost use Rattle.tk_end.specs.Piping.{Drains, Fills};
 ghost use Rattle.tk_port.specs.Port.{IsLeft, IsPort, IsStanding, LeavesOdd, Turns, TurnsOne, answer_of, halted_of, hello_of};
 ghost use Rattle.tk_port.specs.Turn.{checking};
 ghost use Rattle.tk_port.specs.declared.turn.Turn.{Turn as Turned};
@@ -152,7 +151,7 @@ impl<W: Wire> Port<W> {
         // Where it has the memory, every frame is written, and what is not given has no room on the wire.
         ensures ok { OnOk result (self.new.link.written ≡ length (sent_by self.old.monitor.trail)) }
         ensures empty { IfOk result (λ pushed. (pushed ≡ Pushed.Empty) ↔ (self.new.link.output ≡ [])) }
-        ensures full { IfOk result (λ pushed. pushed ≡ Pushed.NotYet → self.new.link.tells ≡ true → IsFull self.new.link.traffic) }
+        ensures full { IfOk result (λ pushed. LeavesFull pushed self.new.link) }
         ensures counted { IfOk result (λ pushed. self.new.link.counts ≡ counts_pushed pushed self.old.link.counts) }
         // Where it has not, nothing was given.
         ensures err { OnErr result (self.new.link.wire ≡ self.old.link.wire) }
@@ -238,10 +237,8 @@ impl<W: Wire> Port<W> {
 impl Port<PipeWire> {
     /// As the drain of its wire; where it is shut nothing moves.
     pub fn drain(&mut self, to: &mut Pipe) -> usize
-        ensures shut { self.old.link.shut ≡ true → result ≡ 0 }
-        ensures value { self.old.link.shut ≡ false → result ≡ min self.old.link.wire.piece (min (length self.old.link.traffic.held) (free to.old)) }
-        ensures wire { self.new ≡ record self.old { link = over (with_traffic (drained result self.old.link.traffic) self.old.link.wire) self.old.link } }
-        ensures pipe { to.new ≡ with_more (take result self.old.link.traffic.held) to.old }
+        ensures drains { Drains result self.old.link self.new.link to.old to.new }
+        ensures rest { self.new ≡ record self.old { link = self.new.link } }
         ensures kept { IsPort self.new }
     {
         self.link.drain(to)
@@ -249,10 +246,8 @@ impl Port<PipeWire> {
 
     /// As the fill of its wire; where it is shut nothing moves.
     pub fn fill(&mut self, from: &mut Pipe) -> usize
-        ensures shut { self.old.link.shut ≡ true → result ≡ 0 }
-        ensures value { self.old.link.shut ≡ false → result ≡ min self.old.link.wire.piece (min (length from.old.bytes) (left_in self.old.link.traffic)) }
-        ensures wire { self.new ≡ record self.old { link = over (with_traffic (filled (take result from.old.bytes) self.old.link.traffic) self.old.link.wire) self.old.link } }
-        ensures pipe { from.new ≡ without result from.old }
+        ensures fills { Fills result self.old.link self.new.link from.old from.new }
+        ensures rest { self.new ≡ record self.old { link = self.new.link } }
         ensures kept { IsPort self.new }
     {
         self.link.fill(from)

@@ -1,8 +1,8 @@
-ghost use Rattle.std.specs.Prelude.{◌≡◌, false, IfNone, IfSome, unwrap_or};
+ghost use Rattle.std.specs.Prelude.{◌≡◌, false, IfNone, IfSome, OnSome, unwrap_or};
 ghost use Rattle.tk_frames.specs.Answer.{Answers};
 ghost use Rattle.tk_frames.specs.declared.answer.Next.TheVariants as n;
 ghost use Rattle.tk_wire.specs.Buffered.{Pulls, counts_pulled};
-ghost use Rattle.tk_end.specs.Hearing.{CountsHeard, Ends, Hears, TakesOnce, pieces_in};
+ghost use Rattle.tk_end.specs.Hearing.{CountsHeard, Ends, Hears, TakesOnce, least_of};
 ghost use Rattle.tk_end.specs.Link.{Keeps};
 
 use crate::actor::Actor;
@@ -46,10 +46,10 @@ impl<W: Wire> Link<W> {
     /// Lets the actor take every whole frame, and then pulls one piece, or says why none came.
     fn hear_piece<A: Actor>(&mut self, actor: &mut A, peer: Mon) -> Option<Heard<A::Refusal>>
         requires { A.IsPeer peer.0 actor.old }
-        ensures some { IfSome result (λ _. Hears A.refusal_of A.after A.heard A.said peer.0 0 self.old self.new actor.old actor.new) }
+        ensures some { OnSome result (Hears A.refusal_of A.after A.heard A.said peer.0 0 self.old self.new actor.old actor.new) }
         ensures none { IfNone result (Hears A.refusal_of A.after A.heard A.said peer.0 1 self.old self.new actor.old actor.new) }
         ensures ends { IfSome result (Ends A.refusal_of A.is_done peer.0 self.new actor.new) }
-        ensures no_more { IfSome result (λ heard. pieces_in heard ≡ 0) }
+        ensures no_more { IfSome result (λ heard. least_of heard ≡ 0) }
         ensures counted { CountsHeard (unwrap_or result Heard.More) self.old.counts self.new.counts }
         ensures peer { A.IsPeer peer.0 actor.new }
     {
@@ -69,7 +69,7 @@ impl<W: Wire> Link<W> {
     /// Pulls at most 64 pieces, and lets the actor take their frames.
     pub fn hear<A: Actor>(&mut self, actor: &mut A, peer: Mon) -> Heard<A::Refusal>
         requires { A.IsPeer peer.0 actor.old }
-        ensures hears { Hears A.refusal_of A.after A.heard A.said peer.0 (pieces_in result) self.old self.new actor.old actor.new }
+        ensures hears { Hears A.refusal_of A.after A.heard A.said peer.0 (least_of result) self.old self.new actor.old actor.new }
         ensures ends { Ends A.refusal_of A.is_done peer.0 self.new actor.new result }
         ensures part { result ≡ Heard.More → Answers self.new.version self.new.unread n.Part }
         ensures counted { CountsHeard result self.old.counts self.new.counts }

@@ -1,8 +1,8 @@
-ghost use Rattle.std.specs.Prelude.{◌≡◌, ◌<◌, ◌≤◌, ◌+◌, ◌^◌, ◌↔◌, [], length, true, IfOk, OnErr, OnOk};
+ghost use Rattle.std.specs.Prelude.{◌≡◌, ◌<◌, ◌≤◌, ◌+◌, ◌^◌, ◌↔◌, [], length, IfOk, OnErr, OnOk};
 ghost use Rattle.tk_frames.specs.Encoding.{Appends};
-ghost use Rattle.tk_wire.specs.Buffered.{IsFull, Loses, counts_pushed};
+ghost use Rattle.tk_wire.specs.Buffered.{Loses, counts_pushed};
 ghost use Rattle.tk_end.specs.Actor.{CanBeSent};
-ghost use Rattle.tk_end.specs.Link.{Says};
+ghost use Rattle.tk_end.specs.Link.{LeavesFull, Says, with_given};
 
 use crate::actor::Actor;
 use crate::link::Link;
@@ -52,9 +52,9 @@ impl<W: Wire> Link<W> {
     fn push(&mut self) -> Pushed
         ensures given { Loses self.old.tells self.old.output self.new.output self.old.traffic self.new.traffic }
         ensures empty { (result ≡ Pushed.Empty) ↔ (self.new.output ≡ []) }
-        ensures full { result ≡ Pushed.NotYet → self.new.tells ≡ true → IsFull self.new.traffic }
+        ensures full { LeavesFull result self.new }
         ensures counted { self.new.counts ≡ counts_pushed result self.old.counts }
-        ensures rest { self.new ≡ record self.old { wire = self.new.wire; traffic = self.new.traffic; counts = self.new.counts; output = self.new.output } }
+        ensures rest { self.new ≡ with_given self.new self.old }
     {
         self.output.push(&mut self.wire)
     }
@@ -67,7 +67,7 @@ impl<W: Wire> Link<W> {
         // Where it has the memory, every frame is written, and what is not given has no room on the wire.
         ensures ok { OnOk result (self.new.written ≡ length (A.said peer.0 actor.now)) }
         ensures empty { IfOk result (λ pushed. (pushed ≡ Pushed.Empty) ↔ (self.new.output ≡ [])) }
-        ensures full { IfOk result (λ pushed. pushed ≡ Pushed.NotYet → self.new.tells ≡ true → IsFull self.new.traffic) }
+        ensures full { IfOk result (λ pushed. LeavesFull pushed self.new) }
         ensures counted { IfOk result (λ pushed. self.new.counts ≡ counts_pushed pushed self.old.counts) }
         // Where it has not, nothing was given.
         ensures err { OnErr result (self.new ≡ record self.old { output = self.new.output; written = self.new.written }) }

@@ -1,7 +1,7 @@
-ghost use Rattle.std.specs.Prelude.{◌≡◌, ◌+◌, ℕ, IfSome};
-ghost use Rattle.tk_hub.specs.End.{CoversHeard, IsLeft, wires_of};
+ghost use Rattle.std.specs.Prelude.{◌≡◌, true};
+ghost use Rattle.tk_hub.specs.End.{AreCounted, EachCovers, IsLeft, is_some_lost, wires_of};
 ghost use Rattle.tk_hub.specs.Hub.{IsHub};
-ghost use Rattle.tk_hub.specs.Seats.{link_at};
+ghost use Rattle.tk_hub.specs.declared.course.Course.{Course};
 
 use crate::hub::Hub;
 use tk_story::CoordEnd;
@@ -14,7 +14,10 @@ impl<W: Wire + Drop> Hub<W> {
         ensures coordinator { result.0.coordinator ≡ self.coordinator }
         ensures odd { IsLeft self result.0.odd }
         ensures wires { result.1.items ≡ wires_of self.links }
-        ensures covered { (place : ℕ) → IfSome (link_at self.links place) (CoversHeard W.counts self.run self.coordinator.journal (place + 1)) }
+        ensures counted { AreCounted W.counts self.links }
+        ensures covered { EachCovers W.counts self }
+        // After Failed one of them shows it.
+        ensures lost { self.course ≡ Course.Failed → is_some_lost W.counts result.1.items ≡ true }
         ensures kept { IsHub self }
     {
         let Hub {

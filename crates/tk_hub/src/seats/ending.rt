@@ -1,6 +1,6 @@
 ghost use Rattle.std.specs.Prelude.{◌≡◌, ◌≤◌, [], vec_capacity};
-ghost use Rattle.tk_hub.specs.End.{LeavesOdd, wires_of};
-ghost use Rattle.tk_hub.specs.Leaving.{AreCounted, IsLeftOn};
+ghost use Rattle.tk_hub.specs.End.{AreCounted, LeavesOdd, wires_of};
+ghost use Rattle.tk_hub.specs.Leaving.{IsLeftOn};
 ghost use Rattle.tk_hub.specs.Seats.{AreSeats};
 
 use crate::course::Course;

@@ -1,7 +1,7 @@
-ghost use Rattle.std.specs.Prelude.{◌≡◌, ◌-◌, slice_set};
+ghost use Rattle.std.specs.Prelude.{◌≡◌};
 ghost use Rattle.tk_journal.specs.Laws.{IsMonitor};
 ghost use Rattle.tk_hub.specs.End.{SeatDrains, SeatFills};
-ghost use Rattle.tk_hub.specs.Seats.{AreSeats, link_at};
+ghost use Rattle.tk_hub.specs.Seats.{AreSeats, link_of, with_link};
 
 use crate::piping::{drain, fill};
 use crate::seats::Seats;
@@ -12,8 +12,8 @@ impl Seats<PipeWire> {
     /// Moves bytes from the wire of one seat to a pipe.
     pub fn drain_at(&mut self, mon: Mon, to: &mut Pipe) -> usize
         requires { IsMonitor self.old.coordinator.settings mon.0 }
-        ensures drains { SeatDrains result (link_at self.old.links (mon.0 - 1)) (link_at self.new.links (mon.0 - 1)) to.old to.new }
-        ensures rest { self.new ≡ record self.old { links = slice_set self.old.links (mon.0 - 1) (link_at self.new.links (mon.0 - 1)) } }
+        ensures drains { SeatDrains result (link_of self.old.links mon.0) (link_of self.new.links mon.0) to.old to.new }
+        ensures rest { self.new ≡ record self.old { links = with_link mon.0 self.new.links self.old.links } }
         ensures kept { AreSeats self.new }
     {
         drain(&mut self.links[mon.0 as usize - 1], to)
@@ -22,8 +22,8 @@ impl Seats<PipeWire> {
     /// Moves bytes from a pipe to the wire of one seat.
     pub fn fill_at(&mut self, mon: Mon, from: &mut Pipe) -> usize
         requires { IsMonitor self.old.coordinator.settings mon.0 }
-        ensures fills { SeatFills result (link_at self.old.links (mon.0 - 1)) (link_at self.new.links (mon.0 - 1)) from.old from.new }
-        ensures rest { self.new ≡ record self.old { links = slice_set self.old.links (mon.0 - 1) (link_at self.new.links (mon.0 - 1)) } }
+        ensures fills { SeatFills result (link_of self.old.links mon.0) (link_of self.new.links mon.0) from.old from.new }
+        ensures rest { self.new ≡ record self.old { links = with_link mon.0 self.new.links self.old.links } }
         ensures kept { AreSeats self.new }
     {
         fill(&mut self.links[mon.0 as usize - 1], from)

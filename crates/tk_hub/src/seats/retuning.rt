@@ -1,9 +1,7 @@
-ghost use Rattle.std.specs.Prelude.{◌≡◌, ◌++◌, None, IfErr, OnOk, pos};
+ghost use Rattle.std.specs.Prelude.{◌≡◌, None, IfErr, OnOk};
 ghost use Rattle.tk_coord.specs.Coordinator.{IsRefusal};
-ghost use Rattle.tk_journal.specs.Legal.{turn_of};
-ghost use Rattle.tk_journal.specs.Refusal.{retune_refusal_of};
-ghost use Rattle.tk_journal.specs.declared.noted.Noted.TheVariants.{Tuned};
 ghost use Rattle.tk_journal.specs.declared.refusal.RetuneRefusal.TheVariants.{NoMemory as NoRoomToTune};
+ghost use Rattle.tk_hub.specs.Desk.{refuses_to_tune, tuned};
 ghost use Rattle.tk_hub.specs.Seats.{AreSeats};
 
 use crate::seats::Seats;
@@ -13,10 +11,9 @@ use tk_wire::Wire;
 impl<W: Wire + Drop> Seats<W> {
     /// As the retune of the coordinator.
     pub fn retune(&mut self, k: u64, epsilon: u128) -> Result<(), RetuneRefusal>
-        ensures ok { OnOk result (retune_refusal_of self.old.coordinator.settings self.old.coordinator.journal k epsilon ≡ None) }
-        ensures turn { OnOk result (self.new.coordinator.journal
-            ≡ self.old.coordinator.journal ++ turn_of self.old.coordinator.settings self.old.coordinator.journal (Tuned k (pos epsilon))) }
-        ensures refused { IfErr result (IsRefusal NoRoomToTune (retune_refusal_of self.old.coordinator.settings self.old.coordinator.journal k epsilon)) }
+        ensures ok { OnOk result (refuses_to_tune self.old.coordinator k epsilon ≡ None) }
+        ensures turn { OnOk result (self.new.coordinator.journal ≡ tuned self.old.coordinator k epsilon) }
+        ensures refused { IfErr result (IsRefusal NoRoomToTune (refuses_to_tune self.old.coordinator k epsilon)) }
         ensures err { IfErr result (λ _. self.new ≡ self.old) }
         ensures settings { self.new.coordinator.settings ≡ self.old.coordinator.settings }
         ensures rest { self.new ≡ record self.old { coordinator = self.new.coordinator } }

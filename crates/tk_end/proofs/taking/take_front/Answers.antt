@@ -1,4 +1,4 @@
-use Rattle.std.proofs.Common.{◌≡◌, ap, sym, ◌∙◌, subst, Err, Ok, Some, ◌++◌}
+use Rattle.std.proofs.Common.{ap, ◌∙◌, subst, Err, Ok, Some, ◌++◌}
 use Rattle.tk_frames.specs.Spelling.{spelling}
 use Rattle.tk_end.specs.Actor.{AnswersTake}
 use Rattle.tk_end.specs.Inbox.{Leaves, Reads}

@@ -1,7 +1,6 @@
-use Rattle.std.proofs.Common.{◌≡◌, ◌≤◌, ◌∙◌, ℕ, length, sym, ap, subst, arith, refl, true, false}
+use Rattle.std.proofs.Common.{◌∙◌, length, sym, ap, subst, arith, refl}
 use Rattle.std.proofs.lemmas.Bool.{false≢true}
 use Rattle.std.specs.List.{All}
-use Rattle.tk_hub.specs.Hub.{EachOpen, Exchanges}
 use Rattle.tk_hub.specs.Lines.{AreNamed, IsAt}
 use Rattle.tk_hub.specs.declared.course.HubTurn.TheVariants as t
 use Rattle.tk_hub.proofs.TakenLemmas.{reaches_settings}

@@ -3,7 +3,7 @@ use Rattle.std.proofs.lemmas.Iterator.Adapters.{YieldsList-from_vec}
 use Rattle.std.proofs.lemmas.Iterator.Consumers.{YieldsList-end, YieldsList-turn}
 use Rattle.std.proofs.lemmas.List.{length_push, map-id}
 use Rattle.tk_hub.proofs.LeavingLemmas.{LeftUpTo, counted_free, counted_more, counted_none, counted_seat, is_free, item_at, left_all, left_more, left_none, left_past, stands_at, wires_more, wires_past}
-use Rattle.tk_hub.specs.Leaving.{AreCounted}
+use Rattle.tk_hub.specs.End.{AreCounted}
 use Rattle.tk_hub.proofs.leaving.leave.Goals as goal
 
 pub loop-seat-init : goal.loop-seat-init

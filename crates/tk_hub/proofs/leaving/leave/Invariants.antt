@@ -1,6 +1,5 @@
 use Rattle.std.proofs.Common.{◌≡◌, ◌≤◌, length, vec_capacity}
-use Rattle.tk_hub.specs.End.{wires_of}
-use Rattle.tk_hub.specs.Leaving.{AreCounted}
+use Rattle.tk_hub.specs.End.{AreCounted, wires_of}
 use Rattle.tk_hub.proofs.LeavingLemmas.{LeftUpTo}
 use Rattle.tk_hub.proofs.leaving.leave.Given as goal
 

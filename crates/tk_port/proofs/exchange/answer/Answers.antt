@@ -1,8 +1,6 @@
 use Rattle.std.proofs.Common.{◌≡◌, None, sym, subst, ap, arith}
 use Rattle.tk_trail.specs.Frames.{due_at}
 use Rattle.tk_trail.specs.Setup.{IsSetup}
-use Rattle.tk_monitor.specs.Monitored.{MonitorView}
-use Rattle.tk_port.specs.Turn.{checking}
 use Rattle.tk_port.specs.declared.side.Side.{Side}
 use Rattle.tk_port.proofs.ExchangeLemmas.{exchanges_checked, exchanges_on, exchanges_same, none_due, rests}
 use Rattle.tk_port.proofs.exchange.answer.Goals as goal

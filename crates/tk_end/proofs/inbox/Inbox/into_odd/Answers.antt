@@ -1,6 +1,5 @@
-use Rattle.std.proofs.Common.{◌≡◌, ◌++◌, List, ℕ, None, take, ap, sym, ◌∙◌, subst}
+use Rattle.std.proofs.Common.{◌≡◌, ◌++◌, List, ℕ, take, ap, sym, ◌∙◌, subst}
 use Rattle.tk_frames.specs.Answer.{Answers, HasPayload}
-use Rattle.tk_frames.specs.declared.answer.BadFrame.TheVariants.{BadLength, BadKind, BadFields}
 use Rattle.tk_frames.specs.declared.answer.Next.TheVariants.{Bad}
 use Rattle.tk_end.specs.Inbox.{IsOdd, bytes_of}
 use Rattle.tk_end.proofs.OddLemmas.{odd_fields, odd_kind, odd_length}

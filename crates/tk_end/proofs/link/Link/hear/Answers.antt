@@ -1,5 +1,5 @@
-use Rattle.std.proofs.Common.{refl, ◌≡◌, ◌≤◌, ◌+◌, ◌∙◌, arith}
-use Rattle.tk_end.specs.Hearing.{Hears, pieces_in}
+use Rattle.std.proofs.Common.{refl, ◌+◌, ◌∙◌, arith}
+use Rattle.tk_end.specs.Hearing.{least_of}
 use Rattle.tk_end.proofs.HearingLemmas.{takes_nothing}
 use Rattle.tk_end.proofs.LinkLemmas.{hears_nothing, hears_on, keeps_refl, pieces_are_few}
 use Rattle.tk_end.proofs.link.Link.hear.Goals as goal
@@ -17,7 +17,7 @@ loop-pieces-init g c =
 pub returns-in-Some-clause-hears : goal.returns-in-Some-clause-hears
 returns-in-Some-clause-hears g c =
     let before = c.loop-pieces in
-    hears_on g.A.Actor.refusal_of g.A.Actor.after g.A.Actor.heard g.A.Actor.said c.args.peer.0 (pieces_in c.in-Some.heard) before.pieces 0 c.args.self.now before.self c.hear_piece.new.self c.args.actor.now before.actor c.hear_piece.new.actor (omega (arith, c.in-Some.ensures.no_more)) before.invariant.0 c.in-Some.ensures.some
+    hears_on g.A.Actor.refusal_of g.A.Actor.after g.A.Actor.heard g.A.Actor.said c.args.peer.0 (least_of c.in-Some.heard) before.pieces 0 c.args.self.now before.self c.hear_piece.new.self c.args.actor.now before.actor c.hear_piece.new.actor (omega (arith, c.in-Some.ensures.no_more)) before.invariant.0 c.in-Some.ensures.some
 
 pub loop-pieces-preserved : goal.loop-pieces-preserved
 loop-pieces-preserved g c =
@@ -33,4 +33,4 @@ loop-pieces-preserved g c =
 pub returns-clause-hears : goal.returns-clause-hears
 returns-clause-hears g c =
     let before = c.loop-pieces in
-    hears_on g.A.Actor.refusal_of g.A.Actor.after g.A.Actor.heard g.A.Actor.said c.args.peer.0 (pieces_in c.hear_whole.result) before.pieces 0 c.args.self.now before.self c.hear_whole.new.self c.args.actor.now before.actor c.hear_whole.new.actor (omega (arith, pieces_are_few c.hear_whole.result)) before.invariant.0 c.hear_whole.ensures.hears
+    hears_on g.A.Actor.refusal_of g.A.Actor.after g.A.Actor.heard g.A.Actor.said c.args.peer.0 (least_of c.hear_whole.result) before.pieces 0 c.args.self.now before.self c.hear_whole.new.self c.args.actor.now before.actor c.hear_whole.new.actor (omega (arith, pieces_are_few c.hear_whole.result)) before.invariant.0 c.hear_whole.ensures.hears

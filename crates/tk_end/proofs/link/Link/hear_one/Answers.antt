@@ -1,7 +1,5 @@
-use Rattle.std.proofs.Common.{refl, ◌≡◌, ◌<◌, ◌∙◌, length, subst, ap, arith}
-use Rattle.std.proofs.lemmas.List.{length-append}
+use Rattle.std.proofs.Common.{refl, ◌∙◌, length, ap, arith}
 use Rattle.tk_wire.specs.Meanings.{Counts}
-use Rattle.tk_wire.specs.Buffered.{Pulls, counts_pulled}
 use Rattle.tk_end.proofs.HearingLemmas.{takes_nothing}
 use Rattle.tk_end.proofs.LinkLemmas.{hears_nothing, hears_on, hears_then_pulled, keeps_refl, part_is_short, pulled_longer}
 use Rattle.tk_end.proofs.link.Link.hear_one.Goals as goal

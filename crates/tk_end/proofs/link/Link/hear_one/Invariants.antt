@@ -1,4 +1,4 @@
-use Rattle.std.proofs.Common.{◌≡◌, ◌-◌, length, false}
+use Rattle.std.proofs.Common.{◌≡◌, ◌-◌, length}
 use Rattle.tk_end.specs.Hearing.{Hears}
 use Rattle.tk_end.proofs.link.Link.hear_one.Given as goal
 

@@ -1,4 +1,4 @@
-use Rattle.std.proofs.Common.{◌≡◌, ap, ◌∙◌, sym, subst, Some, None, Err}
+use Rattle.std.proofs.Common.{ap, ◌∙◌, sym, subst}
 use Rattle.tk_base.specs.History.{IsFront}
 use Rattle.tk_journal.specs.Legal.{turn_of}
 use Rattle.tk_journal.specs.Links.{frames_from, frames_to}

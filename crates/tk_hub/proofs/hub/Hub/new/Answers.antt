@@ -1,4 +1,4 @@
-use Rattle.std.proofs.Common.{◌≡◌, ap}
+use Rattle.std.proofs.Common.{ap}
 use Rattle.tk_hub.proofs.KeptLemmas.{hub_new}
 use Rattle.tk_hub.proofs.hub.Hub.new.Goals as goal
 

@@ -1,13 +1,13 @@
-use Rattle.std.proofs.Common.{◌≡◌, ◌≤◌, ◌∙◌, ℕ, length, sym, ap, subst, None, Some, refl}
-use Rattle.tk_hub.specs.Hub.{EachOpen, HubView, Turns}
+use Rattle.std.proofs.Common.{◌≡◌, ◌≤◌, ◌∙◌, length, sym, ap, subst}
+use Rattle.tk_base.specs.History.{IsFront}
+use Rattle.tk_hub.specs.Hub.{HubView, Turns}
 use Rattle.tk_hub.specs.Seats.{SeatsView}
-use Rattle.tk_hub.specs.Turn.{answer_of}
 use Rattle.tk_hub.specs.declared.course.Course.TheVariants as cs
-use Rattle.tk_hub.specs.declared.course.HubTurn.TheVariants as t
 use Rattle.tk_hub.specs.Writing.{CutsLine, WritesLines}
-use Rattle.tk_hub.proofs.HubLemmas.{goes, not_write_failed, open_hub, stands_of, turns_concluded}
+use Rattle.tk_hub.proofs.HubLemmas.{goes, open_hub, stands_of, turns_concluded}
 use Rattle.tk_hub.proofs.KeptLemmas.{hub_turned}
-use Rattle.tk_hub.proofs.WriteLemmas.{writes_nothing}
+use Rattle.tk_hub.proofs.TakenLemmas.{reaches_settings}
+use Rattle.tk_hub.proofs.TurnLemmas.{reaches_grown}
 use Rattle.tk_hub.proofs.hub.Hub.turn.Goals as goal
 
 pub exchange-turn-requires-clause-seats : goal.exchange-turn-requires-clause-seats
@@ -44,7 +44,7 @@ invariant_of-self g c =
     let opens = c.exchange-turn.ensures.going (open_hub s.seats.coordinator s.seats.links s.lobby.held s.course on c.self.invariant.course) in
     let works = c.exchange-turn.ensures.works in
     hub_turned c.exchange-turn.result mid c.conclude-self-inside.new.seats c.exchange-turn.new.lobby c.conclude-self-inside.new.lobby c.exchange-turn.new.lines c.conclude-self-inside.result c.exchange-turn.ensures.at opens
-    (stands_of c.exchange-turn.result mid.coordinator mid.links works.exchanges.ends) c.conclude-self-inside.ensures.closes c.conclude-self-inside.ensures.rest (c.conclude-self-inside.ensures.kept c.exchange-turn.ensures.seats) c.conclude-self-inside.ensures.few c.conclude-self-inside.ensures.course
+    (stands_of c.exchange-turn.result mid.coordinator works.greeted.links mid.links works.exchanges.ends works.exchanges.counts) c.conclude-self-inside.ensures.closes c.conclude-self-inside.ensures.rest (c.conclude-self-inside.ensures.kept c.exchange-turn.ensures.seats) c.conclude-self-inside.ensures.few c.conclude-self-inside.ensures.course
 
 pub returns-clause-kept : goal.returns-clause-kept
 returns-clause-kept g c =
@@ -55,7 +55,7 @@ returns-clause-kept g c =
     let opens = c.exchange-turn.ensures.going (open_hub s.seats.coordinator s.seats.links s.lobby.held s.course on c.self.invariant.course) in
     let works = c.exchange-turn.ensures.works in
     hub_turned c.exchange-turn.result mid c.conclude-self-inside.new.seats c.exchange-turn.new.lobby c.conclude-self-inside.new.lobby c.exchange-turn.new.lines c.conclude-self-inside.result c.exchange-turn.ensures.at opens
-    (stands_of c.exchange-turn.result mid.coordinator mid.links works.exchanges.ends) c.conclude-self-inside.ensures.closes c.conclude-self-inside.ensures.rest (c.conclude-self-inside.ensures.kept c.exchange-turn.ensures.seats) c.conclude-self-inside.ensures.few c.conclude-self-inside.ensures.course
+    (stands_of c.exchange-turn.result mid.coordinator works.greeted.links mid.links works.exchanges.ends works.exchanges.counts) c.conclude-self-inside.ensures.closes c.conclude-self-inside.ensures.rest (c.conclude-self-inside.ensures.kept c.exchange-turn.ensures.seats) c.conclude-self-inside.ensures.few c.conclude-self-inside.ensures.course
 
 pub returns-clause-lines : goal.returns-clause-lines
 returns-clause-lines g c = λ ok.
@@ -68,3 +68,18 @@ returns-clause-cut g c = λ cut.
     let s = c.self.inside in
     subst (λ v. CutsLine c.args.names.now c.conclude-self-inside.new.seats.coordinator.journal v.lines c.exchange-turn.new.lines (g.O.Sink.written c.args.out.now) (g.O.Sink.written c.exchange-turn.new.out)) c.self.view_is
     (subst (λ v. CutsLine c.args.names.now v.coordinator.journal s.lines c.exchange-turn.new.lines (g.O.Sink.written c.args.out.now) (g.O.Sink.written c.exchange-turn.new.out)) (sym c.conclude-self-inside.ensures.rest) (c.exchange-turn.ensures.cut cut))
+
+pub returns-clause-run : goal.returns-clause-run
+returns-clause-run g c = ap (λ v. v.run) c.conclude-self-inside.ensures.rest ∙ c.exchange-turn.ensures.works.exchanges.run ∙ ap (λ v. v.run) c.self.view_is
+
+pub returns-clause-settings : goal.returns-clause-settings
+returns-clause-settings g c =
+    let reaches = c.exchange-turn.ensures.works.exchanges.reaches in
+    ap (λ v. v.coordinator.settings) c.conclude-self-inside.ensures.rest ∙ reaches_settings c.self.inside.seats.coordinator c.exchange-turn.new.seats.coordinator reaches ∙ ap (λ v. v.coordinator.settings) c.self.view_is
+
+pub returns-clause-grows : goal.returns-clause-grows
+returns-clause-grows g c =
+    let s = c.self.inside in
+    let mid = c.exchange-turn.new.seats in
+    subst (λ v. IsFront v.coordinator.journal c.conclude-self-inside.new.seats.coordinator.journal) c.self.view_is
+    (subst (λ v. IsFront s.seats.coordinator.journal v.coordinator.journal) (sym c.conclude-self-inside.ensures.rest) (reaches_grown s.seats.coordinator mid.coordinator c.exchange-turn.ensures.works.exchanges.reaches))

@@ -1,6 +1,7 @@
 use Rattle.std.proofs.Common.{rules, ◌≤◌, [], unwrap_or, subst, sym, ap, ◌∙◌, arith}
 use Rattle.tk_input.specs.Sink.{Grows, GrowsByFront}
-use Rattle.tk_hub.specs.Lines.{IsAt, IsCutShort, line_at, text_between, text_from, written_in}
+use Rattle.tk_ledger.specs.Text.{line_at}
+use Rattle.tk_hub.specs.Lines.{IsAt, IsCutShort, text_between, text_from, written_in}
 use Rattle.tk_hub.specs.declared.lines.Lines.{Lines}
 use Rattle.tk_hub.proofs.LinesLemmas.{IsEntryAt, at_next, count_more, cut_next, grown_next}
 use Rattle.tk_hub.proofs.lines.Lines.write.Goals as goal

@@ -1,4 +1,4 @@
-use Rattle.std.proofs.Common.{◌+◌}
+use Rattle.std.proofs.Common.{◌+◌, arith}
 use Rattle.tk_hub.proofs.LobbyLemmas.{greets_step, links_alone, never_ok}
 use Rattle.tk_hub.proofs.lobby.Lobby.greet.Goals as goal
 
@@ -10,6 +10,7 @@ loop-key-preserved g c =
       λ are. c.greet_at.ensures.kept (l.invariant.2 are),
       λ open_before. c.greet_at.ensures.going (l.invariant.3 open_before),
       c.greet_at.ensures.few,
+      omega (arith, l.invariant.5, c.greet_at.ensures.more),
     )
 
 -- the greeting at this key found no memory

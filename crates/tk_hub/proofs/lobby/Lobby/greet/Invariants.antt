@@ -13,3 +13,4 @@ invariant-loop-key g l =
     × (AreSeats l.initial.seats → AreSeats l.seats)
     × (EachOpen l.initial.seats.links → EachOpen l.seats.links)
     × (slab_len l.self.held ≤ 64)
+    × (l.initial.self.strangers ≤ l.self.strangers)

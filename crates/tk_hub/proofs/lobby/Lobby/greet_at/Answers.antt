@@ -25,7 +25,7 @@ returns-in-Strange-clause-greets g c =
     let s = c.args.seats.now in
     let was = c.in-Some.ensures in
     greets_here s.run _ s.coordinator.settings.monitors c.args.key c.self.inside.strangers _ v.Strange _ _ c.self.inside.held c.args.self.now s.links _ c.self.view_is was.value c.run.ensures c.in-Strange.ensures.answer c.greet.ensures.gathers
-    (turned_away c.args.key c.self.inside.strangers c.self.inside.held _ c.args.self.now c.turn_away.new.self s.links c.self.view_is was.updates was.len c.turn_away.ensures)
+    (turned_away c.args.key c.self.inside.strangers c.self.inside.held _ c.args.self.now c.turn_away.new.self s.links c.self.view_is was.updates was.len c.turn_away.ensures.counts)
     (λ e. absurd (cc), λ e. absurd (cc))
 
 pub returns-in-Hello-clause-greets : goal.returns-in-Hello-clause-greets

@@ -1,4 +1,4 @@
-use Rattle.std.proofs.Common.{◌≡◌, ◌∙◌, sym}
+use Rattle.std.proofs.Common.{◌∙◌, sym}
 use Rattle.tk_hub.proofs.HearLemmas.{unwritten_joined}
 use Rattle.tk_hub.proofs.seats.Seats.exchange.Goals as goal
 

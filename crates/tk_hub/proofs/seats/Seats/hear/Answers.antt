@@ -1,7 +1,5 @@
-use Rattle.std.proofs.Common.{◌≡◌, ◌<◌, ◌≤◌, ◌+◌, ◌-◌, ◌∙◌, sym, ap, subst, length, arith, true}
+use Rattle.std.proofs.Common.{◌+◌, ◌-◌, ◌∙◌, sym, ap, subst, arith}
 use Rattle.tk_hub.specs.Seats.{link_at}
-use Rattle.tk_hub.specs.Turn.{goes_on}
-use Rattle.tk_hub.specs.declared.course.HubTurn.{HubTurn}
 use Rattle.tk_hub.proofs.HearLemmas.{HearsUpTo, hears_none, hears_past, hears_step, hears_stop, unwritten_goes, unwritten_seat}
 use Rattle.tk_hub.proofs.TakenLemmas.{reaches_settings}
 use Rattle.tk_hub.proofs.SeatsLemmas.{monitor_at, place_at}

@@ -1,4 +1,4 @@
-use Rattle.std.proofs.Common.{◌≡◌, ◌-◌, set, sym, subst}
+use Rattle.std.proofs.Common.{◌-◌, set, sym, subst}
 use Rattle.tk_journal.specs.Laws.{IsMonitor}
 use Rattle.tk_hub.specs.Seats.{link_at}
 use Rattle.tk_hub.specs.Slot.{SeatHears}

@@ -1,6 +1,7 @@
 use Rattle.std.proofs.Common.{sym, subst}
 use Rattle.tk_hub.proofs.LeavingLemmas.{odd_up, standing_of}
-use Rattle.tk_hub.specs.Leaving.{AreCounted, IsLeftOn}
+use Rattle.tk_hub.specs.End.{AreCounted}
+use Rattle.tk_hub.specs.Leaving.{IsLeftOn}
 use Rattle.tk_hub.proofs.seats.Seats.into_end.Goals as goal
 
 pub leave-odd-requires-clause-standing : goal.leave-odd-requires-clause-standing

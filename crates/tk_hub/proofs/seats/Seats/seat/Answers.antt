@@ -1,4 +1,4 @@
-use Rattle.std.proofs.Common.{◌≡◌, sym, subst}
+use Rattle.std.proofs.Common.{sym, subst}
 use Rattle.tk_hub.specs.Seats.{IsFree}
 use Rattle.tk_hub.specs.Visitor.{HasGreeted}
 use Rattle.tk_hub.proofs.SeatsLemmas.{seats_seated}

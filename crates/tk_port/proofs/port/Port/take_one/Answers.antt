@@ -1,5 +1,4 @@
-use Rattle.std.proofs.Common.{◌≡◌, ap, sym, ◌∙◌, None, subst}
-use Rattle.tk_port.specs.declared.course.Course.TheVariants as k
+use Rattle.std.proofs.Common.{ap, sym, ◌∙◌, subst}
 use Rattle.tk_port.specs.Port.{TurnsOne}
 use Rattle.tk_port.proofs.TurnLemmas.{goes, never_halts, port_concluded, turns_one_concluded}
 use Rattle.tk_port.proofs.port.Port.take_one.Goals as goal

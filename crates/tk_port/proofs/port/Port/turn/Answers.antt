@@ -1,6 +1,5 @@
-use Rattle.std.proofs.Common.{◌≡◌, ap, sym, ◌∙◌, None}
+use Rattle.std.proofs.Common.{ap, sym, ◌∙◌}
 use Rattle.tk_trail.specs.Readings.{is_stopped}
-use Rattle.tk_port.specs.declared.course.Course.TheVariants as k
 use Rattle.tk_port.proofs.TurnLemmas.{ends_one, goes, never_halts, port_concluded, turns_stopped}
 use Rattle.tk_port.proofs.port.Port.turn.Goals as goal
 

@@ -4,7 +4,6 @@ use Rattle.tk_trail.proofs.LawLemmas.{allowed_at}
 use Rattle.tk_trail.proofs.SendsLemmas.{sends}
 use Rattle.tk_trail.specs.Legal.{IsLegal}
 use Rattle.tk_trail.specs.declared.entry.Entry.TheVariants.{Sent}
-use Rattle.tk_end.specs.Actor.{CanBeSent}
 use Rattle.tk_port.proofs.SideLemmas.{no_hello, sent_stands}
 use Rattle.tk_port.proofs.side.SideActor.frame_at.Goals as goal
 

@@ -1,4 +1,4 @@
-use Rattle.std.proofs.Common.{◌≡◌, ap, ◌∙◌, sym, subst, Some, None, Err}
+use Rattle.std.proofs.Common.{ap, ◌∙◌, sym, subst}
 use Rattle.tk_base.specs.History.{IsFront}
 use Rattle.tk_trail.specs.Readings.{sent_by, taken_by}
 use Rattle.tk_trail.specs.Refusal.{refusal_of}

@@ -1,4 +1,4 @@
-use Rattle.std.proofs.Common.{◌≡◌, ◌-◌, sym, subst}
+use Rattle.std.proofs.Common.{◌-◌, sym, subst}
 use Rattle.tk_journal.specs.Laws.{IsMonitor}
 use Rattle.tk_hub.proofs.PipingLemmas.{SeatPipes, pipes_drained, seats_piped}
 use Rattle.tk_hub.proofs.SeatsLemmas.{is_within, read_at}
