@@ -1,5 +1,4 @@
 //! What no clause says, and each call once.
 
 mod buffers;
-mod nets;
 mod wires;
