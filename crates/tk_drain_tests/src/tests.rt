@@ -86,7 +86,11 @@ fn drives_an_order_to_the_ends(rt: HostRuntime) -> Result<(), Fail> {
     let mut w = world(rt.alloc(), TURNS, b"a,5\n")?;
     let order = Order::read(rt.alloc(), b"raise 1 1\nup 1\nraise 3 1\nretune 1 7\n")?;
     drive(rt.alloc(), &mut w, &order)?;
-    let ends = (are_at_their_ends(&mut w)?, is_at_rest(&mut w)?, leads(&w, 2));
+    let ends = (
+        are_at_their_ends(&mut w)?,
+        is_at_rest(&mut w)?,
+        leads(&w, 2),
+    );
     assert_eq!(rt; ends, (true, true, true));
     Ok(())
 }

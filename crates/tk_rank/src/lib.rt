@@ -11,4 +11,3 @@ mod sides;
 mod tree;
 
 pub use rank::Rank;
-
