@@ -14,6 +14,8 @@ tells_of s.NoMemory fault meant says is = tt
 tells_of s.Done fault meant says is = absurd says
 tells_of s.Usage fault meant says is = absurd says
 tells_of s.WriteFault fault meant says is = absurd says
+tells_of s.LinkFault fault meant says is = absurd says
+tells_of (s.LinkDiffers mon direction place sent received) fault meant says is = absurd says
 
 -- a fault is still that of a rule and those after it
 pub tells_on : {V W : Type 0} (status : Status) (meant : Result V Fault) (next : V → Result W Fault) → Tells status meant → Tells status (after meant next)
@@ -24,6 +26,8 @@ tells_on s.NoMemory meant next is = tt
 tells_on s.Done meant next is = absurd is
 tells_on s.Usage meant next is = absurd is
 tells_on s.WriteFault meant next is = absurd is
+tells_on s.LinkFault meant next is = absurd is
+tells_on (s.LinkDiffers mon direction place sent received) meant next is = absurd is
 
 -- what comes after a rule that gives something
 pub meets_after : {V W B : Type 0} (view : B → W) (meant : Result V Fault) (x : V) (next : V → Result W Fault) (answer : Result B Status) → meant ≡ Ok x → Meets view (next x) answer → Meets view (after meant next) answer

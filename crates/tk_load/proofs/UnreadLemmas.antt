@@ -233,3 +233,5 @@ unread_is_lost told old new words (s.BadInput file line kind) loads = tt
 unread_is_lost told old new words (s.TooGreat mon obj) loads = tt
 unread_is_lost told old new words s.WriteFault loads = tt
 unread_is_lost told old new words s.NoMemory loads = tt
+unread_is_lost told old new words s.LinkFault loads = tt
+unread_is_lost told old new words (s.LinkDiffers mon direction place sent received) loads = tt

@@ -48,6 +48,8 @@ Tells s.NoMemory meant = Unit
 Tells s.Done meant = ⊥
 Tells s.Usage meant = ⊥
 Tells s.WriteFault meant = ⊥
+Tells s.LinkFault meant = ⊥
+Tells (s.LinkDiffers mon direction place sent received) meant = ⊥
 
 -- the same of a fault that there is
 abbrev pub Says : Status → Fault → Type 0
@@ -58,6 +60,8 @@ Says s.NoMemory fault = Unit
 Says s.Done fault = ⊥
 Says s.Usage fault = ⊥
 Says s.WriteFault fault = ⊥
+Says s.LinkFault fault = ⊥
+Says (s.LinkDiffers mon direction place sent received) fault = ⊥
 
 -- what is answered is what is meant, or its fault is told
 abbrev pub Meets : {A V : Type 0} → (A → V) → Result V Fault → Result A Status → Type 0

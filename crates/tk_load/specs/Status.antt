@@ -1,6 +1,8 @@
 -- What is told of a status: the number with which the program ends, and the line on standard error.
 use Rattle.std.specs.Prelude.{ℕ, ◌++◌, nat_lt, if◌then◌else◌, List, [], ◌∷◌, codes}
 use Rattle.std.specs.Fmt.{decimal}
+use Rattle.tk_story.specs.declared.ends.join_fault.Direction.{Direction}
+use Rattle.tk_story.specs.declared.ends.join_fault.Direction.TheVariants.{DownLink, UpLink}
 use Rattle.tk_load.specs.declared.status.InputKind.{InputKind}
 use Rattle.tk_load.specs.declared.status.InputKind.TheVariants as k
 use Rattle.tk_load.specs.declared.status.Status.{Status}
@@ -15,6 +17,8 @@ number_of (s.BadInput file line kind) = 4
 number_of (s.TooGreat mon obj) = 5
 number_of s.WriteFault = 6
 number_of s.NoMemory = 7
+number_of s.LinkFault = 8
+number_of (s.LinkDiffers mon direction place sent received) = 9
 
 -- what is wrong with an input, in words
 abbrev pub kind_text : InputKind → List ℕ
@@ -44,6 +48,11 @@ place_text (c ∷ rest) = c ∷ rest
 abbrev pub line_text : ℕ → List ℕ
 line_text n = if nat_lt 0 n then codes "line " ++ decimal n ++ codes ": " else []
 
+-- which frame of a link: those that a monitor sends go up
+abbrev pub link_text : Direction → List ℕ
+link_text UpLink = codes ": up frame "
+link_text DownLink = codes ": down frame "
+
 -- the line on standard error, without its line feed; nothing where the run is done
 abbrev pub fault_text : Status → List ℕ
 fault_text s.Done = []
@@ -53,3 +62,5 @@ fault_text (s.BadInput file line kind) = codes "topk: " ++ place_text file.items
 fault_text (s.TooGreat mon obj) = codes "topk: monitor " ++ decimal mon.0 ++ codes ": object " ++ decimal obj.0 ++ codes ": the changes pass the limit"
 fault_text s.WriteFault = codes "topk: the output cannot be written"
 fault_text s.NoMemory = codes "topk: out of memory"
+fault_text s.LinkFault = codes "topk: a link failed"
+fault_text (s.LinkDiffers mon direction place sent received) = codes "topk: monitor " ++ decimal mon.0 ++ link_text direction ++ decimal place ++ codes " differs"

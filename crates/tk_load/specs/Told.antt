@@ -44,3 +44,5 @@ IsCounted words old new (s.BadInput file line kind) = Unit
 IsCounted words old new (s.TooGreat mon obj) = Unit
 IsCounted words old new s.WriteFault = Unit
 IsCounted words old new s.NoMemory = Unit
+IsCounted words old new s.LinkFault = Unit
+IsCounted words old new (s.LinkDiffers mon direction place sent received) = Unit

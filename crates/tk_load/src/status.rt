@@ -3,6 +3,8 @@ ghost use Rattle.tk_load.specs.Status.{number_of};
 
 use std::alloc::{AllocError, AllocFailed};
 use tk_base::{Mon, NoMemory, Obj};
+use tk_frames::Frame;
+use tk_story::{Direction, Received};
 
 /// How a run ended.
 #[derive(Debug, Drop, PartialEq)]
@@ -30,6 +32,16 @@ pub enum Status {
     /// The output cannot be written.
     WriteFault,
     NoMemory,
+    /// A link of a live run failed or ended, or its net failed.
+    LinkFault,
+    /// At this place from 0 of a link of a live run something else was received than what was sent, or where nothing was.
+    LinkDiffers {
+        mon: Mon,
+        direction: Direction,
+        place: u64,
+        sent: Option<Frame>,
+        received: Received,
+    },
 }
 
 impl<T: Drop> From<AllocFailed<T>> for Status {
@@ -96,6 +108,8 @@ impl Status {
             Status::TooGreat { .. } => 5,
             Status::WriteFault => 6,
             Status::NoMemory => 7,
+            Status::LinkFault => 8,
+            Status::LinkDiffers { .. } => 9,
         }
     }
 }

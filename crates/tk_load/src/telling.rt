@@ -1,11 +1,12 @@
 ghost use Rattle.std.specs.Prelude.{◌≡◌, ◌++◌, IfOk, OnOk, codes};
 ghost use Rattle.std.specs.Fmt.{decimal};
-ghost use Rattle.tk_load.specs.Status.{fault_text, kind_text, line_text, place_text};
+ghost use Rattle.tk_load.specs.Status.{fault_text, kind_text, line_text, link_text, place_text};
 
 use crate::status::{InputKind, Status};
 use itoa::Buffer;
 use std::alloc::{AllocError, Global};
 use tk_base::{Mon, NoMemory};
+use tk_story::Direction;
 
 pub fn push_number(line: &mut Vec<u8>, number: u32) -> Result<(), AllocError>
     ensures { OnOk result (line.new.items ≡ line.old.items ++ decimal number) }
@@ -97,6 +98,39 @@ fn push_too_great(line: &mut Vec<u8>, mon: Mon, object: u32) -> Result<(), Alloc
     Ok(())
 }
 
+fn push_link(line: &mut Vec<u8>, direction: Direction) -> Result<(), AllocError>
+    ensures { OnOk result (line.new.items ≡ line.old.items ++ link_text direction) }
+{
+    match direction {
+        Direction::UpLink => line.extend_from_slice(b": up frame "),
+        Direction::DownLink => line.extend_from_slice(b": down frame "),
+    }
+}
+
+fn push_place(line: &mut Vec<u8>, place: u64) -> Result<(), AllocError>
+    ensures { OnOk result (line.new.items ≡ line.old.items ++ (decimal place ++ codes " differs")) }
+{
+    let mut buffer = Buffer::new();
+    line.extend_from_slice(buffer.format(place).as_bytes())?;
+    line.extend_from_slice(b" differs")?;
+    Ok(())
+}
+
+fn push_differs(
+    line: &mut Vec<u8>,
+    mon: Mon,
+    direction: Direction,
+    place: u64,
+) -> Result<(), AllocError>
+    ensures { OnOk result (line.new.items ≡ line.old.items
+        ++ (codes "monitor " ++ (decimal mon.0 ++ (link_text direction ++ (decimal place ++ codes " differs"))))) }
+{
+    push_monitor(line, b"monitor ", mon)?;
+    push_link(line, direction)?;
+    push_place(line, place)?;
+    Ok(())
+}
+
 /// What the program tells of a status on standard error, without a line feed; nothing of Done.
 pub fn fault_line(alloc: Global, status: &Status) -> Result<Vec<u8>, NoMemory>
     ensures { IfOk result (λ line. line.items ≡ fault_text status.now) }
@@ -121,6 +155,13 @@ pub fn fault_line(alloc: Global, status: &Status) -> Result<Vec<u8>, NoMemory>
         Status::TooGreat { mon, obj } => push_too_great(&mut line, *mon, obj.0)?,
         Status::WriteFault => line.extend_from_slice(b"the output cannot be written")?,
         Status::NoMemory => line.extend_from_slice(b"out of memory")?,
+        Status::LinkFault => line.extend_from_slice(b"a link failed")?,
+        Status::LinkDiffers {
+            mon,
+            direction,
+            place,
+            ..
+        } => push_differs(&mut line, *mon, *direction, *place)?,
     }
     Ok(line)
 }

@@ -2,8 +2,11 @@
 
 use std::alloc::Global;
 use std::test::Fail;
+use tk_base::Mon;
+use tk_frames::Frame;
 use tk_input::MapFiles;
 use tk_load::{Status, fault_line, load, make};
+use tk_story::{Direction, Received};
 use tk_words::{Command, WordsFault, read};
 
 const FILES: [(&str, &str); 18] = [
@@ -36,6 +39,7 @@ fn told_of(alloc: Global, words: &str, files: &mut MapFiles) -> Result<Vec<u8>, 
     let outcome = match read(alloc, list.as_slice()) {
         Ok(Command::Replay(words)) => load(alloc, &words, files),
         Ok(Command::Generate(words)) => make(alloc, &words),
+        Ok(Command::Live(words)) => load(alloc, &words.input, files),
         Err(WordsFault::Usage) => Err(Status::Usage),
         Err(WordsFault::NoMemory) => Err(Status::NoMemory),
     };
@@ -238,6 +242,71 @@ fn what_a_generated_run_refuses_is_told(rt: HostRuntime) -> Result<(), Fail> {
         let told = told_of(rt.alloc(), words.as_str(), &mut files)?;
         assert_eq!(rt; told.as_slice(), line.as_bytes(), "{words}");
     }
+    Ok(())
+}
+
+#[test]
+fn what_a_live_run_refuses_is_told(rt: HostRuntime) -> Result<(), Fail> {
+    let misunderstood = "topk: the words are not understood";
+    let rows = [
+        ("--objects objects.csv 1=one.csv 2=two.csv", ""),
+        ("--frames 1 --objects objects.csv 1=one.csv", ""),
+        ("--objects objects.csv --frames=2 1=one.csv", ""),
+        ("--frames 3 --objects objects.csv 1=one.csv", misunderstood),
+        ("--frames 01 --objects objects.csv 1=one.csv", misunderstood),
+        (
+            "--order order.txt --objects objects.csv 1=one.csv",
+            misunderstood,
+        ),
+        ("--objects objects.csv", misunderstood),
+        (
+            "--own-weight 1001 --objects objects.csv 1=none.csv",
+            "topk: settings: bad own weight",
+        ),
+        (
+            "--objects objects.csv 1=none.csv",
+            "topk: none.csv: cannot be read",
+        ),
+        (
+            "--objects objects.csv 1=number.csv",
+            "topk: number.csv: line 1: bad number",
+        ),
+    ];
+    let mut files = small_files(rt.alloc())?;
+    for (words, line) in rows {
+        let words = format!(in rt.alloc(); "live --k 1 --epsilon 0 {words}")?;
+        let told = told_of(rt.alloc(), words.as_str(), &mut files)?;
+        assert_eq!(rt; told.as_slice(), line.as_bytes(), "{words}");
+    }
+    Ok(())
+}
+
+/// Whether a status has this number and this line.
+fn is_told(alloc: Global, status: Status, number: u8, line: &str) -> Result<bool, Fail> {
+    let told = fault_line(alloc, &status)?;
+    Ok(status.number() == number && told.as_slice() == line.as_bytes())
+}
+
+/// A Stop that came where nothing, or something else, was sent.
+fn differs(direction: Direction, place: u64) -> Status {
+    Status::LinkDiffers {
+        mon: Mon(2),
+        direction,
+        place,
+        sent: None,
+        received: Received::Frame(Frame::Stop),
+    }
+}
+
+#[test]
+fn what_befalls_links_is_told(rt: HostRuntime) -> Result<(), Fail> {
+    let alloc = rt.alloc();
+    let failed = is_told(alloc, Status::LinkFault, 8, "topk: a link failed")?;
+    let up = differs(Direction::UpLink, 0);
+    let up = is_told(alloc, up, 9, "topk: monitor 2: up frame 0 differs")?;
+    let down = differs(Direction::DownLink, 12);
+    let down = is_told(alloc, down, 9, "topk: monitor 2: down frame 12 differs")?;
+    assert_eq!(rt; (failed, up, down), (true, true, true));
     Ok(())
 }
 

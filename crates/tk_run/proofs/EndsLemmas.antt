@@ -1,8 +1,6 @@
 -- How runs end.
-use Rattle.std.proofs.Common.{◌≡◌, ℕ, List, map, Option, Some, None, Result, Ok, Err, refl, sym, ap, subst, inl, inr}
+use Rattle.std.proofs.Common.{◌≡◌, ℕ, List, Option, Result, Ok, Err, refl, subst, inl}
 use Rattle.tk_input.specs.Sink.{Grows, GrowsByFront}
-use Rattle.tk_words.specs.Words.{Asked, GenerateWords, ReplayWords, words_of}
-use Rattle.tk_words.specs.Words.Asked.{Generates, Replays}
 use Rattle.tk_load.specs.Faults.{Fault}
 use Rattle.tk_load.specs.Reads.{Tells}
 use Rattle.tk_load.specs.declared.input.Input.{Input}
@@ -29,6 +27,8 @@ module _ (gives : Result Input Status → Type 0) (text : List (List ℕ) → St
   refused old s.Done meant tells given = absurd tells
   refused old s.Usage meant tells given = absurd tells
   refused old s.WriteFault meant tells given = absurd tells
+  refused old s.LinkFault meant tells given = absurd tells
+  refused old (s.LinkDiffers mon direction place sent received) meant tells given = absurd tells
 
   module _ (old new : Option (List ℕ)) (input : Input) (given : gives (Ok input)) (kept : KeptStory) (story : IsStoryOf input kept) (names : List (List ℕ)) (same : names ≡ input.names) where
     pub has_run : Grows old new (text names kept.story) → HasRun gives text old new kept

@@ -1,8 +1,7 @@
 -- An input that the files tell is run.
-use Rattle.std.proofs.Common.{◌≡◌, ℕ, List, Option, Some, None, Result, Ok, Err, refl, subst, inl, inr}
-use Rattle.std.specs.Prelude.{◌⊎◌}
+use Rattle.std.proofs.Common.{◌≡◌, ℕ, List, Option, Some, Ok, Err, refl, subst, inl, inr}
 use Rattle.tk_words.specs.Words.{Asked, ReplayWords, words_of}
-use Rattle.tk_words.specs.Words.Asked.{Generates, Replays}
+use Rattle.tk_words.specs.Words.Asked.{Replays}
 use Rattle.tk_load.specs.Input.{input_of}
 use Rattle.tk_load.specs.Reads.{Loads}
 use Rattle.tk_load.specs.Told.{AreTold, read_by}
@@ -10,7 +9,7 @@ use Rattle.tk_load.specs.declared.input.Input.{Input}
 use Rattle.tk_load.specs.declared.status.Status.{Status}
 use Rattle.tk_load.specs.declared.status.Status.TheVariants as s
 use Rattle.tk_load.proofs.ToldLemmas.{meant_as_told}
-use Rattle.tk_run.specs.Ends.{Ends, EndsAsked, EndsWords, Gives, IsDone, IsRefused, text_by}
+use Rattle.tk_run.specs.Ends.{Ends, EndsWords, Gives, IsDone, IsRefused, text_by}
 
 module _ (words : List (List ℕ)) (asked : ReplayWords) (told : List ℕ → Option (List ℕ)) (old new : List ℕ → ℕ) (before after : Option (List ℕ)) (understood : words_of words ≡ Some (Replays asked)) where
   not_refused : (status : Status) → IsRefused words status → IsDone status
@@ -21,6 +20,8 @@ module _ (words : List (List ℕ)) (asked : ReplayWords) (told : List ℕ → Op
   not_refused (s.BadInput file line kind) none = absurd none
   not_refused (s.TooGreat mon obj) none = absurd none
   not_refused s.WriteFault none = absurd none
+  not_refused s.LinkFault none = absurd none
+  not_refused (s.LinkDiffers mon direction place sent received) none = absurd none
 
   module _ (contents : List ℕ → List ℕ) (are : AreTold told old new contents asked) (input : Input) (is : input_of (read_by contents asked) ≡ Ok input) where
     no_fault : (status : Status) → Loads told old new asked (Err status) → IsDone status
@@ -31,6 +32,9 @@ module _ (words : List (List ℕ)) (asked : ReplayWords) (told : List ℕ → Op
     no_fault s.Done loads = tt
     no_fault s.Usage loads = absurd (meant_as_told told old new contents asked (Err s.Usage) are loads)
     no_fault s.WriteFault loads = absurd (meant_as_told told old new contents asked (Err s.WriteFault) are loads)
+    no_fault s.LinkFault loads = absurd (meant_as_told told old new contents asked (Err s.LinkFault) are loads)
+    no_fault (s.LinkDiffers mon direction place sent received) loads =
+        absurd (meant_as_told told old new contents asked (Err (s.LinkDiffers mon direction place sent received)) are loads)
 
     ended : (status : Status) → (status ≡ s.WriteFault → ⊥) → Ends (Loads told old new asked) (text_by (Replays asked)) before after status → IsDone status
     ended (s.ReadFault file) written ends = no_fault (s.ReadFault file) ends.0
@@ -40,6 +44,8 @@ module _ (words : List (List ℕ)) (asked : ReplayWords) (told : List ℕ → Op
     ended s.Done written ends = tt
     ended s.Usage written ends = absurd ends
     ended s.WriteFault written ends = absurd (written refl)
+    ended s.LinkFault written ends = absurd ends
+    ended (s.LinkDiffers mon direction place sent received) written ends = absurd ends
 
     pub input_is_run : (status : Status) → (status ≡ s.WriteFault → ⊥) → EndsWords words told old new before after status → IsDone status
     input_is_run status written (inl refused) = not_refused status refused.0

@@ -5,7 +5,7 @@ use Rattle.tk_input.specs.Order.{Ordered}
 use Rattle.tk_input.specs.Sink.{Grows, GrowsByFront}
 use Rattle.tk_input.specs.declared.event.Event.{Event}
 use Rattle.tk_words.specs.Words.{Asked, words_of}
-use Rattle.tk_words.specs.Words.Asked.{Generates, Replays}
+use Rattle.tk_words.specs.Words.Asked.{Generates, Lives, Replays}
 use Rattle.tk_load.specs.Generated.{generated_of}
 use Rattle.tk_load.specs.Reads.{Loads, Meets}
 use Rattle.tk_load.specs.declared.input.Input.{Input}
@@ -66,40 +66,53 @@ Ends gives text before after (s.BadInput file line kind) = gives (Err (s.BadInpu
 Ends gives text before after (s.TooGreat mon obj) = gives (Err (s.TooGreat mon obj)) × (after ≡ before)
 Ends gives text before after s.WriteFault = IsCutShort gives text before after
 Ends gives text before after s.NoMemory = (after ≡ before) ⊎ IsCutShort gives text before after
+Ends gives text before after s.LinkFault = ⊥
+Ends gives text before after (s.LinkDiffers mon direction place sent received) = ⊥
 
 -- ---- of the words of a command
 
--- a generated run reads no file
+-- what words ask of `run`, which serves replays and generated runs
+abbrev pub served : Option Asked → Option Asked
+served None = None
+served (Some (Replays words)) = Some (Replays words)
+served (Some (Generates words)) = Some (Generates words)
+served (Some (Lives words)) = None
+
+-- what gives the input: a generated run reads no file, and a live run is not served
 abbrev pub Gives : Asked → (List ℕ → Option (List ℕ)) → (List ℕ → ℕ) → (List ℕ → ℕ) → Result Input Status → Type 0
 Gives (Replays words) told old new answer = Loads told old new words answer
 Gives (Generates words) told old new answer = Meets (λ input. input) (generated_of words) answer
+Gives (Lives words) told old new answer = ⊥
 
--- a replay prints the whole text, a generated run its summary
+-- a replay prints the whole text, as a live run does, a generated run its summary
 abbrev pub text_by : Asked → List (List ℕ) → StoryView → List ℕ
 text_by (Replays words) = text_of
 text_by (Generates words) = summary_of
+text_by (Lives words) = text_of
 
 -- the words are understood, and what they ask for has run
 pub record RunsWords (words : List (List ℕ)) (told : List ℕ → Option (List ℕ)) (old new : List ℕ → ℕ) (before after : Option (List ℕ)) (kept : KeptStory) : Type 0 where
   pub asked : Asked
-  pub understood : words_of words ≡ Some asked
+  pub understood : served (words_of words) ≡ Some asked
   pub ran : HasRun (Gives asked told old new) (text_by asked) before after kept
 
 -- the words are understood, and what they ask for has ended so
 pub record EndsAsked (words : List (List ℕ)) (told : List ℕ → Option (List ℕ)) (old new : List ℕ → ℕ) (before after : Option (List ℕ)) (status : Status) : Type 0 where
   pub asked : Asked
-  pub understood : words_of words ≡ Some asked
+  pub understood : served (words_of words) ≡ Some asked
   pub ends : Ends (Gives asked told old new) (text_by asked) before after status
 
 -- the words are not understood, or no memory was found for them
 abbrev pub IsRefused : List (List ℕ) → Status → Type 0
-IsRefused words s.Usage = words_of words ≡ None
+IsRefused words s.Usage = served (words_of words) ≡ None
 IsRefused words s.NoMemory = Unit
 IsRefused words s.Done = ⊥
 IsRefused words (s.ReadFault file) = ⊥
 IsRefused words (s.BadInput file line kind) = ⊥
 IsRefused words (s.TooGreat mon obj) = ⊥
 IsRefused words s.WriteFault = ⊥
+IsRefused words s.LinkFault = ⊥
+IsRefused words (s.LinkDiffers mon direction place sent received) = ⊥
 
 -- how words end
 abbrev pub EndsWords : List (List ℕ) → (List ℕ → Option (List ℕ)) → (List ℕ → ℕ) → (List ℕ → ℕ) → Option (List ℕ) → Option (List ℕ) → Status → Type 0
@@ -114,3 +127,5 @@ IsDone (s.ReadFault file) = ⊥
 IsDone (s.BadInput file line kind) = ⊥
 IsDone (s.TooGreat mon obj) = ⊥
 IsDone s.WriteFault = ⊥
+IsDone s.LinkFault = ⊥
+IsDone (s.LinkDiffers mon direction place sent received) = ⊥

@@ -33,6 +33,8 @@ pub fn run<F: Files, O: Sink>(
     match read(alloc, words) {
         Ok(Command::Replay(words)) => replay(alloc, &words, files, out),
         Ok(Command::Generate(words)) => generate(alloc, &words, out),
+        // A live run has a call of its own.
+        Ok(Command::Live(_)) => Outcome::ended(Status::Usage),
         Err(WordsFault::Usage) => Outcome::ended(Status::Usage),
         Err(WordsFault::NoMemory) => Outcome::ended(Status::NoMemory),
     }

@@ -1,13 +1,14 @@
 -- What the values of the code ask for.
-use Rattle.std.specs.Prelude.{ℕ, ◌≤◌, All, List, map, option_map}
+use Rattle.std.specs.Prelude.{ℕ, ◌≡◌, ◌⊎◌, ◌≤◌, All, List, map, option_map}
 use Rattle.std.specs.Borrow.{Bor}
 use Rattle.tk_base.specs.declared.ids.Mon.{Mon}
-use Rattle.tk_words.specs.Words.{Asked, ReplayWords, GenerateWords}
-use Rattle.tk_words.specs.Words.Asked.{Replays, Generates}
+use Rattle.tk_words.specs.Words.{Asked, ReplayWords, GenerateWords, LiveWords}
+use Rattle.tk_words.specs.Words.Asked.{Replays, Generates, Lives}
 use Rattle.tk_words.specs.declared.command.Command.{Command}
-use Rattle.tk_words.specs.declared.command.Command.TheVariants.{Replay as Replayed, Generate as Generated}
+use Rattle.tk_words.specs.declared.command.Command.TheVariants.{Replay as Replayed, Generate as Generated, Live as Lived}
 use Rattle.tk_words.specs.declared.replay.Replay.{Replay}
 use Rattle.tk_words.specs.declared.generate.Generate.{Generate}
+use Rattle.tk_words.specs.declared.live.Live.{Live}
 
 -- logs as numbers and bytes
 abbrev pub asked_logs : List (Mon × Bor (List ℕ)) → List (ℕ × List ℕ)
@@ -33,9 +34,13 @@ asked_generate g = record {
   epsilon = g.epsilon;
 }
 
+abbrev pub asked_live : Live → LiveWords
+asked_live l = record { input = asked_replay l.input; frames = l.frames }
+
 abbrev pub asked_by : Command → Asked
 asked_by (Replayed r) = Replays (asked_replay r)
 asked_by (Generated g) = Generates (asked_generate g)
+asked_by (Lived l) = Lives (asked_live l)
 
 -- each log is that of a monitor from 1 to 64
 abbrev pub AreOfMonitors : List (Mon × Bor (List ℕ)) → Type 0
@@ -45,3 +50,10 @@ AreOfMonitors logs = All (λ log. (1 ≤ log.0.0) × (log.0.0 ≤ 64)) logs
 abbrev pub HasMonitors : Command → Type 0
 HasMonitors (Replayed r) = AreOfMonitors r.logs.items
 HasMonitors (Generated g) = Unit
+HasMonitors (Lived l) = AreOfMonitors l.input.logs.items
+
+-- the frames of a command have a version that there is
+abbrev pub HasVersion : Command → Type 0
+HasVersion (Replayed r) = Unit
+HasVersion (Generated g) = Unit
+HasVersion (Lived l) = (l.frames ≡ 1) ⊎ (l.frames ≡ 2)

@@ -22,6 +22,17 @@ replay_app =
     (option_rule (codes "order") false))
     logs_rule
 
+-- `live`
+abbrev pub live_app : App
+live_app =
+    with_rule (with_rule (with_rule (with_rule (with_rule (with_rule (new_app (codes "live"))
+    (option_rule (codes "k") true))
+    (option_rule (codes "epsilon") true))
+    (option_rule (codes "objects") true))
+    (option_rule (codes "own-weight") false))
+    (option_rule (codes "frames") false))
+    logs_rule
+
 -- `gen`
 abbrev pub gen_app : App
 gen_app =

@@ -1,5 +1,5 @@
 -- The forms of the values of words.
-use Rattle.std.specs.Prelude.{ℕ, ◌&&◌, ◌==◌, nat_lt, nat_le, if◌then◌else◌, List, [], ◌∷◌, length, Option, Some, None, option_map, option_and_then}
+use Rattle.std.specs.Prelude.{ℕ, bytes_eq, codes, ◌&&◌, ◌==◌, nat_lt, nat_le, if◌then◌else◌, List, [], ◌∷◌, length, Option, Some, None, option_map, option_and_then}
 use Rattle.std.specs.List.{after_first, before_first, position_or_len}
 use Rattle.std.specs.Str.{all_ascii_digits}
 use Rattle.std.specs.Str.Parse.{digits_value}
@@ -20,6 +20,10 @@ monitor_from (Some n) = if nat_lt 0 n && nat_le n 64 then Some n else None
 abbrev pub monitor_in : List ℕ → Option ℕ
 monitor_in [] = None
 monitor_in (c ∷ rest) = if c == 48 then None else (if nat_le (length rest) 1 then monitor_from (digits_in (c ∷ rest)) else None)
+
+-- the version of frames that is named
+abbrev pub version_in : List ℕ → Option ℕ
+version_in text = if bytes_eq text (codes "1") then Some 1 else (if bytes_eq text (codes "2") then Some 2 else None)
 
 -- a file has one byte or more
 abbrev pub file_in : List ℕ → Option (List ℕ)

@@ -3,9 +3,9 @@ use Rattle.std.specs.Prelude.{ℕ, List, [], ◌∷◌, Option, Some, None, opti
 use Rattle.std.specs.Option.{option_map_or}
 use Rattle.clap.specs.Words.{Row, all_of, first_of}
 use Rattle.tk_words.specs.declared.verb.Verb.{Verb}
-use Rattle.tk_words.specs.declared.verb.Verb.TheVariants.{Replay, Generate}
-use Rattle.tk_words.specs.Clap.{found_in, gen_app, replay_app}
-use Rattle.tk_words.specs.Forms.{digits_in, file_in, logs_in, short_in}
+use Rattle.tk_words.specs.declared.verb.Verb.TheVariants.{Replay, Generate, Live}
+use Rattle.tk_words.specs.Clap.{found_in, gen_app, live_app, replay_app}
+use Rattle.tk_words.specs.Forms.{digits_in, file_in, logs_in, short_in, version_in}
 
 -- what a replay asks for: the numbers of the settings, and the files with their logs' monitors
 pub record ReplayWords : Type 0 where
@@ -15,6 +15,11 @@ pub record ReplayWords : Type 0 where
   pub objects : List ℕ
   pub order : Option (List ℕ)
   pub logs : List (ℕ × List ℕ)
+
+-- what a live run asks for: an input without an order, and the version of its frames
+pub record LiveWords : Type 0 where
+  pub input : ReplayWords
+  pub frames : ℕ
 
 -- what a generated run asks for
 pub record GenerateWords : Type 0 where
@@ -29,6 +34,7 @@ pub record GenerateWords : Type 0 where
 pub data Asked : Type 0 where
   Replays : ReplayWords → Asked
   Generates : GenerateWords → Asked
+  Lives : LiveWords → Asked
 
 -- the value of a required option, in its form
 abbrev pub required : {A : Type 0} → (List ℕ → Option A) → List ℕ → List Row → Option A
@@ -42,17 +48,27 @@ optional form name absent rows = option_map_or form (first_of name rows) (Some a
 abbrev pub logs_of : List Row → Option (List (ℕ × List ℕ))
 logs_of rows = option_and_then logs_in (all_of (codes "log") rows)
 
--- the values of a replay
-abbrev pub replay_of : List Row → Option ReplayWords
-replay_of rows =
-    option_and_then (λ k. option_and_then (λ epsilon. option_and_then (λ own_weight. option_and_then (λ objects. option_and_then (λ order.
+-- the settings, the objects and the logs that are named, with this order
+abbrev pub named_with : Option (List ℕ) → List Row → Option ReplayWords
+named_with order rows =
+    option_and_then (λ k. option_and_then (λ epsilon. option_and_then (λ own_weight. option_and_then (λ objects.
     option_map (λ logs. record { k = k; epsilon = epsilon; own_weight = own_weight; objects = objects; order = order; logs = logs })
     (logs_of rows))
-    (optional (λ text. option_map Some (file_in text)) (codes "order") None rows))
     (required file_in (codes "objects") rows))
     (optional short_in (codes "own-weight") 1 rows))
     (required digits_in (codes "epsilon") rows))
     (required short_in (codes "k") rows)
+
+-- the values of a replay
+abbrev pub replay_of : List Row → Option ReplayWords
+replay_of rows =
+    option_and_then (λ order. named_with order rows) (optional (λ text. option_map Some (file_in text)) (codes "order") None rows)
+
+-- the values of a live run
+abbrev pub live_of : List Row → Option LiveWords
+live_of rows =
+    option_and_then (λ frames. option_map (λ input. record { input = input; frames = frames }) (named_with None rows))
+    (optional version_in (codes "frames") 1 rows)
 
 -- the values of a generated run
 abbrev pub generate_of : List Row → Option GenerateWords
@@ -70,13 +86,19 @@ generate_of rows =
 abbrev pub replay_in : List (List ℕ) → Option ReplayWords
 replay_in words = option_and_then replay_of (found_in replay_app words)
 
+-- what those of a live run ask for
+abbrev pub live_in : List (List ℕ) → Option LiveWords
+live_in words = option_and_then live_of (found_in live_app words)
+
 -- what those of a generated run ask for
 abbrev pub generate_in : List (List ℕ) → Option GenerateWords
 generate_in words = option_and_then generate_of (found_in gen_app words)
 
 -- the command that a word names
 abbrev pub verb_named : List ℕ → Option Verb
-verb_named word = if bytes_eq word (codes "replay") then Some Replay else (if bytes_eq word (codes "gen") then Some Generate else None)
+verb_named word =
+    if bytes_eq word (codes "replay") then Some Replay
+    else (if bytes_eq word (codes "gen") then Some Generate else (if bytes_eq word (codes "live") then Some Live else None))
 
 -- the command of some words, which the first of them names
 abbrev pub verb_of : List (List ℕ) → Option Verb
@@ -88,6 +110,7 @@ abbrev pub asked_under : Option Verb → List (List ℕ) → Option Asked
 asked_under None words = None
 asked_under (Some Replay) words = option_map Replays (replay_in words)
 asked_under (Some Generate) words = option_map Generates (generate_in words)
+asked_under (Some Live) words = option_map Lives (live_in words)
 
 -- what words ask for, where they are understood
 abbrev pub words_of : List (List ℕ) → Option Asked

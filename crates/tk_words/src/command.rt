@@ -1,9 +1,10 @@
 ghost use Rattle.std.specs.Prelude.{◌≡◌, Some, None, IfOk, IsErrOf, map, string_bytes};
-ghost use Rattle.tk_words.specs.Asked.{HasMonitors, asked_by};
+ghost use Rattle.tk_words.specs.Asked.{HasMonitors, HasVersion, asked_by};
 ghost use Rattle.tk_words.specs.Words.{words_of};
 
 use crate::fault::WordsFault;
 use crate::generate::{Generate, read_generate};
+use crate::live::{Live, read_live};
 use crate::replay::{Replay, read_replay};
 use crate::verb::{Verb, verb_of};
 use std::alloc::Global;
@@ -15,6 +16,8 @@ pub enum Command<'a> {
     Replay(Replay<'a>),
     /// A replay of logs that are made.
     Generate(Generate),
+    /// A run over a net, of logs from files.
+    Live(Live<'a>),
 }
 
 /// Reads the words, which come without the program's name. The first is the command.
@@ -23,6 +26,7 @@ pub fn read<'a>(alloc: Global, words: &'a [String]) -> Result<Command<'a>, Words
     // Where the first names no command, clap refuses the rest, or a value is not in its form.
     ensures usage { IsErrOf result WordsFault.Usage → words_of (map string_bytes words.entry.now) ≡ None }
     ensures monitors { IfOk result HasMonitors }
+    ensures versions { IfOk result HasVersion }
 {
     match verb_of(words) {
         None => Err(WordsFault::Usage),
@@ -32,6 +36,10 @@ pub fn read<'a>(alloc: Global, words: &'a [String]) -> Result<Command<'a>, Words
         },
         Some(Verb::Generate) => match read_generate(alloc, words) {
             Ok(generate) => Ok(Command::Generate(generate)),
+            Err(fault) => Err(fault),
+        },
+        Some(Verb::Live) => match read_live(alloc, words) {
+            Ok(live) => Ok(Command::Live(live)),
             Err(fault) => Err(fault),
         },
     }

@@ -1,5 +1,5 @@
-ghost use Rattle.std.specs.Prelude.{◌≡◌, ◌≤◌, IfSome, option_map};
-ghost use Rattle.tk_words.specs.Forms.{digits_in, file_in, log_in, monitor_in, short_in};
+ghost use Rattle.std.specs.Prelude.{◌≡◌, ◌⊎◌, ◌≤◌, IfSome, option_map};
+ghost use Rattle.tk_words.specs.Forms.{digits_in, file_in, log_in, monitor_in, short_in, version_in};
 
 use crate::digits::digits_of;
 use tk_base::Mon;
@@ -43,6 +43,20 @@ fn monitor(text: &[u8]) -> Option<Mon>
                 None
             }
         }
+    }
+}
+
+/// The version of frames: 1 or 2.
+pub fn version(text: &str) -> Option<u8>
+    ensures value { result ≡ version_in text.now }
+    ensures range { IfSome result (λ v. (v ≡ 1) ⊎ (v ≡ 2)) }
+{
+    if text == "1" {
+        Some(1)
+    } else if text == "2" {
+        Some(2)
+    } else {
+        None
     }
 }
 

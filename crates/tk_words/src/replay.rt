@@ -3,6 +3,7 @@ ghost use Rattle.clap.specs.Words.{app_of, found_of, rows_of};
 ghost use Rattle.tk_words.specs.Asked.{AreOfMonitors, asked_logs, asked_replay};
 ghost use Rattle.tk_words.specs.Clap.{replay_app};
 ghost use Rattle.tk_words.specs.Forms.{file_in, logs_in, short_in};
+ghost use Rattle.tk_words.specs.Words as spec;
 ghost use Rattle.tk_words.specs.Words.{logs_of, optional, replay_in, replay_of};
 
 use crate::fault::WordsFault;
@@ -84,9 +85,14 @@ fn logs<'a>(alloc: Global, matches: &ArgMatches<'a>) -> Result<Vec<(Mon, &'a str
     }
 }
 
-fn values<'a>(alloc: Global, matches: &ArgMatches<'a>) -> Result<Replay<'a>, WordsFault>
-    ensures ok { IfOk result (λ r. replay_of (rows_of (found_of matches.now)) ≡ Some (asked_replay r)) }
-    ensures usage { IsErrOf result WordsFault.Usage → replay_of (rows_of (found_of matches.now)) ≡ None }
+/// The settings, the objects and the logs, with this order.
+pub fn named_with<'a>(
+    alloc: Global,
+    matches: &ArgMatches<'a>,
+    order: Option<&'a str>,
+) -> Result<Replay<'a>, WordsFault>
+    ensures ok { IfOk result (λ r. spec.named_with (option_map (λ s. s.now) order.entry) (rows_of (found_of matches.now)) ≡ Some (asked_replay r)) }
+    ensures usage { IsErrOf result WordsFault.Usage → spec.named_with (option_map (λ s. s.now) order.entry) (rows_of (found_of matches.now)) ≡ None }
     ensures monitors { IfOk result (λ r. AreOfMonitors r.logs.items) }
 {
     let Some(k) = short(matches, "k") else {
@@ -101,9 +107,6 @@ fn values<'a>(alloc: Global, matches: &ArgMatches<'a>) -> Result<Replay<'a>, Wor
     let Some(objects) = named_file(matches, "objects") else {
         return Err(WordsFault::Usage);
     };
-    let Some(order) = order(matches) else {
-        return Err(WordsFault::Usage);
-    };
     match logs(alloc, matches) {
         Ok(logs) => Ok(Replay {
             k,
@@ -113,6 +116,20 @@ fn values<'a>(alloc: Global, matches: &ArgMatches<'a>) -> Result<Replay<'a>, Wor
             order,
             logs,
         }),
+        Err(fault) => Err(fault),
+    }
+}
+
+fn values<'a>(alloc: Global, matches: &ArgMatches<'a>) -> Result<Replay<'a>, WordsFault>
+    ensures ok { IfOk result (λ r. replay_of (rows_of (found_of matches.now)) ≡ Some (asked_replay r)) }
+    ensures usage { IsErrOf result WordsFault.Usage → replay_of (rows_of (found_of matches.now)) ≡ None }
+    ensures monitors { IfOk result (λ r. AreOfMonitors r.logs.items) }
+{
+    let Some(order) = order(matches) else {
+        return Err(WordsFault::Usage);
+    };
+    match named_with(alloc, matches, order) {
+        Ok(replay) => Ok(replay),
         Err(fault) => Err(fault),
     }
 }

@@ -6,6 +6,7 @@ ghost use Rattle.tk_words.specs.Words.{verb_named, verb_of as verb_of_words};
 pub enum Verb {
     Replay,
     Generate,
+    Live,
 }
 
 fn verb_in(word: &str) -> Option<Verb>
@@ -15,6 +16,8 @@ fn verb_in(word: &str) -> Option<Verb>
         Some(Verb::Replay)
     } else if word == "gen" {
         Some(Verb::Generate)
+    } else if word == "live" {
+        Some(Verb::Live)
     } else {
         None
     }
