@@ -1,5 +1,5 @@
 -- A net in memory and what it makes, as contracts see them.
-use Rattle.std.specs.Prelude.{ℕ, ◌+◌, ◌-◌, List, [], ◌∷◌, ◌++◌, take, drop, slice_index, Option, Some, None, Result, Ok, Err, ⊤}
+use Rattle.std.specs.Prelude.{◌≡◌, ℕ, ◌+◌, ◌-◌, List, [], ◌∷◌, ◌++◌, take, drop, slice_index, Option, Some, None, Result, Ok, Err, ⊤}
 use Rattle.tk_wire.specs.Meanings.{Counts}
 use Rattle.tk_wire.specs.Net.{NetState}
 use Rattle.tk_wire.specs.declared.wire.Took.{Took}
@@ -15,11 +15,17 @@ pub record Planned : Type 0 where
   pub fails : List ℕ
   pub flip : Option ℕ
 
--- a net: its state, how many connections wait, and the numbers of the calls that fail
+-- a net: its state, how many connections wait, the numbers of the calls that fail, and the place of the byte that is turned
 pub record MemoryNet : Type 0 where
   pub state : NetState
   pub knocking : ℕ
   pub fails : List ℕ
+  pub flip : Option ℕ
+
+-- no call changes which calls fail and which byte is turned
+pub record StaysSet (old new : MemoryNet) : Type 0 where
+  pub fails : new.fails ≡ old.fails
+  pub flip : new.flip ≡ old.flip
 
 -- a link: its counts, and the numbers of the calls of its net that fail
 pub record MemoryLink : Type 0 where
@@ -31,9 +37,9 @@ pub record MemoryRest : Type 0 where
   pub faults : ℕ
   pub fails : List ℕ
 
--- a net that was just made, which fails these calls
-abbrev pub new_memory_net : List ℕ → MemoryNet
-new_memory_net fails = record { state = new_net; knocking = 0; fails = fails }
+-- a net that was just made, which fails these calls and turns this byte
+abbrev pub new_memory_net : List ℕ → Option ℕ → MemoryNet
+new_memory_net fails flip = record { state = new_net; knocking = 0; fails = fails; flip = flip }
 
 -- a link of a net that fails these calls, before any byte
 abbrev pub new_memory_link : List ℕ → MemoryLink

@@ -2,7 +2,7 @@ ghost use Rattle.std.specs.Prelude.{◌≡◌, ◌<◌, [], true, false, IfOk, I
 ghost use Rattle.std.specs.Arc.{arc_value};
 ghost use Rattle.tk_wire.specs.Net.{Accepts, IsNew, called, connected, given_back, knocking_connected, listened, rest_given_back};
 ghost use Rattle.tk_net.specs.Counting.{untold};
-ghost use Rattle.tk_net.specs.Memory.{new_memory_net, new_memory_link, new_memory_rest, DoesWork};
+ghost use Rattle.tk_net.specs.Memory.{new_memory_net, new_memory_link, new_memory_rest, DoesWork, StaysSet};
 
 use crate::mem_bell::MemBell;
 use crate::mem_link::MemLink;
@@ -43,6 +43,7 @@ impl Model for MemNet {
       state = n.counts;
       knocking = deque_len n.door;
       fails = (arc_value n.plan).fails;
+      flip = (arc_value n.plan).flip;
     } };
 }
 
@@ -51,7 +52,7 @@ impl MemNet {
     /// links and the `rest` of its rests are numbered together, from 1. The byte at place `flip`, from 0, among all bytes
     /// given to its links is turned into its complement.
     pub fn new(alloc: Global, fails: Vec<u64>, flip: Option<u64>) -> Result<MemNet, NoMemory>
-        ensures { IfOk result (λ net. net ≡ new_memory_net fails.items) }
+        ensures { IfOk result (λ net. net ≡ new_memory_net fails.items flip) }
     {
         let plan = Arc::new(alloc, Plan::new(fails, flip))?;
         Ok(MemNet {
@@ -110,7 +111,7 @@ impl Net for MemNet {
         ensures knocking { true ≡ true → self.new.knocking ≡ self.old.knocking }
         // Where no call is listed.
         ensures quiet { self.old.fails ≡ [] → DoesWork result }
-        ensures kept { self.new.fails ≡ self.old.fails }
+        ensures kept { StaysSet self.old self.new }
     {
         if self.plan.refuses() {
             return Err(self.counts.fault(NetFault::Failed));
@@ -131,7 +132,7 @@ impl Net for MemNet {
         ensures quiet { self.old.fails ≡ [] → DoesWork result }
         ensures link_fails { IfOk result (λ made. made.0.fails ≡ self.old.fails) }
         ensures rest_fails { IfOk result (λ made. made.1.fails ≡ self.old.fails) }
-        ensures kept { self.new.fails ≡ self.old.fails }
+        ensures kept { StaysSet self.old self.new }
     {
         if self.plan.refuses() {
             return Err(self.counts.fault(NetFault::Failed));
@@ -155,7 +156,7 @@ impl Net for MemNet {
         // Where no call is listed.
         ensures quiet { self.old.fails ≡ [] → DoesWork result }
         ensures link_fails { IfOk result (λ got. IfSome got (λ link. link.fails ≡ self.old.fails)) }
-        ensures kept { self.new.fails ≡ self.old.fails }
+        ensures kept { StaysSet self.old self.new }
     {
         if self.plan.refuses() {
             return Err(self.counts.fault(NetFault::Failed));
@@ -176,7 +177,7 @@ impl Net for MemNet {
         ensures knocking { true ≡ true → self.new.knocking ≡ self.old.knocking }
         // Where no call is listed.
         ensures quiet { self.old.fails ≡ [] → DoesWork result }
-        ensures kept { self.new.fails ≡ self.old.fails }
+        ensures kept { StaysSet self.old self.new }
     {
         if self.plan.refuses() {
             return Err(self.counts.fault(NetFault::Failed));
@@ -190,7 +191,7 @@ impl Net for MemNet {
     fn back(&mut self, link: MemLink)
         ensures state { self.new.state ≡ given_back link.counts self.old.state }
         ensures knocking { true ≡ true → self.new.knocking ≡ self.old.knocking }
-        ensures kept { self.new.fails ≡ self.old.fails }
+        ensures kept { StaysSet self.old self.new }
     {
         self.counts.note_back(link.counts());
     }
@@ -198,7 +199,7 @@ impl Net for MemNet {
     fn back_rest(&mut self, rest: MemRest)
         ensures state { self.new.state ≡ rest_given_back rest.faults self.old.state }
         ensures knocking { true ≡ true → self.new.knocking ≡ self.old.knocking }
-        ensures kept { self.new.fails ≡ self.old.fails }
+        ensures kept { StaysSet self.old self.new }
     {
         self.counts.note_rest(rest.faults());
     }
