@@ -111,53 +111,20 @@ fn closed(turn: Turn) -> (Turn, Turn, bool) {
 }
 
 #[test]
-fn an_assign_twice_closes_the_port(rt: HostRuntime) -> Result<(), Fail> {
-    let why = MonitorRefusal::WrongSequence { has: 1, got: 1 };
-    assert_eq!(rt; played(rt.alloc(), &TWICE)?, closed(Turn::Refused(why)));
-    Ok(())
-}
-
-#[test]
-fn a_factor_past_its_limit_closes_the_port(rt: HostRuntime) -> Result<(), Fail> {
-    let why = MonitorRefusal::BadChange(Obj(1));
-    assert_eq!(rt;
-        played(rt.alloc(), &ASSIGN_PAST_LIMIT)?,
-        closed(Turn::Refused(why))
-    );
-    Ok(())
-}
-
-#[test]
-fn a_collect_past_the_catalogue_closes_the_port(rt: HostRuntime) -> Result<(), Fail> {
-    let why = MonitorRefusal::BadCollect;
-    assert_eq!(rt;
-        played(rt.alloc(), &ASKED_PAST)?,
-        closed(Turn::Refused(why))
-    );
-    Ok(())
-}
-
-#[test]
-fn an_early_stop_closes_the_port(rt: HostRuntime) -> Result<(), Fail> {
-    let why = MonitorRefusal::EarlyStop;
-    assert_eq!(rt; played(rt.alloc(), &STOPPED)?, closed(Turn::Refused(why)));
-    Ok(())
-}
-
-#[test]
-fn an_empty_payload_closes_the_port(rt: HostRuntime) -> Result<(), Fail> {
-    let fault = BadFrame::BadLength { length: 0 };
-    assert_eq!(rt;
-        played(rt.alloc(), &[0, 0, 0, 0])?,
-        closed(Turn::Bad(fault))
-    );
-    Ok(())
-}
-
-#[test]
-fn a_payload_of_no_kind_closes_the_port(rt: HostRuntime) -> Result<(), Fail> {
-    let fault = BadFrame::BadKind { kind: 9 };
-    assert_eq!(rt; played(rt.alloc(), &NO_KIND)?, closed(Turn::Bad(fault)));
+fn what_a_port_does_not_take_closes_it(rt: HostRuntime) -> Result<(), Fail> {
+    let alloc = rt.alloc();
+    let twice = Turn::Refused(MonitorRefusal::WrongSequence { has: 1, got: 1 });
+    let change = Turn::Refused(MonitorRefusal::BadChange(Obj(1)));
+    let collect = Turn::Refused(MonitorRefusal::BadCollect);
+    let stop = Turn::Refused(MonitorRefusal::EarlyStop);
+    let length = Turn::Bad(BadFrame::BadLength { length: 0 });
+    let kind = Turn::Bad(BadFrame::BadKind { kind: 9 });
+    assert_eq!(rt; played(alloc, &TWICE)?, closed(twice));
+    assert_eq!(rt; played(alloc, &ASSIGN_PAST_LIMIT)?, closed(change));
+    assert_eq!(rt; played(alloc, &ASKED_PAST)?, closed(collect));
+    assert_eq!(rt; played(alloc, &STOPPED)?, closed(stop));
+    assert_eq!(rt; played(alloc, &[0, 0, 0, 0])?, closed(length));
+    assert_eq!(rt; played(alloc, &NO_KIND)?, closed(kind));
     Ok(())
 }
 
@@ -218,16 +185,11 @@ fn exchanged(
 }
 
 #[test]
-fn a_port_greets_and_stops(rt: HostRuntime) -> Result<(), Fail> {
-    let answer = exchanged(rt.alloc(), 1, &STOPPED[..25], &GREETED_1)?;
-    assert_eq!(rt; answer, (Turn::Quiet, Turn::Stopped, true));
-    Ok(())
-}
-
-#[test]
-fn a_port_greets_and_stops_in_version_2(rt: HostRuntime) -> Result<(), Fail> {
-    let answer = exchanged(rt.alloc(), 2, &ASSIGN_2, &GREETED_2)?;
-    assert_eq!(rt; answer, (Turn::Quiet, Turn::Stopped, true));
+fn a_port_greets_and_stops_in_each_version(rt: HostRuntime) -> Result<(), Fail> {
+    let alloc = rt.alloc();
+    let answer = (Turn::Quiet, Turn::Stopped, true);
+    assert_eq!(rt; exchanged(alloc, 1, &STOPPED[..25], &GREETED_1)?, answer);
+    assert_eq!(rt; exchanged(alloc, 2, &ASSIGN_2, &GREETED_2)?, answer);
     Ok(())
 }
 
@@ -247,25 +209,14 @@ fn bytes(alloc: Global, bytes: &[u8]) -> Result<Option<Received>, Fail> {
 }
 
 #[test]
-fn a_refused_frame_is_odd(rt: HostRuntime) -> Result<(), Fail> {
-    assert_eq!(rt;
-        left(rt.alloc(), &STOPPED)?,
-        (Some(Received::Frame(Frame::Stop)), 30)
-    );
-    Ok(())
-}
-
-#[test]
-fn a_payload_of_no_kind_is_odd(rt: HostRuntime) -> Result<(), Fail> {
+fn what_was_not_taken_is_left_at_the_end(rt: HostRuntime) -> Result<(), Fail> {
     let alloc = rt.alloc();
-    assert_eq!(rt; left(alloc, &NO_KIND)?, (bytes(alloc, &[9])?, 30));
-    Ok(())
-}
-
-#[test]
-fn a_length_of_no_payload_is_odd(rt: HostRuntime) -> Result<(), Fail> {
-    let alloc = rt.alloc();
-    assert_eq!(rt; left(alloc, &[0, 0, 0, 0, 7])?, (bytes(alloc, &[0; 4])?, 5));
+    let stop = Some(Received::Frame(Frame::Stop));
+    let kind = bytes(alloc, &[9])?;
+    let length = bytes(alloc, &[0; 4])?;
+    assert_eq!(rt; left(alloc, &STOPPED)?, (stop, 30));
+    assert_eq!(rt; left(alloc, &NO_KIND)?, (kind, 30));
+    assert_eq!(rt; left(alloc, &[0, 0, 0, 0, 7])?, (length, 5));
     Ok(())
 }
 
@@ -277,28 +228,56 @@ fn turned(port: &mut Port<PipeWire>) -> (Turn, usize)
     (port.turn(), port.monitor().trail().len())
 }
 
+/// What two turns answer over these bytes, and how many entries the trail has after each.
+fn turns(alloc: Global, bytes: &[u8], piece: usize) -> Result<((Turn, usize), (Turn, usize)), Fail>
+    requires { (0 < piece) × (piece ≤ 65536) }
+{
+    let mut port = port(alloc, b"a,5\n", 1, piece, Vec::new(alloc))?;
+    let mut pipe = Pipe::new(alloc, 256)?;
+    send(&mut port, &mut pipe, bytes);
+    let first = turned(&mut port);
+    Ok((first, turned(&mut port)))
+}
+
 #[test]
 fn a_turn_takes_64_pieces(rt: HostRuntime) -> Result<(), Fail> {
     let alloc = rt.alloc();
-    let mut port = port(alloc, b"a,5\n", 1, 1, Vec::new(alloc))?;
-    let mut pipe = Pipe::new(alloc, 256)?;
-    send(&mut port, &mut pipe, &THREE);
-    let first = turned(&mut port);
-    assert_eq!(rt;
-        (first, turned(&mut port)),
-        ((Turn::More, 4), (Turn::Quiet, 6))
-    );
+    let (more, quiet) = (Turn::More, Turn::Quiet);
+    assert_eq!(rt; turns(alloc, &THREE, 1)?, ((more, 4), (quiet, 6)));
+    assert_eq!(rt; turns(alloc, &THREE, 64)?, ((quiet, 6), (quiet, 6)));
     Ok(())
 }
 
-/// A turn of one frame.
-fn one(port: &mut Port<PipeWire>) -> Result<Turn, Fail>
+/// What the calls beside a turn answer: a check, a push and, once the port is halted, two raises.
+fn by_hand(port: &mut Port<PipeWire>) -> Result<(Checked, Pushed, Raised, Raised), Fail>
+    requires course { port.old.course ≡ on.Open }
+    requires feeder { length port.old.monitor.setup.parts ≡ 1 }
+{
+    let checked = port.check()?;
+    let pushed = port.push()?;
+    port.halt();
+    let first = port.raise(Feeder(1));
+    Ok((checked, pushed, first, port.raise(Feeder(1))))
+}
+
+#[test]
+fn a_raise_is_counted_whatever_the_wire_does(rt: HostRuntime) -> Result<(), Fail> {
+    let alloc = rt.alloc();
+    let mut port = port(alloc, b"b,5\n", 1, 64, Vec::new(alloc))?;
+    let done = Raised::Done { broken: false };
+    let answers = (Checked::Nothing, Pushed::Empty, done, Raised::Ended);
+    assert_eq!(rt; by_hand(&mut port)?, answers);
+    Ok(())
+}
+
+/// A turn of one frame, and how many entries the trail then has.
+fn one(port: &mut Port<PipeWire>) -> Result<(Turn, usize), Fail>
     requires { port.old.course ≡ on.Open }
 {
     if port.monitor().stopped() {
         Err("stop was taken")?;
     }
-    Ok(port.take_one())
+    Ok((port.take_one(), port.monitor().trail().len()))
 }
 
 #[test]
@@ -307,25 +286,6 @@ fn a_frame_is_taken_at_a_time(rt: HostRuntime) -> Result<(), Fail> {
     let mut port = port(alloc, b"b,5\n", 1, 64, Vec::new(alloc))?;
     let mut pipe = Pipe::new(alloc, 256)?;
     send(&mut port, &mut pipe, &TWICE);
-    assert_eq!(rt;
-        (one(&mut port)?, port.monitor().trail().len()),
-        (Turn::More, 2)
-    );
-    Ok(())
-}
-
-#[test]
-fn a_raise_is_counted_whatever_the_wire_does(rt: HostRuntime) -> Result<(), Fail> {
-    let alloc = rt.alloc();
-    let mut port = port(alloc, b"b,5\n", 1, 64, Vec::new(alloc))?;
-    assert_eq!(rt;
-        (port.check()?, port.push()?),
-        (Checked::Nothing, Pushed::Empty)
-    );
-    port.halt();
-    assert_eq!(rt;
-        (port.raise(Feeder(1)), port.raise(Feeder(1)), port.halted()),
-        (Raised::Done { broken: false }, Raised::Ended, true)
-    );
+    assert_eq!(rt; one(&mut port)?, (Turn::More, 2));
     Ok(())
 }
