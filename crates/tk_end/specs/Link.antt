@@ -3,7 +3,6 @@ use Rattle.std.specs.Prelude.{◌≡◌, ℕ, ◌+◌, ◌-◌, ◌^◌, ◌≤�
 use Rattle.tk_frames.specs.declared.frame.Frame.{Frame}
 use Rattle.tk_wire.specs.Meanings.{Traffic, Counts, Arrives, Departs}
 use Rattle.tk_wire.specs.Buffered.{IsFull}
-use Rattle.tk_wire.specs.PipeWire.{MemoryWire}
 use Rattle.tk_wire.specs.declared.out_buffer.Pushed.{Pushed}
 use Rattle.tk_wire.specs.declared.out_buffer.Pushed.TheVariants.{NotYet}
 use Rattle.tk_wire.specs.Parse.{HaveSpellings, IsEncoding, IsParse, spellings}
@@ -102,6 +101,6 @@ pub record Passes {W : Type 0} (least : ℕ) (old new : LinkView W) : Type 0 whe
   pub taken : min (old.counts.taken + length came) (2 ^ 64 - 1) ≤ new.counts.taken
   pub moved : old.tells ≡ true → Moves came given old.traffic new.traffic
 
--- a wire in memory in place of the one before
-abbrev pub over : MemoryWire → LinkView MemoryWire → LinkView MemoryWire
-over wire link = record link { wire = wire; traffic = wire.traffic }
+-- other bytes on the wire, where that is known to bear them
+abbrev pub over : {W : Type 0} → (Traffic → W → W) → Traffic → LinkView W → LinkView W
+over bearing traffic link = record link { wire = bearing traffic link.wire; traffic = traffic }

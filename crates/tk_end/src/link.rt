@@ -119,6 +119,16 @@ impl<W: Wire> Link<W> {
         }
     }
 
+    /// Its wire, which tells what it shows of it.
+    pub fn wire(&self) -> &W
+        ensures value { result.now ≡ self.now.wire }
+        ensures traffic { W.traffic result.now ≡ self.now.traffic }
+        ensures counts { W.counts result.now ≡ self.now.counts }
+        ensures tells { W.tells ≡ self.now.tells }
+    {
+        &self.wire
+    }
+
     /// Its wire.
     pub fn into_wire(self) -> W
         ensures { result ≡ self.wire }

@@ -13,7 +13,7 @@ use Rattle.tk_journal.specs.declared.refusal.CoordRefusal.{CoordRefusal}
 use Rattle.tk_wire.specs.Meanings.{Traffic}
 use Rattle.tk_wire.specs.Parse.{IsEncoding, IsParse}
 use Rattle.tk_wire.specs.Pipe.{Queue}
-use Rattle.tk_wire.specs.PipeWire.{MemoryWire, drained, filled, with_traffic}
+use Rattle.tk_wire.specs.PipeWire.{drained, filled}
 use Rattle.tk_end.specs.Inbox.{Leaves}
 use Rattle.tk_end.specs.Link.{LinkView, over}
 use Rattle.tk_hub.proofs.SeatsLemmas.{seat_of, seats_put}
@@ -26,30 +26,30 @@ use Rattle.tk_hub.specs.declared.course.Course.{Course}
 use Rattle.tk_hub.specs.declared.course.Course.TheVariants as cs
 
 -- the wire has other bytes in its boxes
-pub record Pipes (x y : LinkView MemoryWire) : Type 0 where
-  pub wire : MemoryWire
+pub record Pipes {W : Type 0} (x y : LinkView W) : Type 0 where
+  pub bearing : Traffic → W → W
   pub traffic : Traffic
-  pub is : y ≡ over (with_traffic traffic wire) x
+  pub is : y ≡ over bearing traffic x
   pub came : traffic.came ≡ x.traffic.came
   pub went : traffic.went ≡ x.traffic.went
 
-abbrev pub SeatPipes : Option (LinkView MemoryWire) → Option (LinkView MemoryWire) → Type 0
+abbrev pub SeatPipes : {W : Type 0} → Option (LinkView W) → Option (LinkView W) → Type 0
 SeatPipes None new = new ≡ None
 SeatPipes (Some x) None = ⊥
 SeatPipes (Some x) (Some y) = Pipes x y
 
-pub pipes_drained : (moved : ℕ) (x y : Option (LinkView MemoryWire)) (before now : Queue) → SeatDrains moved x y before now → SeatPipes x y
-pipes_drained moved None y before now d = d.0
-pipes_drained moved (Some x) None before now d = d
-pipes_drained moved (Some x) (Some y) before now d = record { wire = x.wire; traffic = drained moved x.traffic; is = d.wire; came = refl; went = refl }
+pub pipes_drained : {W : Type 0} (piece : W → ℕ) (bearing : Traffic → W → W) (moved : ℕ) (x y : Option (LinkView W)) (before now : Queue) → SeatDrains piece bearing moved x y before now → SeatPipes x y
+pipes_drained piece bearing moved None y before now d = d.0
+pipes_drained piece bearing moved (Some x) None before now d = d
+pipes_drained piece bearing moved (Some x) (Some y) before now d = record { bearing = bearing; traffic = drained moved x.traffic; is = d.wire; came = refl; went = refl }
 
-pub pipes_filled : (moved : ℕ) (x y : Option (LinkView MemoryWire)) (before now : Queue) → SeatFills moved x y before now → SeatPipes x y
-pipes_filled moved None y before now d = d.0
-pipes_filled moved (Some x) None before now d = d
-pipes_filled moved (Some x) (Some y) before now d = record { wire = x.wire; traffic = filled (take moved before.bytes) x.traffic; is = d.wire; came = refl; went = refl }
+pub pipes_filled : {W : Type 0} (piece : W → ℕ) (bearing : Traffic → W → W) (moved : ℕ) (x y : Option (LinkView W)) (before now : Queue) → SeatFills piece bearing moved x y before now → SeatPipes x y
+pipes_filled piece bearing moved None y before now d = d.0
+pipes_filled piece bearing moved (Some x) None before now d = d
+pipes_filled piece bearing moved (Some x) (Some y) before now d = record { bearing = bearing; traffic = filled (take moved before.bytes) x.traffic; is = d.wire; came = refl; went = refl }
 
-piped_link : (run mon : ℕ) (j : List Noted) (x : LinkView MemoryWire) (w : MemoryWire) (t : Traffic) → t.came ≡ x.traffic.came → t.went ≡ x.traffic.went → IsSeated run j mon x → IsSeated run j mon (over (with_traffic t w) x)
-piped_link run mon j x w t came went p = record {
+piped_link : {W : Type 0} (run mon : ℕ) (j : List Noted) (x : LinkView W) (bearing : Traffic → W → W) (t : Traffic) → t.came ≡ x.traffic.came → t.went ≡ x.traffic.went → IsSeated run j mon x → IsSeated run j mon (over bearing t x)
+piped_link run mon j x bearing t came went p = record {
   version = p.version;
   written = p.written;
   ends = record {
@@ -59,12 +59,12 @@ piped_link run mon j x w t came went p = record {
   };
 }
 
-piped_seat : (run mon : ℕ) (j : List Noted) (x y : Option (LinkView MemoryWire)) → SeatPipes x y → IsSeat run j mon x → IsSeat run j mon y
+piped_seat : {W : Type 0} (run mon : ℕ) (j : List Noted) (x y : Option (LinkView W)) → SeatPipes x y → IsSeat run j mon x → IsSeat run j mon y
 piped_seat run mon j None y s p = subst (IsSeat run j mon) (sym s) p
 piped_seat run mon j (Some x) None s p = absurd s
-piped_seat run mon j (Some x) (Some y) s p = subst (IsSeated run j mon) (sym s.is) (piped_link run mon j x s.wire s.traffic s.came s.went p)
+piped_seat run mon j (Some x) (Some y) s p = subst (IsSeated run j mon) (sym s.is) (piped_link run mon j x s.bearing s.traffic s.came s.went p)
 
-pub seats_piped : (mon : ℕ) (s : SeatsView MemoryWire) (y : Option (LinkView MemoryWire)) → IsMonitor s.coordinator.settings mon → AreSeats s → SeatPipes (link_at s.links (mon - 1)) y → AreSeats (record { run = s.run; coordinator = s.coordinator; links = set s.links (mon - 1) y })
+pub seats_piped : {W : Type 0} (mon : ℕ) (s : SeatsView W) (y : Option (LinkView W)) → IsMonitor s.coordinator.settings mon → AreSeats s → SeatPipes (link_at s.links (mon - 1)) y → AreSeats (record { run = s.run; coordinator = s.coordinator; links = set s.links (mon - 1) y })
 seats_piped mon s y is h pipes = seats_put mon s y is h (piped_seat s.run mon s.coordinator.journal (link_at s.links (mon - 1)) y pipes (seat_of mon s is h))
 
 -- ---- the course
@@ -86,7 +86,7 @@ alike_same : {W : Type 0} (x : Option (LinkView W)) → SeatsAlike x x
 alike_same None = refl
 alike_same (Some x) = record { version = refl; unread = refl; front = refl; shut = refl; counts = refl }
 
-alike_piped : (x y : Option (LinkView MemoryWire)) → SeatPipes x y → SeatsAlike x y
+alike_piped : {W : Type 0} (x y : Option (LinkView W)) → SeatPipes x y → SeatsAlike x y
 alike_piped None y s = s
 alike_piped (Some x) None s = s
 alike_piped (Some x) (Some y) s = record { version = ap (λ l. l.version) s.is; unread = ap (λ l. l.unread) s.is; front = ap (λ l. l.front) s.is; shut = ap (λ l. l.shut) s.is; counts = ap (λ l. l.counts) s.is }
@@ -139,10 +139,10 @@ course_alike c old new held (cs.Bad mon fault) alike on = (closed_alike old new 
 course_alike c old new held cs.WriteFailed alike on = closed_alike old new held alike on
 
 -- a hub of which one wire has other bytes in its boxes
-pub hub_piped : (mon : ℕ) (hub : HubView MemoryWire) (new : SeatsView MemoryWire) → IsMonitor hub.coordinator.settings mon → IsHub hub → AreSeats new → SeatPipes (link_at hub.links (mon - 1)) (link_at new.links (mon - 1)) → new ≡ record (seats_of hub) { links = set hub.links (mon - 1) (link_at new.links (mon - 1)) }
+pub hub_piped : {W : Type 0} (mon : ℕ) (hub : HubView W) (new : SeatsView W) → IsMonitor hub.coordinator.settings mon → IsHub hub → AreSeats new → SeatPipes (link_at hub.links (mon - 1)) (link_at new.links (mon - 1)) → new ≡ record (seats_of hub) { links = set hub.links (mon - 1) (link_at new.links (mon - 1)) }
     → IsHub (record { run = new.run; coordinator = new.coordinator; links = new.links; held = hub.held; strangers = hub.strangers; lines = hub.lines; course = hub.course })
-hub_piped mon hub new is h seats pipes rest =
-    let Kept : SeatsView MemoryWire → Type 0 = λ s. IsHub (record { run = s.run; coordinator = s.coordinator; links = s.links; held = hub.held; strangers = hub.strangers; lines = hub.lines; course = hub.course }) in
+hub_piped {W} mon hub new is h seats pipes rest =
+    let Kept : SeatsView W → Type 0 = λ s. IsHub (record { run = s.run; coordinator = s.coordinator; links = s.links; held = hub.held; strangers = hub.strangers; lines = hub.lines; course = hub.course }) in
     let y = link_at new.links (mon - 1) in
     let within : mon - 1 < length hub.links = omega (arith, h.seats.count, is.from_one, is.within) in
     subst Kept (sym rest) (record {

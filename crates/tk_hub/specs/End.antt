@@ -1,5 +1,6 @@
 -- What is left of a hub that is done with, and what its wires in memory give and get.
-use Rattle.std.specs.Prelude.{◌≡◌, ◌+◌, ℕ, Bool, List, filter_map, Option, Some, None, IfSome}
+use Rattle.std.specs.Prelude.{◌≡◌, ◌+◌, ℕ, Bool, List, filter_map, Option, Some, None, IfSome, ⊤}
+use Rattle.std.specs.Borrow.{Bor}
 use Rattle.std.specs.List.{list_any}
 use Rattle.std.specs.Option.{option_map}
 use Rattle.tk_base.specs.declared.ids.Mon.{Mon}
@@ -8,9 +9,8 @@ use Rattle.tk_frames.specs.declared.frame.Frame.{Frame}
 use Rattle.tk_journal.specs.declared.noted.Noted.{Noted}
 use Rattle.tk_story.specs.declared.ends.received.Received.{Received}
 use Rattle.tk_story.specs.declared.ends.received.Received.TheVariants as r
-use Rattle.tk_wire.specs.Meanings.{Counts}
+use Rattle.tk_wire.specs.Meanings.{Counts, Traffic}
 use Rattle.tk_wire.specs.Pipe.{Queue}
-use Rattle.tk_wire.specs.PipeWire.{MemoryWire}
 use Rattle.tk_end.specs.Inbox.{IsOdd}
 use Rattle.tk_end.specs.Link.{Covers, LinkView}
 use Rattle.tk_end.specs.Piping.{Drains, Fills}
@@ -77,12 +77,26 @@ IsLeft hub odd = LeavesOdd hub.course hub.links odd
 -- ---- wires in memory
 
 -- at a seat that is free nothing moves
-abbrev pub SeatDrains : ℕ → Option (LinkView MemoryWire) → Option (LinkView MemoryWire) → Queue → Queue → Type 0
-SeatDrains moved None new before now = (new ≡ None) × (moved ≡ 0) × (now ≡ before)
-SeatDrains moved (Some x) None before now = ⊥
-SeatDrains moved (Some x) (Some y) before now = Drains moved x y before now
+abbrev pub SeatDrains : {W : Type 0} → (W → ℕ) → (Traffic → W → W) → ℕ → Option (LinkView W) → Option (LinkView W) → Queue → Queue → Type 0
+SeatDrains piece bearing moved None new before now = (new ≡ None) × (moved ≡ 0) × (now ≡ before)
+SeatDrains piece bearing moved (Some x) None before now = ⊥
+SeatDrains piece bearing moved (Some x) (Some y) before now = Drains piece bearing moved x y before now
 
-abbrev pub SeatFills : ℕ → Option (LinkView MemoryWire) → Option (LinkView MemoryWire) → Queue → Queue → Type 0
-SeatFills moved None new before now = (new ≡ None) × (moved ≡ 0) × (now ≡ before)
-SeatFills moved (Some x) None before now = ⊥
-SeatFills moved (Some x) (Some y) before now = Fills moved x y before now
+abbrev pub SeatFills : {W : Type 0} → (W → ℕ) → (Traffic → W → W) → ℕ → Option (LinkView W) → Option (LinkView W) → Queue → Queue → Type 0
+SeatFills piece bearing moved None new before now = (new ≡ None) × (moved ≡ 0) × (now ≡ before)
+SeatFills piece bearing moved (Some x) None before now = ⊥
+SeatFills piece bearing moved (Some x) (Some y) before now = Fills piece bearing moved x y before now
+
+-- a wire that tells what is shown of it
+pub record IsWireOf {W : Type 0} (traffic : W → Traffic) (counts : W → Counts) (tells : Bool) (link : LinkView W) (wire : W) : Type 0 where
+  pub is : wire ≡ link.wire
+  pub traffic_is : traffic wire ≡ link.traffic
+  pub counts_are : counts wire ≡ link.counts
+  pub tells_is : tells ≡ link.tells
+
+-- the wire of a seat, if that is taken
+abbrev pub TellsWire : {W : Type 0} → (W → Traffic) → (W → Counts) → Bool → Option (LinkView W) → Option (Bor W) → Type 0
+TellsWire traffic counts tells None None = ⊤
+TellsWire traffic counts tells None (Some wire) = ⊥
+TellsWire traffic counts tells (Some link) None = ⊥
+TellsWire traffic counts tells (Some link) (Some wire) = IsWireOf traffic counts tells link wire.now

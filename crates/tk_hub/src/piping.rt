@@ -3,11 +3,11 @@
 ghost use Rattle.tk_hub.specs.End.{SeatDrains, SeatFills};
 
 use tk_end::Link;
-use tk_wire::{Pipe, PipeWire};
+use tk_wire::{Pipe, Piped};
 
 /// As the drain of the wire; where the seat is free or its link is shut nothing moves.
-pub fn drain(seat: &mut Option<Link<PipeWire>>, to: &mut Pipe) -> usize
-    ensures { SeatDrains result seat.old seat.new to.old to.new }
+pub fn drain<W: Piped>(seat: &mut Option<Link<W>>, to: &mut Pipe) -> usize
+    ensures { SeatDrains W.piece W.bearing result seat.old seat.new to.old to.new }
 {
     match seat {
         Some(link) => link.drain(to),
@@ -16,8 +16,8 @@ pub fn drain(seat: &mut Option<Link<PipeWire>>, to: &mut Pipe) -> usize
 }
 
 /// As the fill of the wire; where the seat is free or its link is shut nothing moves.
-pub fn fill(seat: &mut Option<Link<PipeWire>>, from: &mut Pipe) -> usize
-    ensures { SeatFills result seat.old seat.new from.old from.new }
+pub fn fill<W: Piped>(seat: &mut Option<Link<W>>, from: &mut Pipe) -> usize
+    ensures { SeatFills W.piece W.bearing result seat.old seat.new from.old from.new }
 {
     match seat {
         Some(link) => link.fill(from),

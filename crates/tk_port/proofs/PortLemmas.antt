@@ -114,16 +114,16 @@ port_after_push run m x y course p open_ says =
     port_exchanged run 0 x y (record { monitor = m }) (record { monitor = m }) course course p (exchanges_said x y (record { monitor = m }) says) on
 
 -- bytes that leave or reach the wire in memory change nothing that was heard or said
-course_piped : (x : LinkView MemoryWire) (w : MemoryWire) (t : Traffic) (m : MonitorView) (course : Course) → IsOnCourse x m course → IsOnCourse (over (with_traffic t w) x) m course
-course_piped x w t m c.Open is = is
-course_piped x w t m c.Halted is = is
-course_piped x w t m c.Failed is = is
-course_piped x w t m (c.Refused why) is = is
-course_piped x w t m (c.Bad fault) is = is
+course_piped : {W : Type 0} (x : LinkView W) (bearing : Traffic → W → W) (t : Traffic) (m : MonitorView) (course : Course) → IsOnCourse x m course → IsOnCourse (over bearing t x) m course
+course_piped x bearing t m c.Open is = is
+course_piped x bearing t m c.Halted is = is
+course_piped x bearing t m c.Failed is = is
+course_piped x bearing t m (c.Refused why) is = is
+course_piped x bearing t m (c.Bad fault) is = is
 
-pub port_piped : (run : ℕ) (m : MonitorView) (x y : LinkView MemoryWire) (w : MemoryWire) (t : Traffic) (course : Course) → IsPort (record { run = run; monitor = m; link = x; course = course }) → y ≡ over (with_traffic t w) x → t.came ≡ x.traffic.came → t.went ≡ x.traffic.went → IsPort (record { run = run; monitor = m; link = y; course = course })
-port_piped run m x y w t course p is came went =
-    let Kept : LinkView MemoryWire → Type 0 = λ l. IsPort (record { run = run; monitor = m; link = l; course = course }) in
+pub port_piped : {W : Type 0} (run : ℕ) (m : MonitorView) (x y : LinkView W) (bearing : Traffic → W → W) (t : Traffic) (course : Course) → IsPort (record { run = run; monitor = m; link = x; course = course }) → y ≡ over bearing t x → t.came ≡ x.traffic.came → t.went ≡ x.traffic.went → IsPort (record { run = run; monitor = m; link = y; course = course })
+port_piped {W} run m x y bearing t course p is came went =
+    let Kept : LinkView W → Type 0 = λ l. IsPort (record { run = run; monitor = m; link = l; course = course }) in
     let heard = taken_by m.trail in
     let said = f.Hello run x.version (record { 0 = m.setup.number }) ∷ take x.written (sent_by m.trail) in
     subst Kept (sym is) (record {
@@ -136,5 +136,5 @@ port_piped run m x y w t course p is came went =
         went = λ tells. subst (λ xs. IsEncoding x.version said xs x.output) (sym went) (p.ends.went tells);
         covered = p.ends.covered;
       };
-      course = course_piped x w t m course p.course;
+      course = course_piped x bearing t m course p.course;
     })

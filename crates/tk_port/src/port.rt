@@ -22,7 +22,7 @@ use tk_end::Link;
 use tk_frames::Frame;
 use tk_monitor::{Checked, Monitor, Raised};
 use tk_story::{Bytes, MonEnd, Received};
-use tk_wire::{InBuffer, Pipe, PipeWire, Pushed, Wire};
+use tk_wire::{InBuffer, Pipe, Piped, Pushed, Wire};
 
 /// A monitor and its end of the connection to the coordinator.
 #[derive(Drop)]
@@ -120,6 +120,17 @@ impl<W: Wire> Port<W> {
         ensures kept { IsPort self.now }
     {
         &self.side.monitor
+    }
+
+    /// Its wire, which tells what it shows of it.
+    pub fn wire(&self) -> &W
+        ensures value { result.now ≡ self.now.link.wire }
+        ensures traffic { W.traffic result.now ≡ self.now.link.traffic }
+        ensures counts { W.counts result.now ≡ self.now.link.counts }
+        ensures tells { W.tells ≡ self.now.link.tells }
+        ensures kept { IsPort self.now }
+    {
+        self.link.wire()
     }
 
     /// Counts the next change of a feeder, without memory.
@@ -234,10 +245,10 @@ impl<W: Wire> Port<W> {
     }
 }
 
-impl Port<PipeWire> {
+impl<W: Piped> Port<W> {
     /// As the drain of its wire; where it is shut nothing moves.
     pub fn drain(&mut self, to: &mut Pipe) -> usize
-        ensures drains { Drains result self.old.link self.new.link to.old to.new }
+        ensures drains { Drains W.piece W.bearing result self.old.link self.new.link to.old to.new }
         ensures rest { self.new ≡ record self.old { link = self.new.link } }
         ensures kept { IsPort self.new }
     {
@@ -246,7 +257,7 @@ impl Port<PipeWire> {
 
     /// As the fill of its wire; where it is shut nothing moves.
     pub fn fill(&mut self, from: &mut Pipe) -> usize
-        ensures fills { Fills result self.old.link self.new.link from.old from.new }
+        ensures fills { Fills W.piece W.bearing result self.old.link self.new.link from.old from.new }
         ensures rest { self.new ≡ record self.old { link = self.new.link } }
         ensures kept { IsPort self.new }
     {

@@ -8,3 +8,4 @@ pub mod PipeInside
 pub mod PipeWire
 pub mod Ring
 pub mod Store
+pub mod SureWire

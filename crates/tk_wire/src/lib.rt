@@ -12,7 +12,9 @@ mod net;
 mod out_buffer;
 mod pipe;
 mod pipe_wire;
+mod piped;
 mod store;
+mod sure_wire;
 mod wire;
 
 pub use in_buffer::{InBuffer, Pulled};
@@ -25,4 +27,6 @@ pub use net::{Bell, Net, NetFault, Rest};
 pub use out_buffer::{OutBuffer, Pushed};
 pub use pipe::Pipe;
 pub use pipe_wire::PipeWire;
+pub use piped::Piped;
+pub use sure_wire::SureWire;
 pub use wire::{Gave, Took, Wire};

@@ -1,9 +1,9 @@
-ghost use Rattle.std.specs.Prelude.{◌≡◌, ◌<◌, ◌≤◌, ◌^◌, true, min, length, take, IfOk};
+ghost use Rattle.std.specs.Prelude.{◌≡◌, ◌<◌, ◌≤◌, ◌^◌, true, length, refl, IfOk};
 ghost use Rattle.tk_wire.specs.Meanings.{Takes, Gives, FitsSlice, FitsBytes, counts_taken, counts_given};
-ghost use Rattle.tk_wire.specs.PipeWire.{new_wire, refuses, took_of, gave_of, with_traffic, drained, filled, StaysSet, called, left_in};
-ghost use Rattle.tk_wire.specs.Pipe.{free, with_more, without};
+ghost use Rattle.tk_wire.specs.PipeWire.{new_wire, refuses, took_of, gave_of, with_traffic, StaysSet, called};
 
 use crate::pipe::Pipe;
+use crate::piped::Piped;
 use crate::wire::{Gave, Took, Wire};
 use std::alloc::Global;
 use std::marker::Model;
@@ -80,24 +80,6 @@ impl PipeWire {
         ensures { self.new ≡ record self.old { closed = true } }
     {
         self.closed = true;
-    }
-
-    /// Moves bytes from the front of the outbox to the end of the pipe, and answers how many.
-    pub fn drain(&mut self, to: &mut Pipe) -> usize
-        ensures value { result ≡ min self.old.piece (min (length self.old.traffic.held) (free to.old)) }
-        ensures wire { self.new ≡ with_traffic (drained result self.old.traffic) self.old }
-        ensures pipe { to.new ≡ with_more (take result self.old.traffic.held) to.old }
-    {
-        self.outbox.move_to(to, self.piece)
-    }
-
-    /// Moves bytes from the front of the pipe to the end of the inbox, and answers how many.
-    pub fn fill(&mut self, from: &mut Pipe) -> usize
-        ensures value { result ≡ min self.old.piece (min (length from.old.bytes) (left_in self.old.traffic)) }
-        ensures wire { self.new ≡ with_traffic (filled (take result from.old.bytes) self.old.traffic) self.old }
-        ensures pipe { from.new ≡ without result from.old }
-    {
-        from.move_to(&mut self.inbox, self.piece)
     }
 
     // Counts a call, and says whether it fails.
@@ -184,4 +166,20 @@ impl Wire for PipeWire {
         ensures told { true ≡ true → self.new.traffic ≡ self.old.traffic }
         ensures counted { self.new.counts ≡ self.old.counts }
     {}
+}
+
+impl Piped for PipeWire {
+    ghost piece = { λ w. w.piece };
+
+    ghost bearing = { with_traffic };
+
+    ghost bears_its_own = { λ w. refl };
+
+    fn drain(&mut self, to: &mut Pipe) -> usize {
+        self.outbox.move_to(to, self.piece)
+    }
+
+    fn fill(&mut self, from: &mut Pipe) -> usize {
+        from.move_to(&mut self.inbox, self.piece)
+    }
 }

@@ -1,12 +1,12 @@
 ghost use Rattle.tk_end.specs.Piping.{Drains, Fills};
 
 use crate::link::Link;
-use tk_wire::{Pipe, PipeWire};
+use tk_wire::{Pipe, Piped};
 
-impl Link<PipeWire> {
+impl<W: Piped> Link<W> {
     /// Moves bytes from the front of the wire's outbox to the end of the pipe, and answers how many; none where it is shut.
     pub fn drain(&mut self, to: &mut Pipe) -> usize
-        ensures { Drains result self.old self.new to.old to.new }
+        ensures { Drains W.piece W.bearing result self.old self.new to.old to.new }
     {
         if self.shut {
             return 0;
@@ -16,7 +16,7 @@ impl Link<PipeWire> {
 
     /// Moves bytes from the front of the pipe to the end of the wire's inbox, and answers how many; none where it is shut.
     pub fn fill(&mut self, from: &mut Pipe) -> usize
-        ensures { Fills result self.old self.new from.old from.new }
+        ensures { Fills W.piece W.bearing result self.old self.new from.old from.new }
     {
         if self.shut {
             return 0;

@@ -4,7 +4,7 @@ use std::alloc::Global;
 use std::test::Fail;
 use tk_base::{Mon, Places};
 use tk_frames::{Frame, Next};
-use tk_wire::{InBuffer, OutBuffer, Pipe, PipeWire, Pulled, Pushed};
+use tk_wire::{InBuffer, OutBuffer, Pipe, PipeWire, Piped, Pulled, Pushed};
 
 const SETTLED: [u8; 22] = [
     0, 0, 0, 18, 6, 0, 0, 0, 0, 0, 0, 0, 1, 0, 0, 0, 0, 1, 0, 0, 0, 0,

@@ -3,7 +3,7 @@ ghost use Rattle.std.specs.Prelude.{◌≡◌, [], ◌∷◌, IfOk};
 use std::alloc::Global;
 use std::test::Fail;
 use tk_base::NoMemory;
-use tk_wire::{Gave, Pipe, PipeWire, Took, Wire};
+use tk_wire::{Gave, Pipe, PipeWire, Piped, Took, Wire};
 
 #[test]
 fn listed_calls_fail(rt: HostRuntime) -> Result<(), Fail> {
