@@ -1,0 +1,4 @@
+pub mod DownLemmas
+pub mod JoinLemmas
+pub mod LineLemmas
+pub mod WayLemmas
