@@ -1,13 +1,15 @@
 //! Frames between a coordinator and its monitors as bytes, in memory.
 //!
 //! It promises that a frame which is carried over a line is taken whole and unchanged, and that no other is, in whatever
-//! pieces its bytes go; want of memory leaves coordinator and monitor as they were. It stands on the port and the hub.
+//! pieces its bytes go; want of memory leaves coordinator and monitor as they were. So a world runs over `Wired` as over
+//! nodes that hand their frames over. It stands on the port and the hub.
 #![tactic(auto)]
 
 mod downward;
 mod line;
 mod upward;
+mod walked;
+mod wired;
 
-pub use downward::carry_down;
 pub use line::Line;
-pub use upward::carry_up;
+pub use wired::Wired;

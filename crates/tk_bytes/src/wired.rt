@@ -1,0 +1,111 @@
+ghost use Rattle.std.specs.Prelude.{◌≡◌, IfOk, map};
+
+use crate::downward::carry_down;
+use crate::line::Line;
+use crate::upward::carry_up;
+use crate::walked::Walked;
+use std::alloc::Global;
+use std::marker::Model;
+use tk_base::{Feeder, Mon, NoMemory};
+use tk_coord::Coordinator;
+use tk_hub::Hub;
+use tk_monitor::{Monitor, Raised};
+use tk_story::{CoordEnd, MonEnd};
+use tk_wire::SureWire;
+use tk_world::Nodes;
+
+/// A coordinator and its monitors at the ends of wires in memory, between which bytes go through pipes.
+#[derive(Drop)]
+pub struct Wired {
+    hub: Hub<SureWire>,
+    lines: Vec<Walked>,
+}
+
+impl Model for Wired {
+    ghost use Rattle.tk_world.specs.Nodes.{NodesView};
+
+    ghost Value = { NodesView };
+
+    ghost use Rattle.tk_bytes.specs.Wired.{AreWired, seen_of};
+
+    ghost view = { λ w. seen_of w.hub w.lines.items };
+
+    ghost invariant = { λ w. AreWired w.hub w.lines.items };
+}
+
+/// The monitors of some lines.
+fn monitors_of(alloc: Global, lines: Vec<Walked>) -> Result<Vec<Monitor>, NoMemory>
+    ensures { IfOk result (λ monitors. monitors.items ≡ map (λ w. w.line.port.monitor) lines.items) }
+{
+    let mut monitors = Vec::with_capacity(alloc, lines.len())?;
+    for walked in lines {
+        let Walked { line, .. } = walked;
+        let Line { port, .. } = line;
+        let (end, _) = port.into_end();
+        let MonEnd { monitor, .. } = end;
+        monitors.push(monitor)?;
+    }
+    Ok(monitors)
+}
+
+impl Nodes for Wired {
+    ghost seen = { λ w. w };
+
+    fn coordinator(&self) -> &Coordinator {
+        self.hub.coordinator()
+    }
+
+    fn monitor(&self, mon: Mon) -> &Monitor {
+        self.lines[mon.0 as usize - 1].line.port.monitor()
+    }
+
+    fn taken(&self, mon: Mon) -> usize {
+        self.lines[mon.0 as usize - 1].taken
+    }
+
+    fn got(&self, mon: Mon) -> usize {
+        self.lines[mon.0 as usize - 1].got
+    }
+
+    fn raise(&mut self, mon: Mon, f: Feeder) -> Raised {
+        let walked = &mut self.lines[mon.0 as usize - 1];
+        walked.line.port.raise(f)
+    }
+
+    fn check(&mut self, mon: Mon) -> Result<(), NoMemory> {
+        let walked = &mut self.lines[mon.0 as usize - 1];
+        walked.line.port.check()?;
+        Ok(())
+    }
+
+    fn up(&mut self, mon: Mon) -> Result<(), NoMemory> {
+        let walked = &mut self.lines[mon.0 as usize - 1];
+        carry_up(&mut self.hub, &mut walked.line, mon)?;
+        prove!(walked.got < walked.line.port.monitor().sent());
+        walked.got += 1;
+        Ok(())
+    }
+
+    fn down(&mut self, mon: Mon) -> Result<(), NoMemory> {
+        let walked = &mut self.lines[mon.0 as usize - 1];
+        carry_down(&mut self.hub, &mut walked.line, mon)?;
+        prove!(walked.taken < self.hub.coordinator().sent(mon));
+        walked.taken += 1;
+        Ok(())
+    }
+
+    fn retune(&mut self, k: u64, epsilon: u128) -> Result<(), NoMemory> {
+        match self.hub.retune(k, epsilon) {
+            Ok(()) => Ok(()),
+            Err(_) => Err(NoMemory),
+        }
+    }
+
+    fn into_parts(self, alloc: Global) -> Result<(Coordinator, Vec<Monitor>), NoMemory> {
+        let Wired { hub, lines } = self;
+        let monitors = monitors_of(alloc, lines)?;
+        let (end, _) = hub.into_end();
+        let CoordEnd { coordinator, .. } = end;
+        Ok((coordinator, monitors))
+    }
+}
