@@ -17,7 +17,6 @@ use Rattle.tk_trail.specs.declared.entry.Entry.TheVariants.{Raised}
 use Rattle.tk_end.specs.Link.{IsEnd, IsShut, LinkView, Says, over}
 use Rattle.tk_wire.specs.Meanings.{Traffic}
 use Rattle.tk_wire.specs.Parse.{IsEncoding, IsParse}
-use Rattle.tk_wire.specs.PipeWire.{MemoryWire, with_traffic}
 use Rattle.tk_end.proofs.EndLemmas.{shut_end}
 use Rattle.tk_port.specs.Port.{IsOnCourse, IsPort}
 use Rattle.tk_port.specs.Side.{taking}

@@ -12,7 +12,8 @@ impl<W: Piped> Seats<W> {
     /// Moves bytes from the wire of one seat to a pipe.
     pub fn drain_at(&mut self, mon: Mon, to: &mut Pipe) -> usize
         requires { IsMonitor self.old.coordinator.settings mon.0 }
-        ensures drains { SeatDrains W.piece W.bearing result (link_of self.old.links mon.0) (link_of self.new.links mon.0) to.old to.new }
+        ensures drains { SeatDrains W.piece W.bearing result
+            (link_of self.old.links mon.0) (link_of self.new.links mon.0) to.old to.new }
         ensures rest { self.new ≡ record self.old { links = with_link mon.0 self.new.links self.old.links } }
         ensures kept { AreSeats self.new }
     {
@@ -22,7 +23,8 @@ impl<W: Piped> Seats<W> {
     /// Moves bytes from a pipe to the wire of one seat.
     pub fn fill_at(&mut self, mon: Mon, from: &mut Pipe) -> usize
         requires { IsMonitor self.old.coordinator.settings mon.0 }
-        ensures fills { SeatFills W.piece W.bearing result (link_of self.old.links mon.0) (link_of self.new.links mon.0) from.old from.new }
+        ensures fills { SeatFills W.piece W.bearing result
+            (link_of self.old.links mon.0) (link_of self.new.links mon.0) from.old from.new }
         ensures rest { self.new ≡ record self.old { links = with_link mon.0 self.new.links self.old.links } }
         ensures kept { AreSeats self.new }
     {
