@@ -10,7 +10,7 @@ use tk_frames::{BadFrame, Frame, Kind};
 use tk_hub::{Admitted, Hub, HubTurn, an_opening_has_no_input};
 use tk_input::{Catalog, VecSink};
 use tk_story::{Bytes, Received};
-use tk_wire::{Pipe, PipeWire, Pushed, Wire};
+use tk_wire::{Pipe, PipeWire, Piped, Pushed, Wire};
 
 /// A length that no Hello has.
 const LONG: [u8; 4] = [0, 32, 0, 0];
