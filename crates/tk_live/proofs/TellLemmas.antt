@@ -1,0 +1,198 @@
+-- What a live run leaves, by how it ended.
+use Rattle.std.proofs.Common.{◌≡◌, ◌⊎◌, ℕ, List, [], ◌++◌, true, Option, Some, None, Result, Ok, Err, refl, sym, subst, inl, inr, append-nil}
+use Rattle.std.specs.List.{concat}
+use Rattle.tk_input.specs.Sink.{Grows, GrowsByFront}
+use Rattle.tk_journal.specs.Laws.{IsMonitor}
+use Rattle.tk_journal.specs.Legal.{start}
+use Rattle.tk_journal.specs.Publishing.{stops}
+use Rattle.tk_journal.specs.Readings.{is_stopped as has_sent_stop}
+use Rattle.tk_journal.proofs.Ended.{legal_ends}
+use Rattle.tk_journal.proofs.LawLemmas.{one_less}
+use Rattle.tk_ledger.specs.Text.{lines_of, text_of}
+use Rattle.tk_hub.proofs.LinesLemmas.{grows_more, grows_none}
+use Rattle.tk_ledger.specs.declared.printing.PrintFault.{PrintFault}
+use Rattle.tk_ledger.specs.declared.printing.PrintFault.TheVariants as g
+use Rattle.std.specs.Prelude.{OnOk, OnErr}
+use Rattle.tk_load.specs.declared.input.Input.{Input}
+use Rattle.tk_run.specs.Headline.{IsSound}
+use Rattle.tk_story.proofs.PublishedLemmas.{IsPublished, last_is_full, published_holds}
+use Rattle.tk_story.specs.Ends.{AreOfOneRun, TellsDifference, kept_by}
+use Rattle.tk_story.specs.Kept.{KeptStory}
+use Rattle.tk_story.specs.Moments.{IsOver}
+use Rattle.tk_story.specs.Story.{IsStory, StoryView, trail_of}
+use Rattle.tk_story.specs.declared.ends.Ends.{Ends}
+use Rattle.tk_story.specs.declared.ends.join_fault.JoinFault.{JoinFault}
+use Rattle.tk_story.specs.declared.ends.join_fault.JoinFault.TheVariants as f
+use Rattle.tk_trail.specs.Readings.{is_stopped}
+use Rattle.tk_world.specs.Runs.{RunsBy}
+use Rattle.tk_live.specs.Complete.{IsComplete}
+use Rattle.tk_live.specs.Joined.{joined_as}
+use Rattle.tk_base.specs.Settings.{Setup}
+use Rattle.tk_input.specs.Logs.{LogSet}
+use Rattle.tk_run.specs.Ends.{beginnings}
+use Rattle.tk_live.specs.Joining.{IsFrom, IsVerdictOf, ledger_lines}
+use Rattle.tk_live.specs.Lived.{AreOfInput, Concludes, IsOfInput, TellsEnds}
+use Rattle.tk_live.specs.declared.verdict.Lived.{Lived}
+use Rattle.tk_live.specs.declared.verdict.Verdict.{Verdict}
+use Rattle.tk_live.specs.declared.verdict.Verdict.TheVariants as v
+use Rattle.tk_live.proofs.CarriedLemmas.{carried}
+use Rattle.tk_live.proofs.LineLemmas.{grows_front}
+
+-- where Stop was sent and every monitor took it, the run is over
+pub over_of : (s : StoryView) → IsStory s → has_sent_stop s.journal ≡ true → ((mon : ℕ) → IsMonitor s.settings mon → is_stopped (trail_of s mon) ≡ true) → IsOver s
+over_of s h stopped halted =
+    let k = one_less s.settings.monitors h.limits.some_monitor in
+    let e = (legal_ends (start s.settings) k.0 k.1 s.journal h.journal_legal).ended stopped in
+    let at : IsPublished s e.final = record { before = e.front; after = stops s.settings; is = e.is } in
+    record { front = e.front; final = e.final; is = e.is; last = e.last; cut = last_is_full s h e.final at e.last; valid = published_holds s h e.final at; halted = halted }
+
+-- the text of a story is the lines of its publications and then those of its ledger
+text_is : (names : List (List ℕ)) (s : StoryView) → text_of names s ≡ concat (lines_of names s.journal) ++ ledger_lines s
+unfolding text_of
+text_is names s = refl
+
+-- no worker was started
+pub concludes_unstarted : (input : Input) (version : ℕ) (was : Option (List ℕ)) (taken taken' : ℕ) (verdict : Verdict) → (verdict ≡ v.LinkFault) ⊎ (verdict ≡ v.NoMemory)
+    → Concludes input version was was taken taken' (record { verdict = verdict; story = None; ends = None })
+concludes_unstarted input version was taken taken' verdict (inl is) = subst (λ x. Concludes input version was was taken taken' (record { verdict = x; story = None; ends = None })) (sym is) (record {
+  done = λ e. absurd (cc);
+  lived = λ e. absurd (cc);
+  sound = tt;
+  of_input = tt;
+  ends = tt;
+  one = λ s. refl;
+  written = refl;
+  differs = tt;
+})
+concludes_unstarted input version was taken taken' verdict (inr is) = subst (λ x. Concludes input version was was taken taken' (record { verdict = x; story = None; ends = None })) (sym is) (record {
+  done = λ e. absurd (cc);
+  lived = λ e. absurd (cc);
+  sound = tt;
+  of_input = tt;
+  ends = tt;
+  one = λ s. refl;
+  written = refl;
+  differs = tt;
+})
+
+-- the ends were kept
+pub concludes_kept : (input : Input) (version : ℕ) (was now : Option (List ℕ)) (taken taken' : ℕ) (verdict : Verdict) (ends : Ends) → AreOfInput input ends
+    → GrowsByFront was now (concat (lines_of input.names ends.coordinator.coordinator.journal)) → (verdict ≡ v.Done → ⊥) → TellsEnds verdict (Some ends)
+    → Concludes input version was now taken taken' (record { verdict = verdict; story = None; ends = Some ends })
+concludes_kept input version was now taken taken' verdict ends are grown never tells = record {
+  done = λ e. absurd (never e);
+  lived = λ e. absurd (never e);
+  sound = tt;
+  of_input = tt;
+  ends = are;
+  one = λ s. absurd (cc);
+  written = grown;
+  differs = tells;
+}
+
+-- the ends differ, or there was no memory to see it
+pub joined_never : (fault : JoinFault) → joined_as fault ≡ v.Done → ⊥
+joined_never (f.Differs mon direction place sent received) is = absurd (cc)
+joined_never f.NoMemory is = absurd (cc)
+
+pub joined_tells : (fault : JoinFault) (ends : Ends) → TellsDifference (kept_by ends.coordinator ends.monitors.items) fault → TellsEnds (joined_as fault) (Some ends)
+joined_tells (f.Differs mon direction place sent received) ends tells = tells
+joined_tells f.NoMemory ends tells = tt
+
+-- there is a story
+pub concludes_told : (law : (s : StoryView) → IsStory s → IsOver s → IsSound s) (input : Input) (version : ℕ) (was mid now : Option (List ℕ)) (taken taken' : ℕ) (kept : KeptStory) (verdict : Verdict)
+    → IsStory kept.story → IsOfInput input kept.story → IsComplete input.names version kept.story was mid taken taken'
+    → (verdict ≡ v.Done → RunsBy kept.story kept.events × Grows mid now (ledger_lines kept.story)) → GrowsByFront mid now (ledger_lines kept.story) → TellsEnds verdict None
+    → Concludes input version was now taken taken' (record { verdict = verdict; story = Some kept; ends = None })
+concludes_told law input version was mid now taken taken' kept verdict h of_input complete done front tells = record {
+  done = λ e. refl;
+  lived = λ e. record {
+    runs = record { settings_is = of_input.settings; logs_is = of_input.logs; from_is = of_input.from; runs = (done e).0 };
+    written = subst (Grows was now) (sym (text_is input.names kept.story)) (grows_more was mid now (concat (lines_of input.names kept.story.journal)) (ledger_lines kept.story) complete.written (done e).1);
+    carried = carried version kept.story taken taken' h complete.halted complete.heard;
+  };
+  sound = law kept.story h (over_of kept.story h complete.stopped complete.halted);
+  of_input = of_input;
+  ends = tt;
+  one = λ s. refl;
+  written = subst (GrowsByFront was now) (sym (text_is input.names kept.story)) (grows_front was mid now (concat (lines_of input.names kept.story.journal)) (ledger_lines kept.story) complete.written front);
+  differs = tells;
+}
+
+-- ---- faults
+
+-- a verdict that is neither Done nor a difference
+abbrev pub IsFault : Verdict → Type 0
+IsFault v.Done = ⊥
+IsFault (v.LinkDiffers mon direction place sent received) = ⊥
+IsFault v.WriteFault = Unit {0}
+IsFault v.LinkFault = Unit {0}
+IsFault v.NoMemory = Unit {0}
+
+pub fault_of : (x a b : Verdict) → IsFault a → IsFault b → (x ≡ a) ⊎ (x ≡ b) → IsFault x
+fault_of x a b first second (inl is) = subst IsFault (sym is) first
+fault_of x a b first second (inr is) = subst IsFault (sym is) second
+
+fault_never : (verdict : Verdict) → IsFault verdict → verdict ≡ v.Done → ⊥
+fault_never verdict fault is = subst IsFault is fault
+
+fault_tells : (verdict : Verdict) (ends : Option Ends) → IsFault verdict → TellsEnds verdict ends
+fault_tells v.Done ends fault = absurd fault
+fault_tells (v.LinkDiffers mon direction place sent received) ends fault = absurd fault
+fault_tells v.WriteFault ends fault = tt
+fault_tells v.LinkFault ends fault = tt
+fault_tells v.NoMemory ends fault = tt
+
+-- the ends were kept beside a fault
+pub concludes_fault : (input : Input) (version : ℕ) (was now : Option (List ℕ)) (taken taken' : ℕ) (verdict : Verdict) (ends : Ends) (lived : Lived) → IsFault verdict → AreOfInput input ends
+    → GrowsByFront was now (concat (lines_of input.names ends.coordinator.coordinator.journal)) → lived ≡ record { verdict = verdict; story = None; ends = Some ends }
+    → Concludes input version was now taken taken' lived
+concludes_fault input version was now taken taken' verdict ends lived fault are grown is =
+    subst (λ l. Concludes input version was now taken taken' l) (sym is) (concludes_kept input version was now taken taken' verdict ends are grown (fault_never verdict fault) (fault_tells verdict (Some ends) fault))
+
+-- the ends did not agree, or there was no memory to see it
+pub concludes_joined : (input : Input) (version : ℕ) (was now : Option (List ℕ)) (taken taken' : ℕ) (fault : JoinFault) (ends : Ends) (lived : Lived) → AreOfInput input ends
+    → GrowsByFront was now (concat (lines_of input.names ends.coordinator.coordinator.journal)) → TellsDifference (kept_by ends.coordinator ends.monitors.items) fault
+    → lived ≡ record { verdict = joined_as fault; story = None; ends = Some ends } → Concludes input version was now taken taken' lived
+concludes_joined input version was now taken taken' fault ends lived are grown tells is =
+    subst (λ l. Concludes input version was now taken taken' l) (sym is) (concludes_kept input version was now taken taken' (joined_as fault) ends are grown (joined_never fault) (joined_tells fault ends tells))
+
+-- there is a story, as the ledger was printed
+pub printed_as : {A : Type 0} (printed : Result A PrintFault) (verdict : Verdict) → IsVerdictOf printed verdict → TellsEnds verdict None
+printed_as (Ok done) verdict is = subst (λ x. TellsEnds x None) (sym is) refl
+printed_as (Err g.WriteFailed) verdict (inl is) = subst (λ x. TellsEnds x None) (sym is) tt
+printed_as (Err g.WriteFailed) verdict (inr is) = subst (λ x. TellsEnds x None) (sym is) tt
+printed_as (Err g.NoMemory) verdict is = subst (λ x. TellsEnds x None) (sym is) tt
+
+-- what was printed, where the verdict is Done, and in any case
+pub printed_done : {A : Type 0} (printed : Result A PrintFault) (verdict : Verdict) (P : Type 0) → IsVerdictOf printed verdict → OnOk printed P → verdict ≡ v.Done → P
+printed_done (Ok done) verdict P is ok was = ok
+printed_done (Err g.WriteFailed) verdict P (inl is) ok was = absurd (cc)
+printed_done (Err g.WriteFailed) verdict P (inr is) ok was = absurd (cc)
+printed_done (Err g.NoMemory) verdict P is ok was = absurd (cc)
+
+pub printed_front : {A : Type 0} (printed : Result A PrintFault) (old new : Option (List ℕ)) (text : List ℕ) → OnOk printed (Grows old new text) → OnErr printed (GrowsByFront old new text) → GrowsByFront old new text
+printed_front (Ok done) old new text ok err = (text, [], sym (append-nil text), ok)
+printed_front (Err fault) old new text ok err = err
+
+-- nothing is a front of any text
+pub none_front : (at : Option (List ℕ)) (text : List ℕ) → GrowsByFront at at text
+none_front at text = ([], text, refl, grows_none at)
+
+-- the same story under another name
+pub of_story : (input : Input) (s t : StoryView) → t ≡ s → IsOfInput input s → IsOfInput input t
+of_story input s t same is = subst (λ x. IsOfInput input x) (sym same) is
+
+pub complete_story : (names : List (List ℕ)) (version : ℕ) (s t : StoryView) (was now : Option (List ℕ)) (taken taken' : ℕ) → t ≡ s → IsComplete names version s was now taken taken' → IsComplete names version t was now taken taken'
+complete_story names version s t was now taken taken' same is = subst (λ x. IsComplete names version x was now taken taken') (sym same) is
+
+-- ends that can be joined are those of an input
+pub of_run : (input : Input) (settings : Setup) (logs : LogSet) (from : List (List ℕ)) (ends : Ends) → IsFrom input settings logs from → AreOfOneRun ends.coordinator ends.monitors.items logs settings from → AreOfInput input ends
+of_run input settings logs from ends is run =
+    subst (λ s. AreOfOneRun ends.coordinator ends.monitors.items input.logs s (beginnings input.logs)) is.settings_are
+    (subst (λ l. AreOfOneRun ends.coordinator ends.monitors.items l settings (beginnings input.logs)) is.logs_are
+    (subst (λ p. AreOfOneRun ends.coordinator ends.monitors.items logs settings p) is.from_is run))
+
+-- ends that are kept beside a verdict
+abbrev pub kept_as : Verdict → Ends → Lived
+kept_as verdict ends = record { verdict = verdict; story = None; ends = Some ends }

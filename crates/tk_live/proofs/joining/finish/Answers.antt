@@ -1,0 +1,33 @@
+use Rattle.std.proofs.Common.{◌≡◌, sym, ap, subst}
+use Rattle.tk_input.specs.Sink.{Grows}
+use Rattle.tk_story.specs.Kept.{KeptStory}
+use Rattle.tk_story.specs.Story.{IsStory}
+use Rattle.tk_live.specs.Joining.{ledger_lines}
+use Rattle.tk_live.specs.Lived.{Concludes}
+use Rattle.tk_live.specs.declared.verdict.Verdict.TheVariants as v
+use Rattle.tk_live.proofs.TellLemmas.{complete_story, concludes_told, none_front, of_story, printed_as, printed_done, printed_front}
+use Rattle.tk_live.proofs.joining.finish.Goals as goal
+
+pub returns-in-Err-clause-concludes : goal.returns-in-Err-clause-concludes
+returns-in-Err-clause-concludes g c = λ input version was taken taken' of_input complete.
+    let kept = c.in-Err.story in
+    let now = g.O.Sink.written c.args.out.now in
+    let same : kept.story ≡ c.args.story.story = ap (λ (k : KeptStory). k.story) c.in-Err.ensures.err in
+    subst (λ l. Concludes input version was now taken taken' l) (sym c.told.ensures)
+    (concludes_told c.a_finished_run_is_sound.ensures input version was now now taken taken' kept v.NoMemory (subst IsStory (sym same) c.journal.ensures.legal)
+    (of_story input c.args.story.story kept.story same of_input) (complete_story input.names version c.args.story.story kept.story was now taken taken' same complete) (λ e. absurd (cc)) (none_front now (ledger_lines kept.story)) tt)
+
+pub returns-clause-concludes : goal.returns-clause-concludes
+returns-clause-concludes g c = λ input version was taken taken' of_input complete.
+    let kept = c.in-Ok.story in
+    let mid = g.O.Sink.written c.args.out.now in
+    let now = g.O.Sink.written c.print-printed.new.out in
+    let same : kept.story ≡ c.args.story.story = c.in-Ok.ensures.story in
+    let printed = c.print-printed.result in
+    let verdict = c.verdict_of-verdict.result in
+    let is = c.verdict_of-verdict.ensures.verdict in
+    subst (λ l. Concludes input version was now taken taken' l) (sym c.told-2.ensures)
+    (concludes_told c.a_finished_run_is_sound.ensures input version was mid now taken taken' kept verdict (subst IsStory (sym same) c.journal.ensures.legal)
+    (of_story input c.args.story.story kept.story same of_input) (complete_story input.names version c.args.story.story kept.story was mid taken taken' same complete)
+    (λ e. (c.in-Ok.ensures.runs, printed_done printed verdict (Grows mid now (ledger_lines kept.story)) is c.print-printed.ensures.ok e))
+    (printed_front printed mid now (ledger_lines kept.story) c.print-printed.ensures.ok c.print-printed.ensures.err) (printed_as printed verdict is))

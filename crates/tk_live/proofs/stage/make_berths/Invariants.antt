@@ -1,0 +1,14 @@
+use Rattle.std.proofs.Common.{◌≡◌, map}
+use Rattle.std.specs.List.{range_with_len}
+use Rattle.tk_live.specs.Crew.{made_in}
+use Rattle.tk_live.specs.Hosting.{HasGone}
+use Rattle.tk_live.specs.Made.{made_of}
+use Rattle.tk_live.proofs.stage.make_berths.Given as goal
+
+-- the ports of the monitors passed were made, over as many links
+abbrev pub invariant-loop-j : goal.invariant-loop-j
+invariant-loop-j g l = record {
+  made : map (λ b. made_in b.port.monitor b.version) l.berths.items ≡ map (made_of l.plan.input.now l.plan.from.now l.plan.version) (range_with_len 1 l.j);
+  gone : HasGone (g.N.Net.state l.fn.net) (g.N.Net.state l.net);
+  links : (g.N.Net.state l.net).links ≡ l.j;
+}

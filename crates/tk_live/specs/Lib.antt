@@ -1,0 +1,13 @@
+pub mod Carried
+pub mod Complete
+pub mod Crew
+pub mod Ending
+pub mod Hosting
+pub mod Joined
+pub mod Joining
+pub mod Left
+pub mod Lived
+pub mod Made
+pub mod Odd
+pub mod Parting
+pub mod Slots

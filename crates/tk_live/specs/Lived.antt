@@ -1,0 +1,68 @@
+-- How a live run of an input ends, and what its verdict tells.
+use Rattle.std.specs.Prelude.{ℕ, ◌≡◌, List, Option, Some, None, IsSome, IfSome, ⊤}
+use Rattle.std.specs.List.{concat}
+use Rattle.tk_drain.specs.Resting.{RunsFrom}
+use Rattle.tk_input.specs.Sink.{Grows, GrowsByFront}
+use Rattle.tk_ledger.specs.Text.{lines_of, text_of}
+use Rattle.tk_load.specs.declared.input.Input.{Input}
+use Rattle.tk_run.specs.Ends.{beginnings}
+use Rattle.tk_run.specs.Headline.{IsSound}
+use Rattle.tk_story.specs.Ends.{AreOfOneRun, IsFirstOfAll, kept_by}
+use Rattle.tk_story.specs.Kept.{KeptStory}
+use Rattle.tk_story.specs.Story.{StoryView}
+use Rattle.tk_story.specs.declared.ends.Ends.{Ends}
+use Rattle.tk_live.specs.Carried.{IsCarried}
+use Rattle.tk_live.specs.declared.verdict.Lived.{Lived}
+use Rattle.tk_live.specs.declared.verdict.Verdict.{Verdict}
+use Rattle.tk_live.specs.declared.verdict.Verdict.TheVariants as v
+
+-- ---- a run that is done
+
+-- a story over the settings and the logs of an input, from places 0
+pub record IsOfInput (input : Input) (s : StoryView) : Type 0 where
+  pub settings : s.settings ≡ input.settings
+  pub logs : s.logs ≡ input.logs
+  pub from : s.from ≡ beginnings input.logs
+
+-- the story of a live run that is done: it runs the events that are kept with it, its text was written, where that is
+-- told, and as many bytes as it needs were taken from the links
+pub record HasLived (input : Input) (version : ℕ) (before after : Option (List ℕ)) (taken taken_then : ℕ) (kept : KeptStory) : Type 0 where
+  pub runs : RunsFrom input.settings input.logs (beginnings input.logs) kept
+  pub written : Grows before after (text_of input.names kept.story)
+  pub carried : IsCarried version kept.story taken taken_then
+
+-- ---- what is left of any run
+
+-- ends of nodes that were made for an input
+abbrev pub AreOfInput : Input → Ends → Type 0
+AreOfInput input ends = AreOfOneRun ends.coordinator ends.monitors.items input.logs input.settings (beginnings input.logs)
+
+-- what was written: with a story a front of its text, with ends a front of the lines that their journal published, and
+-- with neither nothing
+abbrev pub Leaves : List (List ℕ) → Option (List ℕ) → Option (List ℕ) → Option KeptStory → Option Ends → Type 0
+Leaves names before after (Some kept) ends = GrowsByFront before after (text_of names kept.story)
+Leaves names before after None (Some ends) = GrowsByFront before after (concat (lines_of names ends.coordinator.coordinator.journal))
+Leaves names before after None None = after ≡ before
+
+-- a difference is the first that the ends show
+abbrev pub TellsEnds : Verdict → Option Ends → Type 0
+TellsEnds (v.LinkDiffers mon direction place sent received) None = ⊥
+TellsEnds (v.LinkDiffers mon direction place sent received) (Some ends) =
+    IsFirstOfAll (kept_by ends.coordinator ends.monitors.items) mon.0 direction place sent received
+TellsEnds v.Done ends = ends ≡ None
+TellsEnds v.WriteFault ends = ⊤
+TellsEnds v.LinkFault ends = ⊤
+TellsEnds v.NoMemory ends = ⊤
+
+-- what a live run leaves
+pub record Concludes (input : Input) (version : ℕ) (before after : Option (List ℕ)) (taken taken_then : ℕ) (result : Lived) : Type 0 where
+  pub done : result.verdict ≡ v.Done → IsSome result.story
+  pub lived : result.verdict ≡ v.Done → IfSome result.story (HasLived input version before after taken taken_then)
+  -- any story is over, and all of the headline holds for it
+  pub sound : IfSome result.story (λ s. IsSound s.story)
+  pub of_input : IfSome result.story (λ s. IsOfInput input s.story)
+  -- any ends are those of the nodes that were made for the input
+  pub ends : IfSome result.ends (AreOfInput input)
+  pub one : IsSome result.story → result.ends ≡ None
+  pub written : Leaves input.names before after result.story result.ends
+  pub differs : TellsEnds result.verdict result.ends

@@ -1,0 +1,53 @@
+-- Why the caller's loop over its hub ended.
+use Rattle.std.specs.Prelude.{Bool, true, false, Option, Some, None}
+use Rattle.tk_hub.specs.declared.course.HubTurn.{HubTurn}
+use Rattle.tk_hub.specs.declared.course.HubTurn.TheVariants as t
+use Rattle.tk_wire.specs.declared.net.NetFault.{NetFault}
+use Rattle.tk_wire.specs.declared.net.NetFault.TheVariants as fault
+use Rattle.tk_live.specs.declared.parting.Parting.{Parting}
+use Rattle.tk_live.specs.declared.parting.Parting.TheVariants as p
+
+-- after a turn, where the loop does not go on
+abbrev pub of_turn : HubTurn → Option Parting
+of_turn t.Quiet = None
+of_turn t.More = None
+of_turn t.Finished = Some p.Finished
+of_turn t.Failed = Some p.Failed
+of_turn (t.Refused mon why) = Some p.Refused
+of_turn (t.Bad mon why) = Some p.Refused
+of_turn t.WriteFailed = Some p.WriteFailed
+of_turn t.NoMemory = Some p.NoMemory
+
+-- after a fault of the net
+abbrev pub of_fault : NetFault → Parting
+of_fault fault.Failed = p.NetFailed
+of_fault fault.NoMemory = p.NoMemory
+
+-- where the net failed behind it
+abbrev pub and_failed_of : Parting → Parting
+and_failed_of p.Finished = p.Finished
+and_failed_of p.Alarmed = p.NetFailed
+and_failed_of p.Failed = p.Failed
+and_failed_of p.Refused = p.Refused
+and_failed_of p.WriteFailed = p.WriteFailed
+and_failed_of p.NetFailed = p.NetFailed
+and_failed_of p.NoMemory = p.NoMemory
+
+abbrev pub is_done_of : Parting → Bool
+is_done_of p.Finished = true
+is_done_of p.Alarmed = false
+is_done_of p.Failed = false
+is_done_of p.Refused = false
+is_done_of p.WriteFailed = false
+is_done_of p.NetFailed = false
+is_done_of p.NoMemory = false
+
+-- whether the hub is halted then: its wires are not shut yet, and the run is not done
+abbrev pub halts_of : Parting → Bool
+halts_of p.Finished = false
+halts_of p.Alarmed = true
+halts_of p.Failed = true
+halts_of p.Refused = true
+halts_of p.WriteFailed = false
+halts_of p.NetFailed = true
+halts_of p.NoMemory = true

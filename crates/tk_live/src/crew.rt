@@ -1,0 +1,137 @@
+ghost use Rattle.std.specs.Prelude.{◌≡◌, ◌≤◌, [], length, map, vec_capacity};
+ghost use Rattle.tk_live.specs.Crew.{made_in};
+ghost use Rattle.tk_live.specs.Slots.{slot_made};
+
+use crate::worked::{Berth, Worked};
+use std::marker::{Send, Sync};
+use std::snapshot::Snapshot;
+use std::sync::Wait;
+use std::thread::{Promise, PromisedHandle, Scope, Threads};
+use tk_monitor::Monitor;
+use tk_serve::{Alarm, Gate, serve};
+use tk_wire::{Bell, Rest, Wire};
+
+/// The promise that a worker's end is that of the monitor that was made, and keeps the version of its frames.
+#[derive(Drop)]
+pub struct EndOf {
+    made: Snapshot<Monitor>,
+    version: u8,
+}
+
+impl<W: Wire, Q: Rest> Promise<Worked<W, Q>> for EndOf {
+    ghost kept_by = { λ p worked. made_in worked.served.end.monitor worked.version ≡ made_in p.made.value p.version };
+}
+
+/// A worker in a thread of its own, or what it left here where no thread could be made for it.
+#[derive(Drop)]
+pub enum Slot<W: Wire, Q: Rest> {
+    There(PromisedHandle<Worked<W, Q>, EndOf>),
+    Here(Worked<W, Q>),
+}
+
+/// Serves a port to its end.
+fn work<
+    R: Threads + Wait + Sync,
+    W: Wire + Send + Drop,
+    Q: Rest + Send + Drop,
+    B: Bell + Send + Sync + Drop,
+    G: Gate + Sync,
+>(rt: &R, berth: Berth<W, Q, B>, gate: &G, alarm: &Alarm) -> Worked<W, Q>
+    ensures { made_in result.served.end.monitor result.version ≡ made_in berth.port.monitor berth.version }
+{
+    let Berth {
+        port,
+        version,
+        rest,
+        bell,
+    } = berth;
+    let served = serve(rt, port, rest, &bell, gate, alarm);
+    Worked { served, version }
+}
+
+/// Starts a worker. Where no thread can be made for it, the alarm is raised and it works here.
+fn start_one<
+    's,
+    'a: 's,
+    R: Threads + Wait + Sync,
+    W: Wire + Send + Drop + 'a,
+    Q: Rest + Send + Drop + 'a,
+    B: Bell + Send + Sync + Drop + 'a,
+    G: Gate + Sync,
+>(
+    scope: &'s Scope<'s, &'a ()>,
+    rt: &'a R,
+    berth: Berth<W, Q, B>,
+    gate: &'a G,
+    alarm: &'a Alarm,
+) -> Slot<W, Q>
+    ensures { slot_made result ≡ made_in berth.port.monitor berth.version }
+{
+    let promise = EndOf {
+        made: Snapshot::of(berth.port.monitor()),
+        version: berth.version,
+    };
+    match scope.spawn_with(promise, move || work(rt, berth, gate, alarm)) {
+        Ok(handle) => Slot::There(handle),
+        Err(refused) => {
+            alarm.raise();
+            Slot::Here((refused.value)())
+        }
+    }
+}
+
+/// Starts a worker for each port, in the room that was taken for them.
+pub fn start<
+    's,
+    'a: 's,
+    R: Threads + Wait + Sync,
+    W: Wire + Send + Drop + 'a,
+    Q: Rest + Send + Drop + 'a,
+    B: Bell + Send + Sync + Drop + 'a,
+    G: Gate + Sync,
+>(
+    scope: &'s Scope<'s, &'a ()>,
+    rt: &'a R,
+    berths: Vec<Berth<W, Q, B>>,
+    room: Vec<Slot<W, Q>>,
+    gate: &'a G,
+    alarm: &'a Alarm,
+) -> Vec<Slot<W, Q>>
+    requires room { length berths.items ≤ vec_capacity room }
+    requires empty { room.items ≡ [] }
+    ensures made { map slot_made result.items ≡ map (λ b. made_in b.port.monitor b.version) berths.items }
+    ensures count { length result.items ≡ length berths.items }
+{
+    let mut slots = room;
+    for berth in berths {
+        slots.push_reserved(start_one(scope, rt, berth, gate, alarm));
+    }
+    slots
+}
+
+/// Waits for a worker.
+fn join_one<R: Threads, W: Wire + Drop, Q: Rest + Drop>(rt: &R, slot: Slot<W, Q>) -> Worked<W, Q>
+    ensures { made_in result.served.end.monitor result.version ≡ slot_made slot }
+{
+    match slot {
+        Slot::There(handle) => handle.join(rt),
+        Slot::Here(worked) => worked,
+    }
+}
+
+/// Waits for all workers, in the room that was taken for what they leave.
+pub fn join_all<R: Threads, W: Wire + Drop, Q: Rest + Drop>(
+    rt: &R,
+    slots: Vec<Slot<W, Q>>,
+    room: Vec<Worked<W, Q>>,
+) -> Vec<Worked<W, Q>>
+    requires room { length slots.items ≤ vec_capacity room }
+    requires empty { room.items ≡ [] }
+    ensures { map (λ w. made_in w.served.end.monitor w.version) result.items ≡ map slot_made slots.items }
+{
+    let mut all = room;
+    for slot in slots {
+        all.push_reserved(join_one(rt, slot));
+    }
+    all
+}

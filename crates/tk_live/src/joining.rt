@@ -1,0 +1,91 @@
+ghost use Rattle.std.specs.Prelude.{◌≡◌, ℕ, List, Option, OnOk, OnErr};
+ghost use Rattle.std.specs.List.{concat};
+ghost use Rattle.tk_input.specs.Files.{HasRisen};
+ghost use Rattle.tk_input.specs.Sink.{Grows, GrowsByFront};
+ghost use Rattle.tk_ledger.specs.Text.{lines_of};
+ghost use Rattle.tk_load.specs.declared.input.Input.{Input as InputOf};
+ghost use Rattle.tk_story.specs.Ends.{AreOfOneRun};
+ghost use Rattle.tk_live.specs.Complete.{IsComplete};
+ghost use Rattle.tk_live.specs.Joining.{IsCompleteUnlessOdd, IsFrom, IsVerdictOf, ledger_lines};
+ghost use Rattle.tk_live.specs.Lived.{Concludes, IsOfInput};
+ghost use Rattle.tk_live.specs.declared.verdict.Verdict.TheVariants.{LinkFault as Unlinked, WriteFault as Unwritten};
+
+use crate::verdict::{Lived, Verdict};
+use std::alloc::Global;
+use tk_base::{Cut, Settings};
+use tk_input::{Logs, Sink};
+use tk_ledger::{Ledger, PrintFault, print_ledger};
+use tk_run::a_finished_run_is_sound;
+use tk_story::{Ends, Story};
+use tk_world::serialize;
+
+/// Writes the lines of the ledger of a story.
+fn print<O: Sink>(alloc: Global, story: &Story, out: &mut O) -> Result<(), PrintFault>
+    ensures ok { OnOk result (Grows (O.written out.old) (O.written out.new) (ledger_lines story.now.story)) }
+    ensures err { OnErr result (GrowsByFront (O.written out.old) (O.written out.new) (ledger_lines story.now.story)) }
+{
+    let Ok(ledger) = Ledger::of(alloc, story) else {
+        return Err(PrintFault::NoMemory);
+    };
+    print_ledger(alloc, &ledger, out)
+}
+
+/// The verdict on a story whose ledger was printed so.
+fn verdict_of<O: Sink>(printed: Result<(), PrintFault>, faults: u64, out: &O) -> Verdict
+    ensures verdict { IsVerdictOf printed result }
+    ensures risen { result ≡ Unwritten → HasRisen faults (O.fault_count out.now) }
+{
+    match printed {
+        Ok(()) => Verdict::Done,
+        Err(PrintFault::WriteFailed) => Verdict::of_output(faults, out.faults()),
+        Err(PrintFault::NoMemory) => Verdict::NoMemory,
+    }
+}
+
+/// Gives a story that is over its events, and writes the lines of its ledger.
+fn finish<O: Sink>(alloc: Global, story: Story, faults: u64, out: &mut O) -> Lived
+    ensures concludes { (input : InputOf) (version : ℕ) (was : Option (List ℕ)) (taken taken' : ℕ) → IsOfInput input story.story
+        → IsComplete input.names version story.story was (O.written out.old) taken taken' → Concludes input version was (O.written out.new) taken taken' result }
+    ensures unlinked { result.verdict ≡ Unlinked → ⊥ }
+    ensures risen { result.verdict ≡ Unwritten → HasRisen faults (O.fault_count out.new) }
+{
+    // The journal is read for its clause, that the story is legal; the law says that it is sound.
+    let _ = story.journal();
+    a_finished_run_is_sound();
+    let story = match serialize(alloc, story) {
+        Ok(story) => story,
+        Err((_, story)) => return Lived::told(Verdict::NoMemory, story),
+    };
+    let printed = print(alloc, &story, out);
+    let verdict = verdict_of(printed, faults, out);
+    Lived::told(verdict, story)
+}
+
+/// Joins the ends: to the story that they tell, or to the first difference between them.
+pub fn join_ends<O: Sink>(
+    alloc: Global,
+    settings: Settings,
+    logs: Logs,
+    from: Cut,
+    ends: Ends,
+    faults: u64,
+    out: &mut O,
+) -> Lived
+    requires { AreOfOneRun ends.coordinator ends.monitors.items logs settings from }
+    ensures concludes { (input : InputOf) (version : ℕ) (was : Option (List ℕ)) (taken taken' : ℕ)
+        → IsFrom input settings logs from
+        → IsCompleteUnlessOdd input.names version ends logs from was (O.written out.old) taken taken'
+        → GrowsByFront was (O.written out.old) (concat (lines_of input.names ends.coordinator.coordinator.journal))
+        → Concludes input version was (O.written out.new) taken taken' result }
+    ensures unlinked { result.verdict ≡ Unlinked → ⊥ }
+    ensures risen { result.verdict ≡ Unwritten → HasRisen faults (O.fault_count out.new) }
+{
+    let Ends {
+        coordinator,
+        monitors,
+    } = ends;
+    match Story::join(coordinator, monitors, logs, settings, from, Vec::new(alloc)) {
+        Ok(story) => finish(alloc, story, faults, out),
+        Err((fault, ends)) => Lived::kept(Verdict::of_join(fault), ends),
+    }
+}

@@ -1,0 +1,11 @@
+use crate::parting::Parting;
+use tk_serve::Why;
+use tk_story::Ends;
+
+/// What is left once all workers have ended and all links are back.
+#[derive(Drop)]
+pub struct Left {
+    pub parting: Parting,
+    pub cause: Why,
+    pub ends: Ends,
+}

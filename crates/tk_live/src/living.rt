@@ -1,0 +1,166 @@
+ghost use Rattle.std.specs.Prelude.{◌≡◌, ◌≤◌, ℕ, List, Option, [], false, length, map, vec_capacity};
+ghost use Rattle.std.specs.List.{concat};
+ghost use Rattle.tk_frames.specs.Spelling.{IsVersion};
+ghost use Rattle.tk_input.specs.Files.{HasRisen};
+ghost use Rattle.tk_input.specs.Logs.{IsCut};
+ghost use Rattle.tk_input.specs.Sink.{GrowsByFront};
+ghost use Rattle.tk_journal.specs.Legal.{opened, start as begun_by};
+ghost use Rattle.tk_ledger.specs.Text.{lines_of};
+ghost use Rattle.tk_load.specs.Whole.{AreAgreed};
+ghost use Rattle.tk_run.specs.Ends.{beginnings};
+ghost use Rattle.tk_live.specs.Crew.{made_in};
+ghost use Rattle.tk_live.specs.Hosting.{CanHost};
+ghost use Rattle.tk_live.specs.Left.{IsCompleteLeft};
+ghost use Rattle.tk_live.specs.Lived.{AreOfInput, Concludes};
+ghost use Rattle.tk_live.specs.Made.{all_made};
+ghost use Rattle.tk_live.specs.declared.verdict.Verdict.TheVariants.{LinkFault as Unlinked, WriteFault as Unwritten};
+
+use crate::ending::{Choice, choose, is_odd};
+use crate::joining::join_ends;
+use crate::left::Left;
+use crate::playing::play;
+use crate::returning::{give_back, part};
+use crate::stage::{Plan, Stage, make_stage};
+use crate::verdict::{Lived, Verdict};
+use std::alloc::Global;
+use std::marker::Sync;
+use std::sync::Wait;
+use std::thread::Threads;
+use tk_base::Cut;
+use tk_input::Sink;
+use tk_load::Input;
+use tk_run::start_of;
+use tk_serve::Gate;
+use tk_story::Ends;
+use tk_wire::{Net, NetFault};
+
+/// The counts of faults of a net and of a sink before a run.
+#[derive(Clone, Copy)]
+struct Faults {
+    net: u64,
+    out: u64,
+}
+
+/// Chooses how the run ended: by the hub, the workers, a link or the net, and else by the ends, which are then joined.
+fn conclude<N: Net, O: Sink>(
+    alloc: Global,
+    input: Input,
+    from: Cut,
+    left: Left,
+    faults: Faults,
+    net: &N,
+    out: &mut O,
+) -> Lived
+    requires run { AreOfInput input left.ends }
+    requires from { from ≡ beginnings input.logs }
+    ensures concludes { (version : ℕ) (was : Option (List ℕ)) (taken taken' : ℕ)
+        → GrowsByFront was (O.written out.old) (concat (lines_of input.names left.ends.coordinator.coordinator.journal))
+        → IsCompleteLeft input version from left was (O.written out.old) taken taken'
+        → Concludes input version was (O.written out.new) taken taken' result }
+    ensures failed { result.verdict ≡ Unlinked → HasRisen faults.net (N.state net.now).faults }
+    ensures unwritten { result.verdict ≡ Unwritten → HasRisen faults.out (O.fault_count out.new) }
+{
+    let Left {
+        parting,
+        cause,
+        ends,
+    } = left;
+    let odd = is_odd(&ends.coordinator, ends.monitors.as_slice());
+    match choose(parting, cause, odd) {
+        Choice::WriteFault => Lived::kept(Verdict::of_output(faults.out, out.faults()), ends),
+        Choice::LinkFault => Lived::kept(Verdict::of_link(faults.net, net.faults()), ends),
+        Choice::NoMemory => Lived::kept(Verdict::NoMemory, ends),
+        Choice::Join => {
+            let Input { settings, logs, .. } = input;
+            join_ends(alloc, settings, logs, from, ends, faults.out, out)
+        }
+    }
+}
+
+/// Runs what was made: the workers and the hub beside them; then gives back the links and concludes.
+fn run_stage<R: Threads + Wait + Sync, N: Net, G: Gate + Sync, O: Sink>(
+    rt: &R,
+    alloc: Global,
+    input: Input,
+    from: Cut,
+    version: u8,
+    stage: Stage<N::Link, N::Rest, N::Bell>,
+    faults: Faults,
+    gate: &G,
+    net: &mut N,
+    out: &mut O,
+) -> Lived
+    requires agreed { AreAgreed input.names input.settings input.logs }
+    requires cut { IsCut input.logs.logs from }
+    requires from { from ≡ beginnings input.logs }
+    requires hub { CanHost stage.hub (N.state net.old) input.names }
+    requires settings { stage.hub.coordinator.settings ≡ input.settings }
+    requires begins { stage.hub.coordinator.journal ≡ opened (begun_by input.settings) }
+    requires made { map (λ b. made_in b.port.monitor b.version) stage.crew.berths.items ≡ all_made input from version }
+    requires empty { stage.ends.items ≡ [] }
+    requires room { length stage.crew.berths.items ≤ vec_capacity stage.ends }
+    ensures concludes { Concludes input version (O.written out.old) (O.written out.new) (N.state net.old).taken (N.state net.new).taken result }
+    ensures failed { result.verdict ≡ Unlinked → HasRisen faults.net (N.state net.new).faults }
+    ensures unwritten { result.verdict ≡ Unwritten → HasRisen faults.out (O.fault_count out.new) }
+{
+    let Stage { hub, crew, ends } = stage;
+    let (hub, parting, workers) = play(rt, crew, hub, &input.names, gate, net, out);
+    let (coordinator, wires) = hub.into_end();
+    give_back(net, wires);
+    let (monitors, cause) = part(net, workers, ends);
+    let ends = Ends {
+        coordinator,
+        monitors,
+    };
+    let left = Left {
+        parting,
+        cause,
+        ends,
+    };
+    conclude(alloc, input, from, left, faults, net, out)
+}
+
+/// Runs an input live, in frames of a version: a worker for each monitor with its feeders, and the coordinator here, over
+/// the links of a net. It may wait, and what it promises holds if it returns.
+pub fn live_over<R: Threads + Wait + Sync, N: Net, G: Gate + Sync, O: Sink>(
+    rt: &R,
+    alloc: Global,
+    input: Input,
+    version: u8,
+    net: &mut N,
+    run: u64,
+    gate: &G,
+    out: &mut O,
+) -> Lived
+    requires agreed { AreAgreed input.names input.settings input.logs }
+    requires version { IsVersion version }
+    requires listens { (N.state net.old).listens ≡ false }
+    requires links { (N.state net.old).links ≡ 0 }
+    // Done tells a story that is sound, of this input, whose events it runs; its text is written, and its bytes came over
+    // the links. Any other verdict leaves the story or the ends, and a front of what is written of them.
+    ensures concludes { Concludes input version (O.written out.old) (O.written out.new) (N.state net.old).taken (N.state net.new).taken result }
+    // Each fault has its cause.
+    ensures failed { result.verdict ≡ Unlinked → HasRisen (N.state net.old).faults (N.state net.new).faults }
+    ensures unwritten { result.verdict ≡ Unwritten → HasRisen (O.fault_count out.old) (O.fault_count out.new) }
+{
+    let faults = Faults {
+        net: net.faults(),
+        out: out.faults(),
+    };
+    let Ok(from) = start_of(alloc, &input.logs) else {
+        return Lived::unstarted(Verdict::NoMemory);
+    };
+    let plan = Plan {
+        input: &input,
+        from: &from,
+        version,
+        run,
+    };
+    match make_stage(alloc, &plan, net) {
+        Ok(stage) => run_stage(
+            rt, alloc, input, from, version, stage, faults, gate, net, out,
+        ),
+        Err(NetFault::Failed) => Lived::unstarted(Verdict::of_link(faults.net, net.faults())),
+        Err(NetFault::NoMemory) => Lived::unstarted(Verdict::NoMemory),
+    }
+}

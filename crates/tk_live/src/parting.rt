@@ -1,0 +1,96 @@
+ghost use Rattle.std.specs.Prelude.{◌≡◌};
+ghost use Rattle.tk_live.specs.Parting.{and_failed_of, halts_of, is_done_of, of_fault, of_turn};
+
+use tk_hub::HubTurn;
+use tk_wire::NetFault;
+
+/// Why the caller's loop over its hub ended.
+#[derive(Clone, Copy, Debug, PartialEq, Eq)]
+pub enum Parting {
+    /// The final line is written, and all output is given.
+    Finished,
+    /// A worker ended before Stop.
+    Alarmed,
+    /// An admitted wire failed or ended too early.
+    Failed,
+    /// The next frame of a monitor is refused, or is none.
+    Refused,
+    /// A line was not written.
+    WriteFailed,
+    /// A call of the net failed.
+    NetFailed,
+    NoMemory,
+}
+
+impl Parting {
+    /// The loop's end after a turn, where it does not go on.
+    pub fn after(turn: HubTurn) -> Option<Parting>
+        ensures { result ≡ of_turn turn }
+    {
+        match turn {
+            HubTurn::Quiet => None,
+            HubTurn::More => None,
+            HubTurn::Finished => Some(Parting::Finished),
+            HubTurn::Failed => Some(Parting::Failed),
+            HubTurn::Refused(..) => Some(Parting::Refused),
+            HubTurn::Bad(..) => Some(Parting::Refused),
+            HubTurn::WriteFailed => Some(Parting::WriteFailed),
+            HubTurn::NoMemory => Some(Parting::NoMemory),
+        }
+    }
+
+    /// The loop's end after a fault of the net.
+    pub fn by(fault: NetFault) -> Parting
+        ensures { result ≡ of_fault fault }
+    {
+        match fault {
+            NetFault::Failed => Parting::NetFailed,
+            NetFault::NoMemory => Parting::NoMemory,
+        }
+    }
+
+    /// The same end where the net failed behind it. Only an alarm gives way to that.
+    pub fn and_failed(self) -> Parting
+        ensures { result ≡ and_failed_of self }
+    {
+        match self {
+            Parting::Alarmed => Parting::NetFailed,
+            Parting::Finished => self,
+            Parting::Failed => self,
+            Parting::Refused => self,
+            Parting::WriteFailed => self,
+            Parting::NetFailed => self,
+            Parting::NoMemory => self,
+        }
+    }
+
+    /// Whether the run is done.
+    pub fn is_done(self) -> bool
+        ensures { result ≡ is_done_of self }
+    {
+        match self {
+            Parting::Finished => true,
+            Parting::Alarmed => false,
+            Parting::Failed => false,
+            Parting::Refused => false,
+            Parting::WriteFailed => false,
+            Parting::NetFailed => false,
+            Parting::NoMemory => false,
+        }
+    }
+
+    /// Whether the hub is halted then: its wires are not shut yet, and the run is not done.
+    pub fn halts(self) -> bool
+        ensures { result ≡ halts_of self }
+    {
+        match self {
+            Parting::Finished => false,
+            Parting::WriteFailed => false,
+            Parting::Alarmed => true,
+            Parting::Failed => true,
+            Parting::Refused => true,
+            Parting::NetFailed => true,
+            Parting::NoMemory => true,
+        }
+    }
+}

@@ -1,0 +1,67 @@
+ghost use Rattle.std.specs.Prelude.{◌≡◌, ◌≤◌, ◌+◌, ◌-◌, ◌^◌, min, true, All, [], length, map, sum_by, vec_capacity};
+ghost use Rattle.tk_trail.specs.Readings.{is_stopped, taken_by};
+ghost use Rattle.tk_live.specs.Carried.{bytes_of};
+ghost use Rattle.tk_live.specs.Crew.{graver as graver_of, gravest};
+
+use crate::worked::Worked;
+use tk_serve::{Served, Why};
+use tk_story::MonEnd;
+use tk_wire::{Net, Wire};
+
+/// The graver of two causes.
+fn graver(cause: Why, next: Why) -> Why
+    ensures { result ≡ graver_of cause next }
+{
+    match cause {
+        Why::Odd => cause,
+        Why::NoMemory => cause,
+        Why::Stopped => next,
+        Why::Failed => match next {
+            Why::Stopped => cause,
+            Why::Failed => cause,
+            Why::Odd => next,
+            Why::NoMemory => next,
+        },
+    }
+}
+
+/// Gives links back to the net.
+pub fn give_back<N: Net>(net: &mut N, wires: Vec<N::Link>)
+    ensures { min ((N.state net.old).taken + sum_by (λ wire. (N.Link.counts wire).taken) wires.items) (2 ^ 64 - 1) ≤ (N.state net.new).taken }
+{
+    for wire in wires {
+        net.back(wire);
+    }
+}
+
+/// Gives the link and the rest of each worker back, and keeps its end. Answers the ends and the gravest cause.
+pub fn part<N: Net>(
+    net: &mut N,
+    workers: Vec<Worked<N::Link, N::Rest>>,
+    room: Vec<MonEnd>,
+) -> (Vec<MonEnd>, Why)
+    requires room { length workers.items ≤ vec_capacity room }
+    requires empty { room.items ≡ [] }
+    ensures ends { result.0.items ≡ map (λ w. w.served.end) workers.items }
+    ensures cause { result.1 ≡ gravest (map (λ w. w.served.why) workers.items) }
+    ensures stopped { result.1 ≡ Why.Stopped → All (λ w. is_stopped w.served.end.monitor.trail ≡ true) workers.items }
+    ensures taken { let heard = sum_by (λ w. bytes_of w.version (taken_by w.served.end.monitor.trail)) workers.items in
+        min ((N.state net.old).taken + heard) (2 ^ 64 - 1) ≤ (N.state net.new).taken }
+{
+    let mut ends = room;
+    let mut cause = Why::Stopped;
+    for worked in workers {
+        let Worked { served, .. } = worked;
+        let Served {
+            end,
+            link,
+            rest,
+            why,
+        } = served;
+        net.back(link);
+        net.back_rest(rest);
+        cause = graver(cause, why);
+        ends.push_reserved(end);
+    }
+    (ends, cause)
+}

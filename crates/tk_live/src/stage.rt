@@ -1,0 +1,182 @@
+ghost use Rattle.std.specs.Prelude.{◌≡◌, ◌+◌, ◌<◌, ◌≤◌, true, false, [], length, map, IfOk, vec_capacity};
+ghost use Rattle.tk_frames.specs.Spelling.{IsVersion};
+ghost use Rattle.tk_hub.specs.declared.course.Course.TheVariants.{Open};
+ghost use Rattle.tk_input.specs.Logs.{IsCut};
+ghost use Rattle.tk_journal.specs.Laws.{IsMonitor};
+ghost use Rattle.tk_journal.specs.Legal.{opened, start as begun_by};
+ghost use Rattle.tk_journal.specs.Publishing.{publications};
+ghost use Rattle.tk_journal.specs.Readings.{is_stopped};
+ghost use Rattle.tk_load.specs.Whole.{AreAgreed};
+ghost use Rattle.tk_live.specs.Crew.{made_in};
+ghost use Rattle.tk_live.specs.Hosting.{HasGone};
+ghost use Rattle.tk_live.specs.Made.{all_made, made_of};
+
+use crate::berths::Crew;
+use crate::worked::Berth;
+use std::alloc::Global;
+use tk_base::{Cut, Mon};
+use tk_coord::Coordinator;
+use tk_hub::Hub;
+use tk_load::Input;
+use tk_monitor::Monitor;
+use tk_port::Port;
+use tk_story::MonEnd;
+use tk_wire::{Net, NetFault, Rest, Wire};
+
+/// What a live run is over: an input from its beginnings, the version of its frames, and its number.
+#[derive(Clone, Copy)]
+pub struct Plan<'p> {
+    pub input: &'p Input,
+    pub from: &'p Cut,
+    pub version: u8,
+    pub run: u64,
+}
+
+/// All that is made before a worker is started: the hub, the ports, and the room for what the workers leave.
+#[derive(Drop)]
+pub struct Stage<W: Wire, Q: Rest, B> {
+    pub hub: Hub<W>,
+    pub crew: Crew<W, Q, B>,
+    pub ends: Vec<MonEnd>,
+}
+
+/// A port for a monitor, over a new link.
+fn make_berth<N: Net>(
+    alloc: Global,
+    plan: &Plan<'_>,
+    mon: Mon,
+    net: &mut N,
+) -> Result<Berth<N::Link, N::Rest, N::Bell>, NetFault>
+    requires agreed { AreAgreed plan.now.input.now.names plan.now.input.now.settings plan.now.input.now.logs }
+    requires cut { IsCut plan.now.input.now.logs.logs plan.now.from.now }
+    requires version { IsVersion plan.now.version }
+    requires monitor { IsMonitor plan.now.input.now.settings mon.0 }
+    requires listens { (N.state net.old).listens ≡ true }
+    requires links { (N.state net.old).links < 64 }
+    ensures made { IfOk result (λ b. made_in b.port.monitor b.version ≡ made_of plan.now.input.now plan.now.from.now plan.now.version mon.0) }
+    ensures links { IfOk result (λ b. (N.state net.new).links ≡ (N.state net.old).links + 1) }
+    ensures gone { HasGone (N.state net.old) (N.state net.new) }
+{
+    let Plan {
+        input,
+        from,
+        version,
+        run,
+    } = *plan;
+    let (link, rest, bell) = match net.connect() {
+        Ok(made) => made,
+        Err(fault) => return Err(fault),
+    };
+    let Ok(parts) = input.logs.parts(alloc, mon) else {
+        return Err(NetFault::NoMemory);
+    };
+    let places = from.at(mon.0 as usize - 1);
+    let Ok(monitor) = Monitor::new(alloc, &input.settings, mon, parts, places) else {
+        return Err(NetFault::NoMemory);
+    };
+    let Ok(port) = Port::new(alloc, link, monitor, run, version) else {
+        return Err(NetFault::NoMemory);
+    };
+    Ok(Berth {
+        port,
+        version,
+        rest,
+        bell,
+    })
+}
+
+/// A port for each monitor, ascending.
+fn make_berths<N: Net>(
+    alloc: Global,
+    plan: &Plan<'_>,
+    net: &mut N,
+) -> Result<Vec<Berth<N::Link, N::Rest, N::Bell>>, NetFault>
+    requires agreed { AreAgreed plan.now.input.now.names plan.now.input.now.settings plan.now.input.now.logs }
+    requires cut { IsCut plan.now.input.now.logs.logs plan.now.from.now }
+    requires version { IsVersion plan.now.version }
+    requires listens { (N.state net.old).listens ≡ true }
+    requires links { (N.state net.old).links ≡ 0 }
+    ensures made { IfOk result (λ all. map (λ b. made_in b.port.monitor b.version) all.items
+        ≡ all_made plan.now.input.now plan.now.from.now plan.now.version) }
+    ensures gone { HasGone (N.state net.old) (N.state net.new) }
+{
+    let mut berths = Vec::new(alloc);
+    for j in 0..plan.input.settings.monitors() {
+        let berth = match make_berth(alloc, plan, Mon(j + 1), net) {
+            Ok(berth) => berth,
+            Err(fault) => return Err(fault),
+        };
+        let Ok(()) = berths.push(berth) else {
+            return Err(NetFault::NoMemory);
+        };
+    }
+    Ok(berths)
+}
+
+/// A hub for the settings of an input.
+fn make_hub<W: Wire + Drop>(alloc: Global, plan: &Plan<'_>) -> Result<Hub<W>, NetFault>
+    ensures settings { IfOk result (λ hub. hub.coordinator.settings ≡ plan.now.input.now.settings) }
+    ensures begins { IfOk result (λ hub. hub.coordinator.journal ≡ opened (begun_by plan.now.input.now.settings)) }
+    ensures course { IfOk result (λ hub. hub.course ≡ Open) }
+    ensures unwritten { IfOk result (λ hub. publications hub.coordinator.journal ≡ []) }
+    ensures unstopped { IfOk result (λ hub. is_stopped hub.coordinator.journal ≡ false) }
+{
+    let Ok(coordinator) = Coordinator::new(alloc, plan.input.settings) else {
+        return Err(NetFault::NoMemory);
+    };
+    match Hub::new(alloc, coordinator, plan.run) {
+        Ok(hub) => Ok(hub),
+        Err(_) => Err(NetFault::NoMemory),
+    }
+}
+
+/// Opens the net, connects a link for each monitor, and takes the room for what the workers leave.
+pub fn make_stage<N: Net>(
+    alloc: Global,
+    plan: &Plan<'_>,
+    net: &mut N,
+) -> Result<Stage<N::Link, N::Rest, N::Bell>, NetFault>
+    requires agreed { AreAgreed plan.now.input.now.names plan.now.input.now.settings plan.now.input.now.logs }
+    requires cut { IsCut plan.now.input.now.logs.logs plan.now.from.now }
+    requires version { IsVersion plan.now.version }
+    requires listens { (N.state net.old).listens ≡ false }
+    requires links { (N.state net.old).links ≡ 0 }
+    ensures settings { IfOk result (λ s. s.hub.coordinator.settings ≡ plan.now.input.now.settings) }
+    ensures begins { IfOk result (λ s. s.hub.coordinator.journal ≡ opened (begun_by plan.now.input.now.settings)) }
+    ensures course { IfOk result (λ s. s.hub.course ≡ Open) }
+    ensures unwritten { IfOk result (λ s. publications s.hub.coordinator.journal ≡ []) }
+    ensures unstopped { IfOk result (λ s. is_stopped s.hub.coordinator.journal ≡ false) }
+    ensures made { IfOk result (λ s. map (λ b. made_in b.port.monitor b.version) s.crew.berths.items
+        ≡ all_made plan.now.input.now plan.now.from.now plan.now.version) }
+    ensures empty { IfOk result (λ s. s.ends.items ≡ []) }
+    ensures ends { IfOk result (λ s. length s.crew.berths.items ≤ vec_capacity s.ends) }
+    ensures gone { HasGone (N.state net.old) (N.state net.new) }
+    ensures open { IfOk result (λ s. (N.state net.new).listens ≡ true) }
+{
+    if let Err(fault) = net.listen() {
+        return Err(fault);
+    }
+    let berths = match make_berths(alloc, plan, net) {
+        Ok(berths) => berths,
+        Err(fault) => return Err(fault),
+    };
+    let hub = match make_hub(alloc, plan) {
+        Ok(hub) => hub,
+        Err(fault) => return Err(fault),
+    };
+    let Ok(slots) = Vec::with_capacity(alloc, berths.len()) else {
+        return Err(NetFault::NoMemory);
+    };
+    let Ok(workers) = Vec::with_capacity(alloc, berths.len()) else {
+        return Err(NetFault::NoMemory);
+    };
+    let Ok(ends) = Vec::with_capacity(alloc, berths.len()) else {
+        return Err(NetFault::NoMemory);
+    };
+    let crew = Crew {
+        berths,
+        slots,
+        workers,
+    };
+    Ok(Stage { hub, crew, ends })
+}
