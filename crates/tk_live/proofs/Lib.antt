@@ -3,5 +3,6 @@ mod CauseLemmas
 mod CompleteLemmas
 mod HostLemmas
 mod LineLemmas
+mod ServingLemmas
 mod StageLemmas
 mod TellLemmas

@@ -10,4 +10,5 @@ pub mod Lived
 pub mod Made
 pub mod Odd
 pub mod Parting
+pub mod Serving
 pub mod Slots

@@ -13,12 +13,16 @@ mod hosting;
 mod joining;
 mod left;
 mod living;
+mod outcome;
 mod parting;
 mod playing;
 mod returning;
+mod serving;
 mod stage;
 mod verdict;
 mod worked;
 
 pub use living::live_over;
+pub use outcome::Outcome;
+pub use serving::live;
 pub use verdict::{Lived, Verdict};

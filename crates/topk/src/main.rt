@@ -4,27 +4,72 @@
 //! It makes the true files and the output, and calls the library of runs, which promises the rest.
 #![tactic(auto)]
 
-use std::env;
-use std::io::Write;
+use std::alloc::AllocGlobal;
+use std::io::{Print, Write};
 use std::process::ExitCode;
+use std::random::RandomSource;
+use std::sync::Wait;
+use std::thread::Threads;
+use std::{env, rt};
+use tk_base::NoMemory;
 use tk_input::{StdSink, TrueFiles};
+use tk_live::live;
+use tk_net::LoopNet;
 use tk_run::{Status, fault_line, run};
+use tk_serve::OpenGate;
 
-/// Runs the words on the real files and the standard output, and answers the status.
-fn run_words(rt: &HostRuntime) -> Status {
+/// A number for a live run, another one for each: bytes that the system draws.
+fn run_number(rt: &impl RandomSource) -> u64 {
+    let mut bytes = [0; 8];
+    // Where it draws none the number is 0, which only serves worse to tell this run's connections from others'.
+    let _ = rt.fill_bytes(&mut bytes);
+    u64::from_ne_bytes(bytes)
+}
+
+/// Runs the words live, over sockets of this machine.
+fn run_live<R: AllocGlobal + RandomSource + Print + rt::Files + rt::Net + Threads + Wait + Sync>(
+    rt: &R,
+    words: &[String],
+) -> Status {
     let alloc = rt.alloc();
-    let Ok(args) = env::args(rt) else {
+    let Ok(mut net) = LoopNet::new(alloc, rt) else {
         return Status::NoMemory;
     };
-    let mut words = Vec::new(alloc);
-    for word in args.skip(1) {
-        if words.push(word).is_err() {
-            return Status::NoMemory;
-        }
-    }
     let mut files = TrueFiles::new(alloc, rt);
     let mut out = StdSink::new(rt);
-    run(alloc, words.as_slice(), &mut files, &mut out).into_status()
+    let run = run_number(rt);
+    live(
+        rt, alloc, words, &mut files, &mut net, run, &OpenGate, &mut out,
+    )
+    .into_status()
+}
+
+/// Whether the words are those of a live run.
+fn are_live(words: &[String]) -> bool {
+    match words {
+        [] => false,
+        [word, ..] => word.as_str() == "live",
+    }
+}
+
+/// The words of the command line, without the program's name.
+fn words_of(rt: &HostRuntime) -> Result<Vec<String>, NoMemory> {
+    let mut words = Vec::new(rt.alloc());
+    let Ok(args) = env::args(rt) else {
+        return Err(NoMemory);
+    };
+    for word in args.skip(1) {
+        words.push(word)?;
+    }
+    Ok(words)
+}
+
+/// Runs the words on the real files and the standard output, and answers the status.
+fn run_words(rt: &HostRuntime, words: &[String]) -> Status {
+    let alloc = rt.alloc();
+    let mut files = TrueFiles::new(alloc, rt);
+    let mut out = StdSink::new(rt);
+    run(alloc, words, &mut files, &mut out).into_status()
 }
 
 /// Writes the fault of a status to standard error. Where that fails, the number alone tells it.
@@ -39,7 +84,11 @@ fn tell(rt: &HostRuntime, status: &Status) {
 }
 
 fn main(rt: HostRuntime) -> ExitCode {
-    let status = run_words(&rt);
+    let status = match words_of(&rt) {
+        Ok(words) if are_live(words.as_slice()) => run_live(&rt, words.as_slice()),
+        Ok(words) => run_words(&rt, words.as_slice()),
+        Err(NoMemory) => Status::NoMemory,
+    };
     tell(&rt, &status);
     ExitCode::from(status.number())
 }

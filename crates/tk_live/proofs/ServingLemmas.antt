@@ -1,0 +1,33 @@
+-- How the words of a live run end, from what reading them and their files gave.
+use Rattle.std.proofs.Common.{◌≡◌, ◌∙◌, ℕ, List, Option, Some, None, Err, Ok, refl, sym, ap, subst}
+use Rattle.tk_words.specs.Asked.{asked_by}
+use Rattle.tk_words.specs.Words.{Asked, LiveWords, words_of}
+use Rattle.tk_words.specs.declared.command.Command.{Command}
+use Rattle.tk_load.specs.Reads.{Loads}
+use Rattle.tk_load.specs.declared.input.Input.{Input}
+use Rattle.tk_load.specs.declared.status.Status.{Status}
+use Rattle.tk_live.specs.Lived.{Concludes}
+use Rattle.tk_live.specs.Serving.{EndsWords, HasRun, served, status_of}
+use Rattle.tk_live.specs.Serving.EndsWords.{Ran, Unread}
+use Rattle.tk_live.specs.declared.outcome.Outcome.{Outcome}
+use Rattle.tk_live.specs.declared.verdict.Lived.{Lived}
+
+-- what is served of words that were read as a command
+pub here : (asked : Option Asked) (read command : Command) → asked ≡ Some (asked_by read) → read ≡ command → served asked ≡ served (Some (asked_by command))
+here asked read command found is = ap served found ∙ ap (λ (c : Command). served (Some (asked_by c))) is
+
+-- an input that has run
+pub ran : {words : List (List ℕ)} {told : List ℕ → Option (List ℕ)} {old new : List ℕ → ℕ} {before after : Option (List ℕ)} {taken taken_then : ℕ} (asked : LiveWords) (input : Input) (lived : Lived) (outcome : Outcome)
+    → served (words_of words) ≡ Some asked → Loads told old new asked.input (Ok input) → Concludes input asked.frames before after taken taken_then lived
+    → outcome ≡ record { status = status_of lived.verdict; story = lived.story; ends = lived.ends } → EndsWords words told old new before after taken taken_then outcome
+ran {words} {told} {old} {new} {before} {after} {taken} {taken_then} asked input lived outcome is loads concludes made =
+    let run : HasRun input asked.frames before after taken taken_then (record { status = status_of lived.verdict; story = lived.story; ends = lived.ends }) =
+    record { verdict = lived.verdict; told = refl; concludes = concludes } in
+    subst (EndsWords words told old new before after taken taken_then) (sym made) (Ran asked input is loads run)
+
+-- files that give no input
+pub unread : {words : List (List ℕ)} {told : List ℕ → Option (List ℕ)} {old new : List ℕ → ℕ} {before : Option (List ℕ)} {taken : ℕ} (asked : LiveWords) (status : Status) (outcome : Outcome)
+    → served (words_of words) ≡ Some asked → Loads told old new asked.input (Err status)
+    → outcome ≡ record { status = status; story = None; ends = None } → EndsWords words told old new before before taken taken outcome
+unread {words} {told} {old} {new} {before} {taken} asked status outcome is loads made =
+    subst (EndsWords words told old new before before taken taken) (sym made) (Unread asked is loads (record { story = refl; ends = refl; unwritten = refl }))

@@ -1,0 +1,47 @@
+-- How the words of a live run end.
+use Rattle.std.specs.Prelude.{ℕ, ◌≡◌, List, Option, Some, None, Ok, Err}
+use Rattle.tk_words.specs.Words.{Asked, LiveWords, words_of}
+use Rattle.tk_words.specs.Words.Asked.{Generates, Lives, Replays}
+use Rattle.tk_load.specs.Reads.{Loads}
+use Rattle.tk_load.specs.declared.input.Input.{Input}
+use Rattle.tk_load.specs.declared.status.Status.{Status}
+use Rattle.tk_load.specs.declared.status.Status.TheVariants as s
+use Rattle.tk_live.specs.Lived.{Concludes}
+use Rattle.tk_live.specs.declared.outcome.Outcome.{Outcome}
+use Rattle.tk_live.specs.declared.verdict.Verdict.{Verdict}
+use Rattle.tk_live.specs.declared.verdict.Verdict.TheVariants as v
+
+-- what words ask of `live`, which serves live runs alone
+abbrev pub served : Option Asked → Option LiveWords
+served None = None
+served (Some (Replays words)) = None
+served (Some (Generates words)) = None
+served (Some (Lives words)) = Some words
+
+-- the status of a verdict
+abbrev pub status_of : Verdict → Status
+status_of v.Done = s.Done
+status_of v.WriteFault = s.WriteFault
+status_of v.LinkFault = s.LinkFault
+status_of (v.LinkDiffers mon direction place sent received) = s.LinkDiffers mon direction place sent received
+status_of v.NoMemory = s.NoMemory
+
+-- no worker was started, and nothing was written
+pub record IsUnstarted (before after : Option (List ℕ)) (outcome : Outcome) : Type 0 where
+  pub story : outcome.story ≡ None
+  pub ends : outcome.ends ≡ None
+  pub unwritten : after ≡ before
+
+-- the input of the words has run, and the status tells its verdict
+pub record HasRun (input : Input) (version : ℕ) (before after : Option (List ℕ)) (taken taken_then : ℕ) (outcome : Outcome) : Type 0 where
+  pub verdict : Verdict
+  pub told : outcome.status ≡ status_of verdict
+  pub concludes : Concludes input version before after taken taken_then (record { verdict = verdict; story = outcome.story; ends = outcome.ends })
+
+-- how words end: they are not those of a live run; there was no memory for them; their files give no input, by the first
+-- rule that fails; or their input has run
+pub data EndsWords (words : List (List ℕ)) (told : List ℕ → Option (List ℕ)) (old new : List ℕ → ℕ) (before after : Option (List ℕ)) (taken taken_then : ℕ) (outcome : Outcome) : Type 0 where
+  Refused : served (words_of words) ≡ None → outcome.status ≡ s.Usage → IsUnstarted before after outcome → EndsWords words told old new before after taken taken_then outcome
+  Unmet : outcome.status ≡ s.NoMemory → IsUnstarted before after outcome → EndsWords words told old new before after taken taken_then outcome
+  Unread : (asked : LiveWords) → served (words_of words) ≡ Some asked → Loads told old new asked.input (Err outcome.status) → IsUnstarted before after outcome → EndsWords words told old new before after taken taken_then outcome
+  Ran : (asked : LiveWords) (input : Input) → served (words_of words) ≡ Some asked → Loads told old new asked.input (Ok input) → HasRun input asked.frames before after taken taken_then outcome → EndsWords words told old new before after taken taken_then outcome

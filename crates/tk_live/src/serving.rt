@@ -1,0 +1,51 @@
+ghost use Rattle.std.specs.Prelude.{◌≡◌, false, map, string_bytes};
+ghost use Rattle.tk_input.specs.Files.{HasRisen};
+ghost use Rattle.tk_live.specs.Serving.{EndsWords};
+ghost use Rattle.tk_load.specs.declared.status.Status.TheVariants.{LinkFault as Unlinked, WriteFault as Unwritten};
+
+use crate::living::live_over;
+use crate::outcome::Outcome;
+use std::alloc::Global;
+use std::marker::Sync;
+use std::sync::Wait;
+use std::thread::Threads;
+use tk_input::{Files, Sink};
+use tk_load::{Status, load};
+use tk_serve::Gate;
+use tk_wire::Net;
+use tk_words::{Command, WordsFault, read};
+
+/// Serves `live`, over a net that has not listened yet. The words come without the program's name. It may wait, and what it
+/// promises holds if it returns.
+pub fn live<R: Threads + Wait + Sync, F: Files, N: Net, G: Gate + Sync, O: Sink>(
+    rt: &R,
+    alloc: Global,
+    words: &[String],
+    files: &mut F,
+    net: &mut N,
+    run: u64,
+    gate: &G,
+    out: &mut O,
+) -> Outcome
+    requires listens { (N.state net.old).listens ≡ false }
+    requires links { (N.state net.old).links ≡ 0 }
+    // The words are refused, they give no input, or their input has run: all of the headline holds of what is done.
+    ensures ends { EndsWords (map string_bytes words.now)
+        (F.content files.old) (F.fault_count files.old) (F.fault_count files.new)
+        (O.written out.old) (O.written out.new) (N.state net.old).taken (N.state net.new).taken result }
+    // Each fault has its cause.
+    ensures failed { result.status ≡ Unlinked → HasRisen (N.state net.old).faults (N.state net.new).faults }
+    ensures unwritten { result.status ≡ Unwritten → HasRisen (O.fault_count out.old) (O.fault_count out.new) }
+{
+    let words = match read(alloc, words) {
+        Ok(Command::Live(words)) => words,
+        Ok(Command::Replay(_)) => return Outcome::unstarted(Status::Usage),
+        Ok(Command::Generate(_)) => return Outcome::unstarted(Status::Usage),
+        Err(WordsFault::Usage) => return Outcome::unstarted(Status::Usage),
+        Err(WordsFault::NoMemory) => return Outcome::unstarted(Status::NoMemory),
+    };
+    match load(alloc, &words.input, files) {
+        Ok(input) => Outcome::of(live_over(rt, alloc, input, words.frames, net, run, gate, out)),
+        Err(status) => Outcome::unstarted(status),
+    }
+}
