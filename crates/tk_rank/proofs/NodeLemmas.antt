@@ -1,10 +1,10 @@
 -- The nodes of a tree: parts, what stands at a node, and what a write leaves.
-use Rattle.std.proofs.Common.{◌≡◌, ◌≢◌, ℕ, suc, zero, ◌+◌, ◌-◌, ◌*◌, ◌/◌, ◌^◌, ◌<◌, ◌≤◌, ℤ, List, length, set, drop, Option, None, refl, sym, ap, ap₂, ◌∙◌, subst, arith, inl, inr, get_or-set_other, get_or-set_same, length-set}
+use Rattle.std.proofs.Common.{◌≡◌, ◌≢◌, ℕ, suc, zero, ◌+◌, ◌-◌, ◌*◌, ◌/◌, ◌^◌, ◌<◌, ◌≤◌, ℤ, List, length, set, drop, Option, None, refl, sym, ap, ap₂, ◌∙◌, subst, arith, inl, inr, get_or, get_or-set_other, get_or-set_same, length-set}
 use Rattle.std.specs.Int.{IsPowerOfTwo}
 use Rattle.std.specs.List.{range_with_len}
 use Rattle.std.proofs.Math.Nat.{pow-succ', mul-le-mul_left}
 use Rattle.std.proofs.lemmas.Bool.{cases_eq}
-use Rattle.std.proofs.lemmas.List.{get_or-drop, drop-set-lt, drop-set-add}
+use Rattle.std.proofs.lemmas.List.{get_or-drop, get_or_read, drop-set-lt, drop-set-add}
 use Rattle.tk_border.specs.Levels.{greatest_of}
 use Rattle.tk_border.proofs.RisingLemmas.{range-append}
 use Rattle.tk_rank.specs.Tree.{greater, node_at, width_of, leaves_of, IsMended, IsTree, IsPart, leaf_at, standing}
@@ -16,6 +16,10 @@ power_doubles : (h : ℕ) → 2 ^ suc h ≡ 2 ^ h + 2 ^ h
 power_doubles h = pow-succ' 2 h ∙ omega arith
 
 -- more than one leaf is twice a power of two
+-- what is read at a node
+pub read_node : (nodes : List (Option ℤ)) (i : ℕ) (x : Option ℤ) → i < length nodes → x ≡ get_or nodes i x → x ≡ node_at nodes i
+read_node nodes i x within is = get_or_read nodes i x within is None
+
 pub split_power : (w : ℕ) → IsPowerOfTwo w → w ≢ 1 → (p : ℕ) × IsPowerOfTwo p × (w ≡ p + p)
 split_power w (zero, e) more = absurd (more e)
 split_power w (suc h, e) more = (2 ^ h, (h, refl), e ∙ power_doubles h)
@@ -29,6 +33,11 @@ node_low n w node first p =
     let some = power_positive w p.power in
     let low = mul-le-mul_left {m = 1} {n = w} node some in
     omega (arith, p.place, p.within, low)
+
+-- what is read at the node of a part
+pub read_part : (nodes : List (Option ℤ)) (w node first : ℕ) (x : Option ℤ) → IsTree nodes → IsPart (width_of nodes) w node first → x ≡ get_or nodes node x → x ≡ node_at nodes node
+read_part nodes w node first x tree part is =
+    read_node nodes node x (omega (arith, node_low (width_of nodes) w node first part, power_positive w part.power, tree.even)) is
 
 pub node_positive : (n w node first : ℕ) → 0 < n → IsPart n w node first → 0 < node
 node_positive n w zero first some p = absurd (omega (arith, p.place))

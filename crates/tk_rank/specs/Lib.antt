@@ -1,3 +1,4 @@
+pub mod Node
 pub mod Ranked
 pub mod Sides
 pub mod Tree

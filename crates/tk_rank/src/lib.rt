@@ -5,6 +5,7 @@
 //! Only `new` and `above` take memory.
 #![tactic(auto)]
 
+mod node;
 mod nodes;
 mod rank;
 mod sides;

@@ -4,8 +4,9 @@ ghost use Rattle.std.specs.List.{range_with_len};
 ghost use Rattle.tk_base.specs.Ascending.{numbers_of};
 ghost use Rattle.tk_base.specs.Objects.{is_in};
 ghost use Rattle.tk_border.specs.Levels.{greatest_of, IsPassed};
-ghost use Rattle.tk_rank.specs.Tree.{greater as greater_of, is_over as is_over_of, leaf_at, leaves_of, standing, width_of, IsPart, IsTree};
+ghost use Rattle.tk_rank.specs.Tree.{is_over as is_over_of, leaf_at, leaves_of, standing, width_of, IsPart, IsTree};
 
+use crate::node::Node;
 use tk_base::{NoMemory, Obj, ObjSet};
 
 /// A part of a tree: a node, how many leaves are under it, and the object of the first of these.
@@ -17,7 +18,7 @@ pub(crate) struct Part {
 }
 
 impl Part {
-    pub fn whole(nodes: &[Option<i128>]) -> Part
+    pub fn whole(nodes: &[Node]) -> Part
         requires { IsTree nodes.now }
         ensures part { IsPart (width_of nodes.now) result.width result.node result.first }
         ensures width { result.width ≡ width_of nodes.now }
@@ -31,7 +32,7 @@ impl Part {
     }
 }
 
-fn left(nodes: &[Option<i128>], part: Part) -> Part
+fn left(nodes: &[Node], part: Part) -> Part
     requires tree { IsTree nodes.now }
     requires part { IsPart (width_of nodes.now) part.width part.node part.first }
     requires inner { part.width ≢ 1 }
@@ -48,7 +49,7 @@ fn left(nodes: &[Option<i128>], part: Part) -> Part
     }
 }
 
-fn right(nodes: &[Option<i128>], part: Part) -> Part
+fn right(nodes: &[Node], part: Part) -> Part
     requires tree { IsTree nodes.now }
     requires part { IsPart (width_of nodes.now) part.width part.node part.first }
     requires inner { part.width ≢ 1 }
@@ -66,27 +67,8 @@ fn right(nodes: &[Option<i128>], part: Part) -> Part
     }
 }
 
-fn greater(a: Option<i128>, b: Option<i128>) -> Option<i128>
-    ensures { result ≡ greater_of a b }
-{
-    match (a, b) {
-        (None, _) => b,
-        (_, None) => a,
-        (Some(x), Some(y)) => Some(x.max(y)),
-    }
-}
-
-fn is_over(level: i128, number: Option<i128>) -> bool
-    ensures { result ≡ is_over_of level number }
-{
-    match number {
-        None => false,
-        Some(number) => level < number,
-    }
-}
-
 /// Gives a leaf another number and mends the nodes above it, as far as they change.
-pub(crate) fn put(nodes: &mut [Option<i128>], place: usize, leaf: Option<i128>)
+pub(crate) fn put(nodes: &mut [Node], place: usize, leaf: Node)
     requires tree { IsTree nodes.old }
     requires above { width_of nodes.old ≤ place }
     requires within { place < length nodes.old }
@@ -97,8 +79,8 @@ pub(crate) fn put(nodes: &mut [Option<i128>], place: usize, leaf: Option<i128>)
     let mut child = place;
     while child > 1 {
         child /= 2;
-        let mended = greater(nodes[2 * child], nodes[2 * child + 1]);
-        if nodes[child] == mended {
+        let mended = nodes[2 * child].greater(nodes[2 * child + 1]);
+        if nodes[child].is_same(mended) {
             return;
         }
         nodes[child] = mended;
@@ -107,7 +89,7 @@ pub(crate) fn put(nodes: &mut [Option<i128>], place: usize, leaf: Option<i128>)
 
 /// Adds the objects of a part whose numbers are above the level, and enters only parts that have one.
 pub(crate) fn collect(
-    nodes: &[Option<i128>],
+    nodes: &[Node],
     level: i128,
     part: Part,
     found: &mut Vec<Obj>,
@@ -116,7 +98,7 @@ pub(crate) fn collect(
     requires part { IsPart (width_of nodes.now) part.width part.node part.first }
     ensures { IfOk result (λ _. numbers_of found.new.items ≡ numbers_of found.old.items ++ filter (λ o. is_over_of level (leaf_at (leaves_of nodes.now) o)) (range_with_len part.first part.width)) }
 {
-    if !is_over(level, nodes[part.node]) {
+    if !nodes[part.node].is_over(level) {
         return Ok(());
     }
     if part.width == 1 {
@@ -129,12 +111,7 @@ pub(crate) fn collect(
 }
 
 /// The greatest number of a part outside a set, and the place that a walk along the set has reached behind it.
-pub(crate) fn outside(
-    nodes: &[Option<i128>],
-    set: &ObjSet,
-    part: Part,
-    place: usize,
-) -> (Option<i128>, usize)
+pub(crate) fn outside(nodes: &[Node], set: &ObjSet, part: Part, place: usize) -> (Node, usize)
     requires tree { IsTree nodes.now }
     requires part { IsPart (width_of nodes.now) part.width part.node part.first }
     requires passed { IsPassed set.now place part.first }
@@ -145,11 +122,11 @@ pub(crate) fn outside(
         return (nodes[part.node], place);
     }
     if part.width == 1 {
-        return (None, place + 1);
+        return (Node::none(), place + 1);
     }
     let (left_number, middle) = outside(nodes, set, left(nodes, part), place);
     let (right_number, end) = outside(nodes, set, right(nodes, part), middle);
-    (greater(left_number, right_number), end)
+    (left_number.greater(right_number), end)
 }
 
 /// Whether the next object of the set is in the part.

@@ -6,12 +6,14 @@ ghost use Rattle.tk_border.specs.Levels.{holds, AreMembers, AreObjects, AreSmall
 ghost use Rattle.tk_rank.specs.Sides.{AreSides};
 ghost use Rattle.tk_rank.specs.Tree.{leaf_at};
 
+use crate::node::Node;
 use crate::tree::Tree;
 use tk_base::{Obj, ObjSet};
 
 /// Makes every object an outsider.
 pub(crate) fn seat(levels: &[i128], members: &Tree, outsiders: &mut Tree)
     requires objects { AreObjects levels.now }
+    requires sizes { AreSmall levels.now }
     requires member_room { length levels.now ≤ length members.now }
     requires outsider_room { length levels.now ≤ length outsiders.old }
     requires no_member { (o : ℕ) → leaf_at members.now o ≡ None }
@@ -20,7 +22,7 @@ pub(crate) fn seat(levels: &[i128], members: &Tree, outsiders: &mut Tree)
 {
     let _ = members;
     for i in 0..levels.len() {
-        outsiders.set(Obj(i as u32 + 1), Some(levels[i]));
+        outsiders.set(Obj(i as u32 + 1), Node::of(levels[i]));
     }
 }
 
@@ -35,11 +37,11 @@ fn place(levels: &[i128], o: Obj, is_member: bool, members: &mut Tree, outsiders
 {
     let level = levels[(o.0 - 1) as usize];
     if is_member {
-        members.set(o, Some(-level));
-        outsiders.set(o, None);
+        members.set(o, Node::of(-level));
+        outsiders.set(o, Node::none());
     } else {
-        members.set(o, None);
-        outsiders.set(o, Some(level));
+        members.set(o, Node::none());
+        outsiders.set(o, Node::of(level));
     }
 }
 
@@ -52,9 +54,9 @@ pub(crate) fn relevel(o: Obj, level: i128, members: &mut Tree, outsiders: &mut T
     ensures { (levels : List ℤ) (p : ℕ → Bool) → o.0 ≤ length levels → AreSides levels p members.old outsiders.old → AreSides (slice_set levels (o.0 - 1) level) p members.new outsiders.new }
 {
     if members.leaf(o).is_some() {
-        members.set(o, Some(-level));
+        members.set(o, Node::of(-level));
     } else {
-        outsiders.set(o, Some(level));
+        outsiders.set(o, Node::of(level));
     }
 }
 

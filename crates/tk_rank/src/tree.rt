@@ -5,6 +5,7 @@ ghost use Rattle.tk_base.specs.Objects.{objects, is_in};
 ghost use Rattle.tk_border.specs.Levels.{outside as outside_of, greatest_of};
 ghost use Rattle.tk_rank.specs.Tree.{leaf_at, standing, is_over};
 
+use crate::node::Node;
 use crate::nodes::{Part, collect, outside, put};
 use std::alloc::Global;
 use std::marker::Model;
@@ -13,7 +14,7 @@ use tk_base::{NoMemory, Obj, ObjSet};
 /// The greatest of the numbers that some objects have, in a full binary tree.
 #[derive(Debug, Drop)]
 pub(crate) struct Tree {
-    nodes: Vec<Option<i128>>,
+    nodes: Vec<Node>,
 }
 
 // Clauses see the leaves, by object from 1.
@@ -36,7 +37,7 @@ impl Tree {
         ensures empty { IfOk result (λ t. (o : ℕ) → leaf_at t o ≡ None) }
     {
         let width = objects.next_power_of_two();
-        let nodes = vec![in alloc; None; 2 * width]?;
+        let nodes = vec![in alloc; Node::none(); 2 * width]?;
         Ok(Tree { nodes })
     }
 
@@ -46,11 +47,11 @@ impl Tree {
         requires within { o.0 ≤ length self.now }
         ensures { result ≡ leaf_at self.now o.0 }
     {
-        self.nodes[self.nodes.len() / 2 + (o.0 as usize - 1)]
+        self.nodes[self.nodes.len() / 2 + (o.0 as usize - 1)].get()
     }
 
     /// Gives an object another number, or none.
-    pub fn set(&mut self, o: Obj, leaf: Option<i128>)
+    pub fn set(&mut self, o: Obj, leaf: Node)
         requires from_one { 0 < o.0 }
         requires within { o.0 ≤ length self.old }
         ensures { self.new ≡ slice_set self.old (o.0 - 1) leaf }
@@ -63,7 +64,7 @@ impl Tree {
     pub fn greatest(&self) -> Option<i128>
         ensures { result ≡ greatest_of (standing self.now (objects (length self.now))) }
     {
-        self.nodes[1]
+        self.nodes[1].get()
     }
 
     /// The objects whose number is above a level, in the time of what is found times a logarithm.
@@ -83,6 +84,6 @@ impl Tree {
         // The length is read for its clause, that the set ascends.
         let _ = set.len();
         let nodes = self.nodes.as_slice();
-        outside(nodes, set, Part::whole(nodes), 0).0
+        outside(nodes, set, Part::whole(nodes), 0).0.get()
     }
 }

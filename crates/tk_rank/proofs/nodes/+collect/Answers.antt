@@ -1,4 +1,4 @@
-use Rattle.std.proofs.Common.{ℕ, ℤ, ◌++◌, List, ◌∙◌, sym, ap, filter}
+use Rattle.std.proofs.Common.{ℕ, ℤ, ◌++◌, List, ◌∙◌, sym, ap, filter, to_z, of_z}
 use Rattle.std.specs.Int.{w128}
 use Rattle.std.specs.List.{range_with_len}
 use Rattle.std.proofs.lemmas.Int.{to_z-of_z}
@@ -6,6 +6,7 @@ use Rattle.std.proofs.lemmas.List.{append-nil, map_push}
 use Rattle.tk_base.specs.Ascending.{numbers_of}
 use Rattle.tk_base.specs.declared.ids.Obj.{Obj}
 use Rattle.tk_rank.specs.Tree.{is_over, leaf_at, leaves_of, node_at}
+use Rattle.tk_rank.proofs.NodeLemmas.{read_part}
 use Rattle.tk_rank.proofs.PartLemmas.{none_over, one_over, split_range, halves_found}
 use Rattle.tk_rank.proofs.nodes.+collect.Goals as goal
 
@@ -14,7 +15,8 @@ returns-then-not-is_over t c =
     let part = c.args.part in
     let nodes = c.args.nodes.now in
     let same = to_z-of_z w128 c.args.level c.ranges.level in
-    let low = ap (λ l. is_over l (node_at nodes part.node)) (sym same) ∙ sym c.is_over.ensures ∙ c.if-not-is_over.true in
+    let here = read_part nodes part.width part.node part.first c.index-nodes-part.result c.requires.tree c.requires.part c.index-nodes-part.is in
+    let low = ap (λ l. is_over l (node_at nodes part.node)) (sym same) ∙ ap (is_over (to_z w128 (of_z w128 c.args.level))) (sym here) ∙ sym c.is_over.ensures ∙ c.if-not-is_over.true in
     let none = none_over c.args.level part.width part.node part.first nodes c.requires.tree c.requires.part low in
     sym (ap (λ list. numbers_of c.args.found.now.items ++ list) none ∙ append-nil (numbers_of c.args.found.now.items))
 
@@ -23,7 +25,8 @@ returns-then-part-eq1 t c =
     let part = c.args.part in
     let nodes = c.args.nodes.now in
     let same = to_z-of_z w128 c.args.level c.ranges.level in
-    let high = ap (λ l. is_over l (node_at nodes part.node)) (sym same) ∙ sym c.is_over.ensures ∙ c.if-not-is_over.false in
+    let here = read_part nodes part.width part.node part.first c.index-nodes-part.result c.requires.tree c.requires.part c.index-nodes-part.is in
+    let high = ap (λ l. is_over l (node_at nodes part.node)) (sym same) ∙ ap (is_over (to_z w128 (of_z w128 c.args.level))) (sym here) ∙ sym c.is_over.ensures ∙ c.if-not-is_over.false in
     let one = one_over c.args.level part.width part.node part.first nodes c.requires.tree c.requires.part c.if-part-eq1.true high in
     ap numbers_of c.in_ok-push.ensures.items
     ∙ map_push (λ (o : Obj). o.0) c.args.found.now.items (record { 0 = part.first })

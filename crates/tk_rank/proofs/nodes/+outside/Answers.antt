@@ -2,18 +2,21 @@ use Rattle.std.proofs.Common.{not, ◌∙◌, ap₂}
 use Rattle.std.specs.List.{range_with_len}
 use Rattle.tk_base.specs.Objects.{is_in}
 use Rattle.tk_rank.specs.Tree.{greater, leaves_of}
+use Rattle.tk_rank.proofs.NodeLemmas.{read_part}
 use Rattle.tk_rank.proofs.PartLemmas.{whole_outside, leaf_inside, split_range, halves_outside}
 use Rattle.tk_rank.proofs.nodes.+outside.Goals as goal
 
 pub returns-then-not-is_reached-clause-number : goal.returns-then-not-is_reached-clause-number
 returns-then-not-is_reached-clause-number t c =
     let part = c.args.part in
-    whole_outside c.args.set.now c.args.place part.width part.node part.first c.args.nodes.now c.requires.tree c.requires.part c.requires.passed (c.is_reached.ensures.missed c.if-not-is_reached.true)
+    read_part c.args.nodes.now part.width part.node part.first c.index-nodes-part.result c.requires.tree c.requires.part c.index-nodes-part.is
+    ∙ whole_outside c.args.set.now c.args.place part.width part.node part.first c.args.nodes.now c.requires.tree c.requires.part c.requires.passed (c.is_reached.ensures.missed c.if-not-is_reached.true)
 
 pub returns-then-part-eq1-clause-number : goal.returns-then-part-eq1-clause-number
 returns-then-part-eq1-clause-number t c =
     let part = c.args.part in
-    leaf_inside c.args.set.now part.first part.width (leaves_of c.args.nodes.now) c.if-part-eq1.true (c.is_reached.ensures.value c.if-not-is_reached.false c.if-part-eq1.true)
+    c.none.ensures
+    ∙ leaf_inside c.args.set.now part.first part.width (leaves_of c.args.nodes.now) c.if-part-eq1.true (c.is_reached.ensures.value c.if-not-is_reached.false c.if-part-eq1.true)
 
 pub returns-clause-number : goal.returns-clause-number
 returns-clause-number t c =

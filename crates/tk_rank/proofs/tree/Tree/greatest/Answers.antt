@@ -11,6 +11,7 @@ pub returns : goal.returns
 returns c =
     let nodes = c.self.inside.nodes.items in
     let some = power_positive (width_of nodes) c.self.invariant.width in
-    get_or_read nodes 1 c.index.result.now (omega (arith, c.self.invariant.even, some)) c.index.ensures None
+    c.get.ensures
+    ∙ get_or_read nodes 1 c.index.result.now (omega (arith, c.self.invariant.even, some)) c.index.ensures None
     ∙ root_stands nodes c.self.invariant
     ∙ ap (λ (leaves : List (Option ℤ)). greatest_of (standing leaves (objects (length leaves)))) c.self.view_is

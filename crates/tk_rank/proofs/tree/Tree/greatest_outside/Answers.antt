@@ -16,6 +16,7 @@ returns c =
     let here = c.as_slice-nodes.ensures.value in
     let range = whole_range nodes c.whole.result.width c.whole.result.first c.self.invariant (c.whole.ensures.width ∙ ap width_of here) c.whole.ensures.first in
     let keep = λ (leaves : List (Option ℤ)) (list : List ℕ). greatest_of (standing leaves (filter (λ o. not (is_in c.args.set.now o)) list)) in
-    c.outside.ensures.number
+    c.get.ensures
+    ∙ c.outside.ensures.number
     ∙ ap₂ keep (ap leaves_of here) range
     ∙ ap (λ leaves. keep leaves (objects (length leaves))) c.self.view_is
