@@ -1,5 +1,5 @@
 -- Changes of the two sides.
-use Rattle.std.proofs.Common.{◌≡◌, ℕ, ◌+◌, ◌-◌, ◌<◌, ◌≤◌, ℤ, pos, ◌-ℤ◌, Bool, true, false, ◌||◌, ◌&&◌, cond, eqb, ltb, List, length, get_or, set, take, Option, Some, None, refl, sym, ap, ap₂, ◌∙◌, arith, inl, inr, get_or-set_same, get_or-set_other, length-set, eq-eqb, ne_eqb, to_z, of_z}
+use Rattle.std.proofs.Common.{◌≡◌, ℕ, ◌+◌, ◌-◌, ◌<◌, ◌≤◌, ℤ, pos, ◌-ℤ◌, Bool, true, false, not, ◌||◌, ◌&&◌, cond, eqb, ltb, List, length, get_or, set, take, Option, Some, None, refl, sym, ap, ap₂, ◌∙◌, arith, inl, inr, get_or-set_same, get_or-set_other, length-set, eq-eqb, ne_eqb, to_z, of_z}
 use Rattle.std.specs.Prelude.{is_some, ◌^◌, unsigned_abs, FitsSigned}
 use Rattle.std.specs.Int.{w128}
 use Rattle.std.proofs.lemmas.Int.{ints, to_z-of_z}
@@ -11,7 +11,7 @@ use Rattle.tk_base.specs.declared.ids.Obj.{Obj}
 use Rattle.tk_base.specs.Objects.{is_in}
 use Rattle.tk_border.specs.Levels.{level_at}
 use Rattle.tk_rank.specs.Tree.{leaf_at}
-use Rattle.tk_rank.specs.Sides.{AreSides}
+use Rattle.tk_rank.specs.Sides.{AreSides, outsider_leaf}
 
 -- ---- one write
 
@@ -66,9 +66,21 @@ sides_placed levels p members outsiders o b some within s = record {
 
 -- ---- an object gets another level on its side
 
-pub is_member_from : (b : Bool) (x : ℤ) → is_some (cond b (Some x) None) ≡ b
-is_member_from true x = refl
-is_member_from false x = refl
+is_outsider : (b past : Bool) (x : ℤ) → past ≡ false → is_some (cond (b || past) None (Some x)) ≡ not b
+is_outsider true past x low = refl
+is_outsider false true x low = absurd (cc)
+is_outsider false false x low = refl
+
+turned_same : (a b : Bool) → not a ≡ not b → a ≡ b
+turned_same true true is = refl
+turned_same true false is = absurd (cc)
+turned_same false true is = absurd (cc)
+turned_same false false is = refl
+
+-- whether the tree of the outsiders has an object tells on which side it is
+pub outsider_read : (levels : List ℤ) (p : ℕ → Bool) (o : ℕ) (b : Bool) → o ≤ length levels → is_some (outsider_leaf levels p o) ≡ not b → p o ≡ b
+outsider_read levels p o b within read =
+    turned_same (p o) b (sym (is_outsider (p o) (ltb (length levels) o) (level_at levels o) (le-ltb (length levels) o within)) ∙ read)
 
 levels-written : (levels : List ℤ) (o q : ℕ) (x : ℤ) → 0 < o → o ≤ length levels → 0 < q → level_at (set levels (o - 1) x) q ≡ cond (eqb q o) x (level_at levels q)
 levels-written levels o q x some within more = written levels o q x (pos 0) some within more

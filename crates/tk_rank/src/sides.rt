@@ -53,10 +53,11 @@ pub(crate) fn relevel(o: Obj, level: i128, members: &mut Tree, outsiders: &mut T
     requires size { unsigned_abs level < 2 ^ 114 }
     ensures { (levels : List ℤ) (p : ℕ → Bool) → o.0 ≤ length levels → AreSides levels p members.old outsiders.old → AreSides (slice_set levels (o.0 - 1) level) p members.new outsiders.new }
 {
-    if members.leaf(o).is_some() {
-        members.set(o, Node::of(-level));
-    } else {
+    // Most objects are outsiders: their tree alone is read then.
+    if outsiders.leaf(o).is_some() {
         outsiders.set(o, Node::of(level));
+    } else {
+        members.set(o, Node::of(-level));
     }
 }
 
