@@ -86,6 +86,7 @@ pub fn leeway(terms: &Terms, table: &Table, reports: &[Reported], place: usize) 
     sum
 }
 
+/// The leeway of each of some objects: what the nodes asked can give away together.
 pub fn leeways(
     alloc: Global,
     terms: &Terms,

@@ -19,18 +19,21 @@ impl Model for Cut {
 }
 
 impl Cut {
+    /// The places of the monitors 1, 2, ..
     pub fn new(list: Vec<Places>) -> Cut
         ensures { result ≡ list.items }
     {
         Cut { list }
     }
 
+    /// How many monitors there are.
     pub fn len(&self) -> usize
         ensures { result ≡ length self.now }
     {
         self.list.len()
     }
 
+    /// The places of the monitor `i + 1`.
     pub fn at(&self, i: usize) -> &Places
         requires { i < length self.now }
         ensures { slice_get self.now i ≡ Some result.now }
@@ -38,6 +41,7 @@ impl Cut {
         &self.list[i]
     }
 
+    /// The same cut once more.
     pub fn try_clone(&self) -> Result<Cut, NoMemory>
         ensures { IfOk result (λ c. c ≡ self.now) }
     {

@@ -38,6 +38,7 @@ impl ObjSet {
         }
     }
 
+    /// How many objects there are.
     pub fn len(&self) -> usize
         ensures value { result ≡ length self.now }
         ensures ascends { IsAscending self.now }
@@ -45,6 +46,7 @@ impl ObjSet {
         self.list.len()
     }
 
+    /// The object at a place from 0, in ascending order.
     pub fn at(&self, i: usize) -> Obj
         requires { i < length self.now }
         ensures value { result.0 ≡ slice_index self.now i }
@@ -60,6 +62,7 @@ impl ObjSet {
         place_of(self.list.as_slice(), o).is_some()
     }
 
+    /// The same set once more.
     pub fn try_clone(&self) -> Result<ObjSet, NoMemory>
         ensures { IfOk result (λ s. s ≡ self.now) }
     {

@@ -40,6 +40,7 @@ impl Pairs {
         }
     }
 
+    /// How many pairs there are.
     pub fn len(&self) -> usize
         ensures value { result ≡ length self.now }
         ensures ascends { IsAscending (objects_of self.now) }
@@ -47,6 +48,7 @@ impl Pairs {
         self.list.len()
     }
 
+    /// The pair at a place from 0, in ascending order of objects.
     pub fn at(&self, i: usize) -> (Obj, i128)
         requires { i < length self.now }
         ensures value { slice_get self.now i ≡ Some (result.0.0, result.1) }
@@ -64,6 +66,7 @@ impl Pairs {
         Some(number)
     }
 
+    /// The same pairs once more.
     pub fn try_clone(&self) -> Result<Pairs, NoMemory>
         ensures { IfOk result (λ p. p ≡ self.now) }
     {

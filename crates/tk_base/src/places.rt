@@ -18,18 +18,21 @@ impl Model for Places {
 }
 
 impl Places {
+    /// The places of the feeders 1, 2, ..
     pub fn new(list: Vec<u32>) -> Places
         ensures { result ≡ list.items }
     {
         Places { list }
     }
 
+    /// How many feeders there are.
     pub fn len(&self) -> usize
         ensures { result ≡ length self.now }
     {
         self.list.len()
     }
 
+    /// The place of the feeder `i + 1`.
     pub fn at(&self, i: usize) -> u32
         requires { i < length self.now }
         ensures { result ≡ slice_index self.now i }
@@ -37,6 +40,7 @@ impl Places {
         self.list[i]
     }
 
+    /// The same places once more.
     pub fn try_clone(&self) -> Result<Places, NoMemory>
         ensures { IfOk result (λ p. p ≡ self.now) }
     {

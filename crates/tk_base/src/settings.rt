@@ -132,6 +132,7 @@ impl Settings {
         })
     }
 
+    /// How many members there are.
     pub fn k(&self) -> u32
         ensures value { result ≡ self.now.k }
         ensures limits { IsWithinLimits self.now }
@@ -139,6 +140,7 @@ impl Settings {
         self.k
     }
 
+    /// How far a member's total may be below an outsider's.
     pub fn epsilon(&self) -> i128
         ensures value { result ≡ self.now.epsilon }
         ensures limits { IsWithinLimits self.now }
@@ -146,6 +148,7 @@ impl Settings {
         self.epsilon
     }
 
+    /// The coordinator's share of the slack, beside each monitor's 1.
     pub fn own_weight(&self) -> u32
         ensures value { result ≡ self.now.own_weight }
         ensures limits { IsWithinLimits self.now }
@@ -153,6 +156,7 @@ impl Settings {
         self.own_weight
     }
 
+    /// How many objects there are.
     pub fn objects(&self) -> u32
         ensures value { result ≡ self.now.objects }
         ensures limits { IsWithinLimits self.now }
@@ -160,6 +164,7 @@ impl Settings {
         self.objects
     }
 
+    /// How many monitors there are.
     pub fn monitors(&self) -> u32
         ensures value { result ≡ self.now.monitors }
         ensures limits { IsWithinLimits self.now }

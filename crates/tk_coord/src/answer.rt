@@ -28,6 +28,7 @@ impl Model for Progress {
 }
 
 impl Progress {
+    /// What a Settled tells, copied.
     pub fn of(places: &Places, last: bool) -> Result<Progress, NoMemory>
         ensures { IfOk result (λ p. p ≡ record { places = places.now; last = last }) }
     {

@@ -537,6 +537,7 @@ impl Coordinator {
         }
     }
 
+    /// What it was made with.
     pub fn settings(&self) -> &Settings
         ensures { result.now ≡ self.now.settings }
     {
@@ -557,6 +558,7 @@ impl Coordinator {
         self.standing.settings.epsilon()
     }
 
+    /// The present members.
     pub fn members(&self) -> &ObjSet
         ensures { result.now ≡ members_at self.now.journal }
     {
@@ -577,6 +579,7 @@ impl Coordinator {
         self.standing.stopped
     }
 
+    /// What it did so far.
     pub fn journal(&self) -> &[Noted]
         ensures value { result.now ≡ self.now.journal }
         ensures legal { IsJournal self.now.settings self.now.journal }

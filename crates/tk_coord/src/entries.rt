@@ -17,6 +17,7 @@ use tk_frames::{Frame, KeptFrame};
 use tk_journal::Noted;
 use tk_rows::Reallocation;
 
+/// The entry of a frame that goes to a monitor.
 pub fn sent(alloc: Global, mon: u32, frame: Frame) -> Result<Noted, NoMemory>
     ensures value { IfOk result (λ n. n ≡ Sent (record { 0 = mon }) frame) }
     ensures monitor { (monitors n : ℕ) → 0 < mon → mon ≤ monitors → IfOk result (IsEntryOf monitors n) }

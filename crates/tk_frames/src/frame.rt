@@ -51,6 +51,7 @@ impl Frame {
     ghost use Rattle.tk_frames.specs.Frame.{kind_of};
     ghost use Rattle.tk_frames.specs.Size.{size_of};
 
+    /// Its kind.
     pub fn kind(&self) -> Kind
         ensures { result ≡ kind_of self.now }
     {
@@ -86,6 +87,7 @@ impl Frame {
         }
     }
 
+    /// The same frame once more.
     pub fn try_clone(&self) -> Result<Frame, NoMemory>
         ensures { IfOk result (λ f. f ≡ self.now) }
     {

@@ -30,12 +30,14 @@ impl KeptFrame {
         }
     }
 
+    /// The frame, lent.
     pub fn get(&self) -> &Frame
         ensures { result.now ≡ self.now }
     {
         &self.frame
     }
 
+    /// The frame itself.
     pub fn into_frame(self) -> Frame
         ensures { result ≡ self }
     {

@@ -95,6 +95,7 @@ pub fn signed_i128(out: &mut Vec<u8>, version: u8, value: i128) -> Result<(), No
     number_u128(out, version, zigzag(value))
 }
 
+/// Appends one byte, 0 or 1.
 pub fn flag(out: &mut Vec<u8>, value: bool) -> Result<(), NoMemory>
     ensures { OnOk result (out.new.items ≡ out.old.items ++ flag_of value) }
 {

@@ -45,6 +45,7 @@ impl KeptPublication {
         }
     }
 
+    /// The publication, lent.
     pub fn get(&self) -> &Publication
         ensures { result.now ≡ self.now }
     {
@@ -77,6 +78,7 @@ impl KeptEpsilon {
         }
     }
 
+    /// The epsilon.
     pub fn get(&self) -> i128
         ensures { result ≡ self.now }
     {

@@ -21,11 +21,13 @@ pub fn an_awaited_monitor_was_last_asked()
     ensures { (o : Opening) (j : List Noted) (mon : ℕ) → IsSetUp o → IsLegal o j → IsMonitor o.settings mon → waits_for (last_round j) mon j ≡ true → IsLastAsked mon j }
 {}
 
+/// To a monitor went as many Collects as came Values of it, and one more while it is waited for.
 pub fn each_collect_is_answered()
     ensures { (o : Opening) (j : List Noted) (mon : ℕ) → IsSetUp o → IsLegal o j → IsMonitor o.settings mon
         → collects_to mon j ≡ values_from mon j + (if waits_for (last_round j) mon j then 1 else 0) }
 {}
 
+/// What is gathered in an open round came as Values of that round, over the last Assign.
 pub fn gathered_are_fresh()
     ensures { (o : Opening) (j : List Noted) (mon : ℕ) → IsSetUp o → IsLegal o j → IsMonitor o.settings mon → is_open o.settings j ≡ true
         → (r : Reported) → values_of (last_round j) mon j ≡ Some r → Contains (frames_from mon j) (f.Values (last_round j) (assigns_sent mon j) r.border r.values) }

@@ -19,10 +19,12 @@ pub fn turns_stand_whole()
     ensures { (o : Opening) (before : List Noted) (e : Noted) (after : List Noted) → IsLegal o (before ++ e ∷ after) → is_input e ≡ true → StandsWhole o before e after }
 {}
 
+/// What follows a frame that is taken is one of the few turns that there are.
 pub fn each_turn_has_a_shape()
     ensures { (s : Setup) (before : List Noted) (from : Mon) (frame : Frame) → IsMonitor s from.0 → refusal_of s before from.0 frame ≡ None → Shape s before from frame (demanded s before from.0 frame) }
 {}
 
+/// How many reports in a row failed the short test, over one more turn.
 pub fn the_streak_over_a_turn()
     ensures { (s : Setup) (before : List Noted) (from : Mon) (frame : Frame) (rest : List Noted) → inputs_of rest ≡ []
         → streak s (before ++ n.Got from frame ∷ rest) ≡ (if is_calm s (before ++ n.Got from frame ∷ rest) then 0 else streak s before + (if fails_at s before from.0 frame then 1 else 0)) }

@@ -29,18 +29,21 @@ impl Model for PerMonitor {
 }
 
 impl PerMonitor {
+    /// The counts of the monitors 1, 2, ..
     pub fn new(list: Vec<Counts>) -> PerMonitor
         ensures { result ≡ list.items }
     {
         PerMonitor { list }
     }
 
+    /// How many monitors there are.
     pub fn len(&self) -> usize
         ensures { result ≡ length self.now }
     {
         self.list.len()
     }
 
+    /// The counts of the monitor `i + 1`.
     pub fn at(&self, i: usize) -> &Counts
         requires { i < length self.now }
         ensures { slice_get self.now i ≡ Some result.now }
@@ -48,6 +51,7 @@ impl PerMonitor {
         &self.list[i]
     }
 
+    /// The counts of all, by monitor.
     pub fn as_slice(&self) -> &[Counts]
         ensures { result.now ≡ self.now }
     {

@@ -89,6 +89,7 @@ pub fn rounds_line(alloc: Global, ledger: &Ledger) -> Result<Vec<u8>, AllocError
     Ok(line)
 }
 
+/// The line with the bytes of all frames.
 pub fn bytes_line(alloc: Global, ledger: &Ledger) -> Result<Vec<u8>, AllocError>
     ensures { IfOk result (λ line. line.items ≡ bytes_text ledger.now) }
 {

@@ -8,6 +8,7 @@ use crate::status::{InputKind, Status};
 use std::alloc::Global;
 use tk_base::{SettingFault, Settings};
 
+/// What a refused setting is told as.
 pub fn kind_of(fault: SettingFault) -> InputKind
     ensures { result ≡ setting_kind fault }
 {

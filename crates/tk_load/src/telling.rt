@@ -8,6 +8,7 @@ use std::alloc::{AllocError, Global};
 use tk_base::{Mon, NoMemory};
 use tk_story::Direction;
 
+/// Appends the digits of a number.
 pub fn push_number(line: &mut Vec<u8>, number: u32) -> Result<(), AllocError>
     ensures { OnOk result (line.new.items ≡ line.old.items ++ decimal number) }
 {

@@ -61,6 +61,7 @@ impl Board {
         })
     }
 
+    /// The present members.
     pub fn members(&self) -> &ObjSet
         ensures value { result.now ≡ self.now.members }
         ensures within { All (λ o. o ≤ length self.now.levels) self.now.members }
@@ -68,6 +69,7 @@ impl Board {
         &self.members
     }
 
+    /// The level of an object: its value and its factor.
     pub fn level(&self, o: Obj) -> i128
         requires { IsOneOf (length self.now.levels) o.0 }
         ensures { result ≡ level_at self.now.levels o.0 }
@@ -75,6 +77,7 @@ impl Board {
         self.rank.level(o)
     }
 
+    /// The value of an object.
     pub fn value(&self, o: Obj) -> i128
         requires { IsOneOf (length self.now.levels) o.0 }
         ensures { result ≡ level_at self.now.values o.0 }
@@ -151,6 +154,7 @@ impl Board {
         Ok(Pairs::new(list).unwrap())
     }
 
+    /// The values of the objects that are asked for.
     pub fn values_over(&self, alloc: Global, asked: &ObjSet) -> Result<Pairs, NoMemory>
         requires { All (λ o. o ≤ length self.now.levels) asked.now }
         ensures { IfOk result (λ p. p ≡ values_in self.now.values asked.now) }

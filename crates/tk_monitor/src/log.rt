@@ -38,6 +38,7 @@ impl Model for Log {
 impl Log {
     ghost use Rattle.tk_trail.specs.declared.entry.Entry.TheVariants.{Raised, Took, Sent};
 
+    /// An empty trail, with room for so many raises.
     pub fn new(alloc: Global, raises: usize) -> Result<Log, NoMemory>
         requires { raises < 2 ^ 32 }
         ensures { IfOk result (λ l. l ≡ record { entries = []; raises = raises; spare = 0 }) }
@@ -50,10 +51,12 @@ impl Log {
         })
     }
 
+    /// Where its memory comes from.
     pub fn alloc(&self) -> Global {
         *self.entries.allocator()
     }
 
+    /// What the monitor did so far.
     pub fn entries(&self) -> &[Entry]
         ensures { result.now ≡ self.now.entries }
     {
@@ -80,6 +83,7 @@ impl Log {
         Ok(())
     }
 
+    /// Notes a raise, without memory.
     pub fn raised(&mut self, f: Feeder)
         requires { 0 < self.old.raises }
         ensures { self.new ≡ record self.old {
@@ -91,6 +95,7 @@ impl Log {
         self.raises -= 1;
     }
 
+    /// Notes a frame that was taken, for which there is room.
     pub fn took(&mut self, frame: KeptFrame)
         requires { 0 < self.old.spare }
         ensures { self.new ≡ record self.old {
@@ -102,6 +107,7 @@ impl Log {
         self.spare -= 1;
     }
 
+    /// Notes a frame that is sent, for which there is room.
     pub fn sent(&mut self, frame: KeptFrame)
         requires { 0 < self.old.spare }
         ensures { self.new ≡ record self.old {
@@ -114,12 +120,14 @@ impl Log {
         self.spare -= 1;
     }
 
+    /// How many frames were sent.
     pub fn sent_len(&self) -> usize
         ensures { result ≡ length (sent_by self.now.entries) }
     {
         self.sent_places.len()
     }
 
+    /// The frame that was sent at a place from 0.
     pub fn sent_at(&self, i: usize) -> &Frame
         requires { i < length (sent_by self.now.entries) }
         ensures { slice_get (sent_by self.now.entries) i ≡ Some result.now }

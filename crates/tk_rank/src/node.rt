@@ -42,6 +42,7 @@ impl Node {
         Node { level }
     }
 
+    /// The number, if there is one.
     pub fn get(self) -> Option<i128>
         ensures { result ≡ self }
     {
@@ -52,12 +53,14 @@ impl Node {
         }
     }
 
+    /// Whether both are the same.
     pub fn is_same(self, other: Node) -> bool
         ensures { result ≡ true → self ≡ other }
     {
         self.level == other.level
     }
 
+    /// The greater of two, where none is less than any number.
     pub fn greater(self, other: Node) -> Node
         ensures { result ≡ greater_of self other }
     {
@@ -66,6 +69,7 @@ impl Node {
         }
     }
 
+    /// Whether there is a number and it is above a level.
     pub fn is_over(self, level: i128) -> bool
         ensures { result ≡ is_over_of level self }
     {

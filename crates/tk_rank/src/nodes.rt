@@ -18,6 +18,7 @@ pub(crate) struct Part {
 }
 
 impl Part {
+    /// The whole tree.
     pub fn whole(nodes: &[Node]) -> Part
         requires { IsTree nodes.now }
         ensures part { IsPart (width_of nodes.now) result.width result.node result.first }

@@ -22,6 +22,7 @@ impl Model for Factors {
 }
 
 impl Factors {
+    /// Factors of zero, the coordinator's and each monitor's.
     pub fn new(alloc: Global, monitors: u32) -> Result<Factors, NoMemory>
         ensures { IfOk result (λ f. f ≡ replicate (monitors + 1) (pos 0)) }
     {

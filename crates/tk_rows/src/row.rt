@@ -23,6 +23,7 @@ impl Model for Row {
 }
 
 impl Row {
+    /// A row of zeros.
     pub fn new(alloc: Global, objects: u32) -> Result<Row, NoMemory>
         ensures { IfOk result (λ r. r ≡ replicate objects (pos 0)) }
     {
@@ -30,6 +31,7 @@ impl Row {
         Ok(Row { list })
     }
 
+    /// The factor of an object.
     pub fn get(&self, o: Obj) -> i128
         requires some { 0 < o.0 }
         requires within { o.0 ≤ length self.now }
@@ -39,6 +41,7 @@ impl Row {
         self.list[o.0 as usize - 1]
     }
 
+    /// Gives an object another factor.
     pub fn set(&mut self, o: Obj, factor: i128)
         requires some { 0 < o.0 }
         requires within { o.0 ≤ length self.old }

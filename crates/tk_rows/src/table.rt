@@ -26,6 +26,7 @@ impl Model for Table {
 }
 
 impl Table {
+    /// A table of zeros.
     pub fn new(alloc: Global, objects: u32, monitors: u32) -> Result<Table, NoMemory>
         ensures monitors { IfOk result (λ t. t.monitors ≡ monitors) }
         ensures objects { IfOk result (λ t. length t.rows ≡ objects) }
@@ -51,6 +52,7 @@ impl Table {
         row.at(0)
     }
 
+    /// The factor of an object at a monitor.
     pub fn at(&self, mon: Mon, o: Obj) -> i128
         requires some { 0 < o.0 }
         requires within { o.0 ≤ length self.now.rows }
