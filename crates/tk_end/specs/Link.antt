@@ -1,5 +1,5 @@
 -- One end of a connection, as contracts see it, and what it has heard and said.
-use Rattle.std.specs.Prelude.{◌≡◌, ℕ, ◌+◌, ◌-◌, ◌^◌, ◌≤◌, min, List, ◌++◌, length, take, Bool, true, Option}
+use Rattle.std.specs.Prelude.{◌≡◌, ℕ, ◌+◌, ◌-◌, ◌^◌, ◌≤◌, min, List, [], ◌++◌, length, take, Bool, true, false, Option, None}
 use Rattle.tk_frames.specs.declared.frame.Frame.{Frame}
 use Rattle.tk_wire.specs.Meanings.{Traffic, Counts, Arrives, Departs}
 use Rattle.tk_wire.specs.Buffered.{IsFull}
@@ -21,6 +21,21 @@ pub record LinkView (W : Type 0) : Type 0 where
   pub output : List ℕ
   pub written : ℕ
   pub shut : Bool
+
+-- an end that goes on over a wire with these bytes, of which none is read as a frame, and that has said nothing
+abbrev pub link_over : {W : Type 0} → W → Bool → Traffic → Counts → ℕ → List ℕ → LinkView W
+link_over wire tells traffic counts version unread = record {
+  wire = wire;
+  tells = tells;
+  traffic = traffic;
+  counts = counts;
+  version = version;
+  unread = unread;
+  front = None;
+  output = [];
+  written = 0;
+  shut = false;
+}
 
 -- no fewer bytes were taken than these frames have with those that are not read, unless the count stands still
 abbrev pub Covers : ℕ → List Frame → List ℕ → ℕ → Type 0

@@ -73,6 +73,7 @@ impl Inbox {
         }
     }
 
+    /// Takes one piece of the wire to the end of what came, or says why none came.
     pub fn pull<W: Wire>(&mut self, wire: &mut W) -> Pulled
         ensures bytes { Pulls result W.tells self.old.unread self.new.unread (W.traffic wire.old) (W.traffic wire.new) }
         ensures counted { W.counts wire.new ≡ counts_pulled result (W.counts wire.old) }

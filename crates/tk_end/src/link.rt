@@ -1,11 +1,11 @@
-ghost use Rattle.std.specs.Prelude.{◌≡◌, ◌↔◌, [], false, None, IsTrue, OnErr, OnOk};
+ghost use Rattle.std.specs.Prelude.{◌≡◌, ◌↔◌, [], None, IsTrue, OnErr, OnOk};
 ghost use Rattle.tk_frames.specs.declared.answer.Next.TheVariants as n;
 ghost use Rattle.tk_frames.specs.Answer.{Answers};
 ghost use Rattle.tk_frames.specs.Encoding.{Appends};
 ghost use Rattle.tk_frames.specs.Spelling.{IsVersion};
 ghost use Rattle.tk_end.specs.Actor.{CanBeSent};
 ghost use Rattle.tk_end.specs.Inbox.{IsOdd};
-ghost use Rattle.tk_end.specs.Link.{IsShut};
+ghost use Rattle.tk_end.specs.Link.{IsShut, link_over};
 
 mod hearing;
 mod piping;
@@ -54,18 +54,7 @@ impl<W: Wire> Link<W> {
     /// Goes on over a wire with what came so far, in a version, 1 or 2. It takes no memory.
     pub fn new(alloc: Global, wire: W, came: InBuffer, version: u8) -> Link<W>
         requires { IsVersion version }
-        ensures { result ≡ record {
-          wire = wire;
-          tells = W.tells;
-          traffic = W.traffic wire;
-          counts = W.counts wire;
-          version = version;
-          unread = came.bytes;
-          front = None;
-          output = [];
-          written = 0;
-          shut = false;
-        } }
+        ensures { result ≡ link_over wire W.tells (W.traffic wire) (W.counts wire) version came.bytes }
     {
         let mut came = came;
         came.set_version(version);
