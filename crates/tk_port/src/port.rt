@@ -193,7 +193,11 @@ impl<W: Wire> Port<W> {
     /// Costs what came and what is sent. After Failed, Refused or Bad the wire is shut, and each later turn answers the same.
     pub fn turn(&mut self) -> Turn
         requires { self.old.course ≡ Course.Halted → ⊥ }
+        // A port that failed gives the same answer, and does nothing else.
         ensures closed { (turn : Turned) → answer_of self.old.course ≡ Some turn → (result ≡ turn) × (self.new ≡ self.old) }
+        // So does a port whose monitor has taken Stop.
+        ensures stopped { self.old.course ≡ Course.Open
+            → is_stopped self.old.monitor.trail ≡ true → (result ≡ Turn.Stopped) × (self.new ≡ self.old) }
         ensures open { self.old.course ≡ Course.Open → Turns result self.old self.new }
         ensures not_halted { self.new.course ≡ Course.Halted → ⊥ }
         ensures kept { IsPort self.new }
