@@ -1,5 +1,5 @@
 -- A net in memory and what it makes, as contracts see them.
-use Rattle.std.specs.Prelude.{◌≡◌, ℕ, ◌+◌, ◌-◌, List, [], ◌∷◌, ◌++◌, take, drop, slice_index, Option, Some, None, Result, Ok, Err, ⊤}
+use Rattle.std.specs.Prelude.{◌≡◌, ℕ, Bool, false, ◌+◌, ◌-◌, List, [], ◌∷◌, ◌++◌, take, drop, slice_index, Option, Some, None, Result, Ok, Err, ⊤}
 use Rattle.tk_wire.specs.Meanings.{Counts}
 use Rattle.tk_wire.specs.Net.{NetState}
 use Rattle.tk_wire.specs.declared.wire.Took.{Took}
@@ -27,9 +27,10 @@ pub record StaysSet (old new : MemoryNet) : Type 0 where
   pub fails : new.fails ≡ old.fails
   pub flip : new.flip ≡ old.flip
 
--- a link: its counts, and the numbers of the calls of its net that fail
+-- a link: its counts, whether it was shut, and the numbers of the calls of its net that fail
 pub record MemoryLink : Type 0 where
   pub counts : Counts
+  pub shut : Bool
   pub fails : List ℕ
 
 -- a rest: how many of its calls failed, and the numbers of the calls of its net that fail
@@ -43,7 +44,7 @@ new_memory_net fails flip = record { state = new_net; knocking = 0; fails = fail
 
 -- a link of a net that fails these calls, before any byte
 abbrev pub new_memory_link : List ℕ → MemoryLink
-new_memory_link fails = record { counts = no_counts; fails = fails }
+new_memory_link fails = record { counts = no_counts; shut = false; fails = fails }
 
 -- a rest of a net that fails these calls
 abbrev pub new_memory_rest : List ℕ → MemoryRest

@@ -25,13 +25,13 @@ pub struct MemLink {
 }
 
 impl Model for MemLink {
-    ghost use Rattle.std.specs.Prelude.{◌≡◌, []};
+    ghost use Rattle.std.specs.Prelude.{◌≡◌, [], is_none};
     ghost use Rattle.std.specs.Arc.{arc_value};
     ghost use Rattle.tk_net.specs.Memory.{MemoryLink};
 
     ghost Value = { MemoryLink };
 
-    ghost view = { λ l. record { counts = l.counts; fails = (arc_value l.plan).fails } };
+    ghost view = { λ l. record { counts = l.counts; shut = is_none l.outbox; fails = (arc_value l.plan).fails } };
 
     ghost invariant = { λ l. (arc_value l.plan).fails ≡ [] → l.counts.faults ≡ 0 };
 }
@@ -89,7 +89,7 @@ impl Wire for MemLink {
         ensures counted { self.new.counts ≡ counts_taken result self.old.counts }
         // Where no call of its net is listed.
         ensures quiet { self.old.fails ≡ [] → DoesTake result }
-        ensures kept { self.new.fails ≡ self.old.fails }
+        ensures kept { self.new ≡ record self.old { counts = self.new.counts } }
     {
         let took = ring::take(&self.plan, &mut self.inbox, into);
         self.counts.note_take(took);
@@ -104,7 +104,7 @@ impl Wire for MemLink {
         ensures counted { self.new.counts ≡ counts_given result self.old.counts }
         // Where no call of its net is listed.
         ensures quiet { self.old.fails ≡ [] → DoesGive result }
-        ensures kept { self.new.fails ≡ self.old.fails }
+        ensures kept { self.new ≡ record self.old { counts = self.new.counts } }
     {
         let gave = match &mut self.outbox {
             Some(outbox) => ring::give(&self.plan, outbox, bytes),
@@ -117,7 +117,7 @@ impl Wire for MemLink {
     fn shut(&mut self)
         ensures told { false ≡ true → untold ≡ untold }
         ensures counted { self.new.counts ≡ self.old.counts }
-        ensures kept { self.new.fails ≡ self.old.fails }
+        ensures closed { self.new ≡ record self.old { shut = true } }
     {
         self.outbox = None;
     }
