@@ -1,6 +1,6 @@
 //! The numbers of the input files.
 
-ghost use Rattle.std.specs.Prelude.{◌≡◌, ◌<◌, ◌^◌, length, IfSome};
+ghost use Rattle.std.specs.Prelude.{◌≡◌, ◌<◌, ◌^◌, length, IfSome, unsigned_abs};
 ghost use Rattle.tk_input.specs.Number.{digits_in, whole_number};
 
 const MAX_DIGITS: usize = 38;
@@ -26,7 +26,8 @@ pub fn digits_of(text: &[u8]) -> Option<u128>
 
 /// The whole number that a text writes: a sign or none, and 1 to 38 decimal digits.
 pub fn whole_number_of(text: &[u8]) -> Option<i128>
-    ensures { result ≡ whole_number text.now }
+    ensures value { result ≡ whole_number text.now }
+    ensures size { IfSome result (λ z. unsigned_abs z < 2 ^ 127) }
 {
     match text {
         [b'-', digits @ ..] => Some(-(digits_of(digits)? as i128)),

@@ -1,4 +1,4 @@
-ghost use Rattle.std.specs.Prelude.{◌≡◌, ◌<◌, ◌≤◌, IfOk, IfErr, OnOk, Ok, Err, All, length, option_map, slice_get, Some};
+ghost use Rattle.std.specs.Prelude.{◌≡◌, ◌<◌, ◌≤◌, ◌^◌, IfOk, IfErr, OnOk, Ok, Err, All, length, option_map, slice_get, Some, unsigned_abs};
 ghost use Rattle.csv.specs.Records.{fields_of};
 ghost use Rattle.tk_input.specs.Log.{IsFault, both_fields as both_fields_of, next_change as next_change_of};
 ghost use Rattle.tk_input.specs.Logs.{IsObject};
@@ -98,10 +98,12 @@ fn both_fields(row: &ByteRecord) -> Option<(&[u8], &[u8])>
     Some((row.get(0)?, row.get(1)?))
 }
 
-fn next_change(names: &Catalog, row: &ByteRecord, before: usize) -> Result<Change, PartFault>
+/// The change of a record, with so many before it.
+pub fn next_change(names: &Catalog, row: &ByteRecord, before: usize) -> Result<Change, PartFault>
     ensures ok { IfOk result (λ c. next_change_of names.now before (fields_of row.now) ≡ Ok (c.obj.0, c.by)) }
     ensures err { IfErr result (λ e. next_change_of names.now before (fields_of row.now) ≡ Err e) }
     ensures object { IfOk result (λ c. IsObject (length names.now) c.obj.0) }
+    ensures size { IfOk result (λ c. unsigned_abs c.by < 2 ^ 127) }
     ensures few { OnOk result (before < 1000000) }
 {
     if before >= MAX_CHANGES {
