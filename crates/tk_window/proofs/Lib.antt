@@ -1,0 +1,5 @@
+pub mod Examples
+pub mod PlaceLemmas
+pub mod ReadingLemmas
+pub mod SumLemmas
+pub mod WindowLemmas

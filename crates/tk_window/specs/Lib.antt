@@ -1,0 +1,4 @@
+pub mod Reading
+pub mod Ticks
+pub mod Window
+pub use Rattle.tk_base.specs.Sum

@@ -1,0 +1,30 @@
+ghost use Rattle.std.specs.Prelude.{◌≡◌, ◌≤◌, length};
+ghost use Rattle.std.specs.List.Sorted.{IsNonDecreasing};
+ghost use Rattle.tk_window.specs.Window.{tick_ending};
+
+use tk_input::Part;
+
+/// A log without ticks that moves the window from tick to tick, and the place after each tick.
+#[derive(Drop)]
+pub struct Expanded {
+    pub part: Part,
+    pub ends: Vec<u32>,
+    ghost ordered: { IsNonDecreasing ends.items },
+    ghost few: { length ends.items ≤ 1000001 },
+}
+
+/// The first tick that ends at a place, 0 for the place before the first change. Takes time with the logarithm of the
+/// number of ticks.
+pub fn tick_at(expanded: &Expanded, place: u32) -> Option<u32>
+    ensures { result ≡ tick_ending expanded.now.ends.items place }
+{
+    if place == 0 {
+        return Some(0);
+    }
+    let i = expanded.ends.partition_point(|end| *end < place);
+    if i < expanded.ends.len() && expanded.ends[i] == place {
+        Some(i as u32 + 1)
+    } else {
+        None
+    }
+}
