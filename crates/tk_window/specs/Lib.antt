@@ -1,4 +1,7 @@
+pub mod Expanded
 pub mod Reading
+pub mod TickEnds
 pub mod Ticks
+pub mod Validity
 pub mod Window
 pub use Rattle.tk_base.specs.Sum

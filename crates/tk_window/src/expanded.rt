@@ -2,6 +2,7 @@ ghost use Rattle.std.specs.Prelude.{◌≡◌, ◌≤◌, length};
 ghost use Rattle.std.specs.List.Sorted.{IsNonDecreasing};
 ghost use Rattle.tk_window.specs.Window.{tick_ending};
 
+use tk_base::NoMemory;
 use tk_input::Part;
 
 /// A log without ticks that moves the window from tick to tick, and the place after each tick.
@@ -11,6 +12,20 @@ pub struct Expanded {
     pub ends: Vec<u32>,
     ghost ordered: { IsNonDecreasing ends.items },
     ghost few: { length ends.items ≤ 1000001 },
+}
+
+impl Expanded {
+    ghost use Rattle.std.specs.Prelude.{IfOk};
+    ghost use Rattle.tk_window.specs.Expanded.{expansion_of};
+
+    /// Of a part that is shared another holder of its list, and a copy of the ends.
+    pub fn try_clone(&self) -> Result<Expanded, NoMemory>
+        ensures { IfOk result (λ e. expansion_of e ≡ expansion_of self.now) }
+    {
+        let part = self.part.try_clone()?;
+        let ends = self.ends.clone()?;
+        Ok(Expanded { part, ends })
+    }
 }
 
 /// The first tick that ends at a place, 0 for the place before the first change. Takes time with the logarithm of the

@@ -63,7 +63,8 @@ fn expanded_length(ticked: &Ticked, width: u32) -> u64
     all
 }
 
-/// The log that a window makes of a log in ticks. Takes time and room in proportion to the log, whatever the width.
+/// The log that a window makes of a log in ticks. Takes time and room in proportion to the log, whatever
+/// the width. Clones of its part are cheap.
 pub fn expand(alloc: Global, ticked: &Ticked, width: u32) -> Result<Expanded, ExpandFault>
     requires some { 1 ≤ width }
     requires most { width ≤ 1000000 }
@@ -85,8 +86,6 @@ pub fn expand(alloc: Global, ticked: &Ticked, width: u32) -> Result<Expanded, Ex
         step(&mut list, ticked, width, i + 1)?;
         ends.push(list.len() as u32)?;
     }
-    Ok(Expanded {
-        part: Part::new(list),
-        ends,
-    })
+    let part = Part::new(list).share(alloc)?;
+    Ok(Expanded { part, ends })
 }

@@ -9,9 +9,13 @@
 mod expanded;
 mod expanding;
 mod fault;
+mod laws;
+mod tick_ends;
 mod ticked;
 
 pub use expanded::{Expanded, tick_at};
 pub use expanding::expand;
 pub use fault::ExpandFault;
+pub use laws::{a_valid_set_is_valid_for_the_windows, totals_are_those_of_the_windows};
+pub use tick_ends::TickEnds;
 pub use ticked::Ticked;

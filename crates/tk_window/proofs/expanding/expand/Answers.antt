@@ -52,10 +52,10 @@ returns-clause-sums c =
     let width = c.args.width in
     let ticks = c.args.ticked.now in
     let whole : c.loop-i.i ≡ length ticks = omega arith in
-    let part : c.new.result ≡ up_to width ticks (length ticks) = c.new.ensures ∙ c.loop-i.invariant.moved ∙ ap (up_to width ticks) whole in
+    let part : c.in_ok-part.part ≡ up_to width ticks (length ticks) = c.in_ok-part.ensures ∙ c.new.ensures ∙ c.loop-i.invariant.moved ∙ ap (up_to width ticks) whole in
     let ends : c.loop-i.ends.items ≡ map (λ t. length (up_to width ticks t)) (range_with_len 1 (length ticks)) = c.loop-i.invariant.ends ∙ ap (λ n. map (λ t. length (up_to width ticks t)) (range_with_len 1 n)) whole in
     rw (part, ends) (sums_to_window width ticks)
 
 pub returns-clause-objects : goal.returns-clause-objects
 returns-clause-objects c n all =
-    subst (AreOver n) (sym (c.new.ensures ∙ c.loop-i.invariant.moved)) (over_expanded n c.args.width c.args.ticked.now c.loop-i.i all)
+    subst (AreOver n) (sym (c.in_ok-part.ensures ∙ c.new.ensures ∙ c.loop-i.invariant.moved)) (over_expanded n c.args.width c.args.ticked.now c.loop-i.i all)
