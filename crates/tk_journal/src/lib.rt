@@ -28,7 +28,7 @@ pub use laws::{
     the_constraint_is_kept,
 };
 pub use noted::{KeptEpsilon, KeptPublication, Noted};
-pub use publication::Publication;
+pub use publication::{Publication, push_cut};
 pub use refusal::{CoordRefusal, RetuneRefusal};
 pub use rounds::{
     a_full_end_leaves_order, a_short_turn_leaves_order, a_wide_end_leaves_order, collects_rise,

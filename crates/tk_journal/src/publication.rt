@@ -69,7 +69,8 @@ fn push_bounds(line: &mut Vec<u8>, publication: &Publication, tuned: bool) -> Re
     Ok(())
 }
 
-fn push_cut(line: &mut Vec<u8>, cut: &Cut) -> Result<(), AllocError>
+/// Writes the places of each monitor behind a line.
+pub fn push_cut(line: &mut Vec<u8>, cut: &Cut) -> Result<(), AllocError>
     ensures { OnOk result (line.new.items ≡ line.old.items ++ cut_text cut.now) }
 {
     for i in 0..cut.len() {
