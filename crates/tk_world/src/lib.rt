@@ -25,6 +25,6 @@ pub use laws::{
 };
 pub use moved::Moved;
 pub use nodes::Nodes;
-pub use seat::Seat;
+pub use seat::{Seat, new_seat};
 pub use serializing::serialize;
 pub use world::World;

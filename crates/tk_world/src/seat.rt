@@ -1,6 +1,7 @@
 ghost use Rattle.std.specs.Prelude.{◌≡◌, map, IfOk};
 ghost use Rattle.tk_input.specs.Logs.{IsMonitor as IsMonitorOf};
 ghost use Rattle.tk_journal.specs.Readings.{monitors};
+ghost use Rattle.tk_trail.specs.Setup.{IsSetup};
 ghost use Rattle.tk_world.specs.Nodes.{AtSeat, HasSeat, sent_to};
 ghost use Rattle.tk_world.specs.Nodes.{fresh_seat};
 ghost use Rattle.tk_world.specs.Seats.{are_links_empty, is_quiet_seat, is_resting_seat, sends_nothing};
@@ -58,7 +59,7 @@ fn is_nothing(checked: Checked) -> bool
 }
 
 /// A monitor of some logs that has taken and sent nothing.
-fn new_seat(
+pub fn new_seat(
     alloc: Global,
     settings: &Settings,
     logs: &Logs,
@@ -67,7 +68,8 @@ fn new_seat(
 ) -> Result<Seat, NoMemory>
     requires run { CanRun settings.now logs.now from.now }
     requires monitor { IsMonitorOf logs.now mon.0 }
-    ensures { IfOk result (λ seat. seat ≡ fresh_seat settings.now logs.now from.now mon.0) }
+    ensures value { IfOk result (λ seat. seat ≡ fresh_seat settings.now logs.now from.now mon.0) }
+    ensures setup { IfOk result (λ seat. IsSetup seat.monitor.setup) }
 {
     let parts = logs.parts(alloc, mon)?;
     let places = from.at(mon.0 as usize - 1);

@@ -7,5 +7,5 @@ use Rattle.tk_world.proofs.seat.new_seats.Goals as goal
 pub loop-j-preserved : goal.loop-j-preserved
 loop-j-preserved c =
     c.in_ok-push.ensures.items
-    ∙ ap₂ (λ (seats : List Seat) (seat : Seat). seats ++ seat ∷ []) c.loop-j.invariant c.in_ok-new_seat.ensures
+    ∙ ap₂ (λ (seats : List Seat) (seat : Seat). seats ++ seat ∷ []) c.loop-j.invariant c.in_ok-new_seat.ensures.value
     ∙ sym (listed_more (fresh_seat c.args.settings.now c.args.logs.now c.args.from.now) c.loop-j.j)
