@@ -351,6 +351,7 @@ turns_concluded {W} turn old mid after last lines course w closes on =
       course = on;
       greeted = w.greeted;
       welcome = w.welcome;
+      counts = w.counts;
       greets = w.greets;
       memory = w.memory;
       exchanges = exchanges_concluded turn (record { run = old.run; coordinator = old.coordinator; links = w.greeted.links }) mid before last lines refl closes w.exchanges;

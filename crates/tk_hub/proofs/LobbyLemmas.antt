@@ -1,12 +1,12 @@
 -- Connections that are greeted, key by key.
 use Rattle.std.proofs.Common.{◌≡◌, ◌↔◌, ◌+◌, ℕ, suc, List, Option, Some, None, Result, Ok, Err, refl, sym, ap, ◌∙◌, subst, arith, inl, inr}
-use Rattle.std.specs.Prelude.{IsErr, OnOk}
+use Rattle.std.specs.Prelude.{IsErr}
 use Rattle.slab.specs.Slab.{Slab, Updates, get, slab_len}
 use Rattle.tk_base.specs.declared.ids.Mon.{Mon}
 use Rattle.tk_base.specs.declared.memory.NoMemory.{NoMemory}
 use Rattle.tk_end.specs.Link.{LinkView}
-use Rattle.tk_wire.specs.Meanings.{raised_by}
-use Rattle.tk_hub.specs.Door.{DoorView, GreetsAt, GreetsSlot, GreetsUpTo, IsAnswered, IsTakenOut, IsTurnedAway, IsWelcomed, LobbyView, StaysHeld}
+use Rattle.tk_wire.specs.Meanings.{Counts, raised_by}
+use Rattle.tk_hub.specs.Door.{DoorView, GreetsAt, GreetsHeld, GreetsSlot, GreetsSome, GreetsUpTo, IsAnswered, IsTakenOut, IsTurnedAway, IsWelcomed, LobbyView, StaysHeld}
 use Rattle.tk_hub.specs.Seats.{SeatsView}
 use Rattle.tk_hub.specs.Visitor.{Gathers, Greets, VisitorView}
 use Rattle.tk_hub.specs.declared.visitor.Greeting.{Greeting}
@@ -50,35 +50,39 @@ taken_out run monitors key strangers mon after held mid s t links later is p n e
     (record { updates = subst (λ h. Updates held h key None) (sym e) p; count = subst (λ h. slab_len h + 1 ≡ slab_len held) (sym e) n }, welcomed run monitors mon after held mid strangers links (record { lobby = t; links = later }) w)
 
 -- the connection that is held there is greeted, and answered
-pub greets_here : {W : Type 0} (run told monitors key strangers : ℕ) (result : Result (Unit {0}) NoMemory) (greeting : Greeting) (v after : VisitorView W) (held : Slab (VisitorView W)) (s : LobbyView W) (links : List (Option (LinkView W))) (new : DoorView W) → record { held = held; strangers = strangers } ≡ s → Some v ≡ get held key → told ≡ run → Greets told greeting v after → Gathers v after → IsAnswered run monitors key greeting after (record { lobby = s; links = links }) new → IsErr result ↔ (greeting ≡ g.NoMemory) → GreetsAt run monitors key result (record { lobby = s; links = links }) new
-greets_here {W} run told monitors key strangers result greeting v after held s links new is at same p q a m =
+pub greets_here : {W : Type 0} (counts : W → Counts) (run told monitors key strangers : ℕ) (result : Result (Unit {0}) NoMemory) (greeting : Greeting) (v after : VisitorView W) (held : Slab (VisitorView W)) (s : LobbyView W) (links : List (Option (LinkView W))) (new : DoorView W) → record { held = held; strangers = strangers } ≡ s → Some v ≡ get held key → told ≡ run → Greets told greeting v after → Gathers v after → counts after.wire ≡ after.counts → IsAnswered run monitors key greeting after (record { lobby = s; links = links }) new → IsErr result ↔ (greeting ≡ g.NoMemory) → GreetsAt counts run monitors key result (record { lobby = s; links = links }) new
+greets_here {W} counts run told monitors key strangers result greeting v after held s links new is at same p q t a m =
     let old : DoorView W = record { lobby = s; links = links } in
-    subst (λ slot. GreetsSlot run monitors key result slot old new) (at ∙ ap (λ x. get x.held key) is) (record {
+    subst (λ slot. GreetsSlot counts run monitors key result slot old new) (at ∙ ap (λ x. get x.held key) is) (record {
       after = after;
       greeting = greeting;
       greets = subst (λ n. Greets n greeting v after) same p;
       gathers = q;
+      counted = t;
       answered = a;
       memory = m;
     })
 
-pub greets_more : {W : Type 0} (run monitors key : ℕ) (result : Result (Unit {0}) NoMemory) (old mid new : DoorView W) → GreetsUpTo run monitors key old mid → GreetsAt run monitors key result mid new → GreetsUpTo run monitors (key + 1) old new
-greets_more run monitors key result old mid new p q =
+pub greets_more : {W : Type 0} (counts : W → Counts) (run monitors key : ℕ) (old mid new : DoorView W) → GreetsUpTo counts run monitors key old mid → GreetsAt counts run monitors key (Ok tt) mid new → GreetsUpTo counts run monitors (key + 1) old new
+greets_more counts run monitors key old mid new p q =
     let next : suc key ≡ key + 1 = omega arith in
-    subst (λ k. GreetsUpTo run monitors k old new) next (mid, p, (result, q))
+    subst (λ k. GreetsUpTo counts run monitors k old new) next (mid, p, q)
 
--- one more key, over seats whose run and settings are as they were
-pub greets_step : {W : Type 0} (seats now : SeatsView W) (key : ℕ) (result : Result (Unit {0}) NoMemory) (old mid new : DoorView W) → now ≡ record seats { links = now.links } → GreetsUpTo seats.run seats.coordinator.settings.monitors key old mid → GreetsAt now.run now.coordinator.settings.monitors key result mid new → GreetsUpTo seats.run seats.coordinator.settings.monitors (key + 1) old new
-greets_step seats now key result old mid new is p q =
+-- a key is greeted, over seats whose run and settings are as they were
+pub greets_same : {W : Type 0} (counts : W → Counts) (seats now : SeatsView W) (key : ℕ) (result : Result (Unit {0}) NoMemory) (mid new : DoorView W) → now ≡ record seats { links = now.links } → GreetsAt counts now.run now.coordinator.settings.monitors key result mid new → GreetsAt counts seats.run seats.coordinator.settings.monitors key result mid new
+greets_same counts seats now key result mid new is q =
     let run = ap (λ s. s.run) is in
     let monitors = ap (λ s. s.coordinator.settings.monitors) is in
-    greets_more seats.run seats.coordinator.settings.monitors key result old mid new p
-    (subst (λ n. GreetsAt n seats.coordinator.settings.monitors key result mid new) run (subst (λ m. GreetsAt now.run m key result mid new) monitors q))
+    subst (λ n. GreetsAt counts n seats.coordinator.settings.monitors key result mid new) run (subst (λ m. GreetsAt counts now.run m key result mid new) monitors q)
 
--- what holds of a value alone holds of an error
-pub never_ok : (r : Result (Unit {0}) NoMemory) (P : Type 0) → IsErr r → OnOk r P
-never_ok (Ok x) P e = absurd (cc)
-never_ok (Err x) P e = tt
+-- one more key
+pub greets_step : {W : Type 0} (counts : W → Counts) (seats now : SeatsView W) (key : ℕ) (old mid new : DoorView W) → now ≡ record seats { links = now.links } → GreetsUpTo counts seats.run seats.coordinator.settings.monitors key old mid → GreetsAt counts now.run now.coordinator.settings.monitors key (Ok tt) mid new → GreetsUpTo counts seats.run seats.coordinator.settings.monitors (key + 1) old new
+greets_step counts seats now key old mid new is p q = greets_more counts seats.run seats.coordinator.settings.monitors key old mid new p (greets_same counts seats now key (Ok tt) mid new is q)
+
+-- the greeting behind some of the first found no memory
+pub greets_wanting : {W : Type 0} (counts : W → Counts) (run monitors : ℕ) (result : Result (Unit {0}) NoMemory) (old new : DoorView W) → IsErr result → GreetsSome counts run monitors old new → GreetsHeld counts run monitors result old new
+greets_wanting counts run monitors (Ok x) old new wants some = absurd (cc)
+greets_wanting counts run monitors (Err e) old new wants some = some
 
 -- seats that twice changed in their links alone
 pub links_alone : {W : Type 0} (a b c : SeatsView W) → b ≡ record a { links = b.links } → c ≡ record b { links = c.links } → c ≡ record a { links = c.links }

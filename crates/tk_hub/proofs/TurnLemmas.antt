@@ -15,6 +15,7 @@ use Rattle.tk_hub.proofs.HearLemmas.{passes_same, steady_same}
 use Rattle.tk_hub.proofs.SayLemmas.{counts_from, steady_from}
 use Rattle.tk_hub.proofs.SeatsLemmas.{front_size}
 use Rattle.tk_hub.specs.Desk.{getting}
+use Rattle.tk_wire.specs.Meanings.{Counts}
 use Rattle.tk_hub.specs.Door.{GreetsHeld, LobbyView}
 use Rattle.tk_hub.specs.Hub.{EachOpen, Exchanges, IsFinishedBy, SlotPasses, Works}
 use Rattle.tk_ledger.specs.Text.{is_tuned}
@@ -137,12 +138,13 @@ open_set links p y within is each = λ i. elim (cases_eq i p) [
 pub no_error : (welcome : Result (Unit {0}) NoMemory) → is_err welcome ≡ false → IsErr welcome → ⊥
 no_error welcome none is = absurd (false≢true (sym none ∙ is))
 
-pub works_of : {W : Type 0} (turn : HubTurn) (welcome : Result (Unit {0}) NoMemory) (old : SeatsView W) (before : LobbyView W) (met : SeatsView W) (after : LobbyView W) (new : SeatsView W) (lines : Lines)
-    → GreetsHeld old.run old.coordinator.settings.monitors welcome (record { lobby = before; links = old.links }) (record { lobby = after; links = met.links }) → met ≡ record old { links = met.links } → (IsErr welcome → turn ≡ t.NoMemory)
+pub works_of : {W : Type 0} (counts : W → Counts) (turn : HubTurn) (welcome : Result (Unit {0}) NoMemory) (old : SeatsView W) (before : LobbyView W) (met : SeatsView W) (after : LobbyView W) (new : SeatsView W) (lines : Lines)
+    → GreetsHeld counts old.run old.coordinator.settings.monitors welcome (record { lobby = before; links = old.links }) (record { lobby = after; links = met.links }) → met ≡ record old { links = met.links } → (IsErr welcome → turn ≡ t.NoMemory)
     → Exchanges turn met new lines → Works turn old before new after lines
-works_of {W} turn welcome old before met after new lines greets is memory exchanges = record {
+works_of {W} counts turn welcome old before met after new lines greets is memory exchanges = record {
   greeted = record { lobby = after; links = met.links };
   welcome = welcome;
+  counts = counts;
   greets = greets;
   memory = memory;
   exchanges = subst (λ (v : SeatsView W). Exchanges turn v new lines) is exchanges;

@@ -161,7 +161,7 @@ read_is_long found frame old new is reads = let leaves : Leaves frame old new = 
 -- ---- one greeting at most
 
 -- a Hello begins with its length
-hello_first : (run : ℕ) (guest : Guest) (bytes : List ℕ) → BeginsWithHello run guest bytes → take 4 bytes ≡ 0 ∷ 0 ∷ 0 ∷ 14 ∷ []
+pub hello_first : (run : ℕ) (guest : Guest) (bytes : List ℕ) → BeginsWithHello run guest bytes → take 4 bytes ≡ 0 ∷ 0 ∷ 0 ∷ 14 ∷ []
 hello_first run guest bytes stands =
     let text : List ℕ = payload 1 (hello_of run guest) in
     let whole : length (framed text) ≡ 18 = length-spelling (hello_of run guest) in

@@ -1,5 +1,5 @@
 -- Connections that have said no Hello yet, and what a greeting does with each.
-use Rattle.std.specs.Prelude.{◌≡◌, ◌⊎◌, ℕ, ◌+◌, ◌-◌, ◌≤◌, zero, suc, Bool, List, [], length, set, Option, Some, None, Result, Ok, OnOk, IsErr, ◌↔◌}
+use Rattle.std.specs.Prelude.{◌≡◌, ◌⊎◌, ℕ, ◌+◌, ◌-◌, ◌≤◌, zero, suc, Bool, List, [], length, set, Option, Some, None, Result, Ok, Err, IsErr, ◌↔◌}
 use Rattle.slab.specs.Slab.{Slab, Updates, get, slab_len}
 use Rattle.tk_base.specs.declared.ids.Mon.{Mon}
 use Rattle.tk_base.specs.declared.memory.NoMemory.{NoMemory}
@@ -72,31 +72,45 @@ IsAnswered run monitors key g.NoMemory after old new = StaysHeld key after old n
 IsAnswered run monitors key g.Strange after old new = IsTakenOut key old new × IsTurnedAway old new
 IsAnswered run monitors key (g.Hello guest) after old new = IsTakenOut key old new × IsWelcomed run monitors guest.mon after old new
 
--- a held connection is greeted: bytes came, and it is answered by what they say
-pub record GreetsOne {W : Type 0} (run monitors key : ℕ) (result : Result (Unit {0}) NoMemory) (v : VisitorView W) (old new : DoorView W) : Type 0 where
+-- a held connection is greeted: bytes came, and it is answered by what they say; its counts are still those of its wire
+pub record GreetsOne {W : Type 0} (counts : W → Counts) (run monitors key : ℕ) (result : Result (Unit {0}) NoMemory) (v : VisitorView W) (old new : DoorView W) : Type 0 where
   pub after : VisitorView W
   pub greeting : Greeting
   pub greets : Greets run greeting v after
   pub gathers : Gathers v after
+  pub counted : counts after.wire ≡ after.counts
   pub answered : IsAnswered run monitors key greeting after old new
   pub memory : IsErr result ↔ (greeting ≡ g.NoMemory)
 
 -- at a key, where a connection may be held
-abbrev pub GreetsSlot : {W : Type 0} → ℕ → ℕ → ℕ → Result (Unit {0}) NoMemory → Option (VisitorView W) → DoorView W → DoorView W → Type 0
-GreetsSlot run monitors key result None old new = (new ≡ old) × (result ≡ Ok tt)
-GreetsSlot run monitors key result (Some v) old new = GreetsOne run monitors key result v old new
+abbrev pub GreetsSlot : {W : Type 0} → (W → Counts) → ℕ → ℕ → ℕ → Result (Unit {0}) NoMemory → Option (VisitorView W) → DoorView W → DoorView W → Type 0
+GreetsSlot counts run monitors key result None old new = (new ≡ old) × (result ≡ Ok tt)
+GreetsSlot counts run monitors key result (Some v) old new = GreetsOne counts run monitors key result v old new
 
-abbrev pub GreetsAt : {W : Type 0} → ℕ → ℕ → ℕ → Result (Unit {0}) NoMemory → DoorView W → DoorView W → Type 0
-GreetsAt run monitors key result old new = GreetsSlot run monitors key result (get old.lobby.held key) old new
+abbrev pub GreetsAt : {W : Type 0} → (W → Counts) → ℕ → ℕ → ℕ → Result (Unit {0}) NoMemory → DoorView W → DoorView W → Type 0
+GreetsAt counts run monitors key result old new = GreetsSlot counts run monitors key result (get old.lobby.held key) old new
 
--- at each of so many keys, ascending
-abbrev pub GreetsUpTo : {W : Type 0} → ℕ → ℕ → ℕ → DoorView W → DoorView W → Type 0
-GreetsUpTo run monitors zero old new = new ≡ old
-GreetsUpTo {W} run monitors (suc key) old new =
-    (mid : DoorView W) × GreetsUpTo run monitors key old mid × ((result : Result (Unit {0}) NoMemory) × GreetsAt run monitors key result mid new)
+-- at each of so many keys, ascending, where each greeting found the memory
+abbrev pub GreetsUpTo : {W : Type 0} → (W → Counts) → ℕ → ℕ → ℕ → DoorView W → DoorView W → Type 0
+GreetsUpTo counts run monitors zero old new = new ≡ old
+GreetsUpTo {W} counts run monitors (suc key) old new =
+    (mid : DoorView W) × GreetsUpTo counts run monitors key old mid × GreetsAt counts run monitors key (Ok tt) mid new
 
--- each connection that was held is greeted, or some of the first where a greeting found no memory
-pub record GreetsHeld {W : Type 0} (run monitors : ℕ) (result : Result (Unit {0}) NoMemory) (old new : DoorView W) : Type 0 where
+-- each connection that was held is greeted
+pub record GreetsAll {W : Type 0} (counts : W → Counts) (run monitors : ℕ) (old new : DoorView W) : Type 0 where
   pub keys : ℕ
-  pub greets : GreetsUpTo run monitors keys old new
-  pub all : OnOk result (length old.lobby.held.slots ≤ keys)
+  pub greets : GreetsUpTo counts run monitors keys old new
+  pub all : length old.lobby.held.slots ≤ keys
+
+-- some of the first are, and the greeting behind them found no memory
+pub record GreetsSome {W : Type 0} (counts : W → Counts) (run monitors : ℕ) (old new : DoorView W) : Type 0 where
+  pub keys : ℕ
+  pub mid : DoorView W
+  pub greets : GreetsUpTo counts run monitors keys old mid
+  pub last : Result (Unit {0}) NoMemory
+  pub wants : IsErr last
+  pub greeted : GreetsAt counts run monitors keys last mid new
+
+abbrev pub GreetsHeld : {W : Type 0} → (W → Counts) → ℕ → ℕ → Result (Unit {0}) NoMemory → DoorView W → DoorView W → Type 0
+GreetsHeld counts run monitors (Ok done) old new = GreetsAll counts run monitors old new
+GreetsHeld counts run monitors (Err e) old new = GreetsSome counts run monitors old new

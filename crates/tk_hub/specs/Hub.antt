@@ -4,6 +4,7 @@ use Rattle.slab.specs.Slab.{Slab, slab_len}
 use Rattle.tk_base.specs.declared.memory.NoMemory.{NoMemory}
 use Rattle.tk_coord.specs.Coordinator.{CoordinatorView}
 use Rattle.tk_journal.specs.Readings.{is_stopped}
+use Rattle.tk_wire.specs.Meanings.{Counts}
 use Rattle.tk_end.specs.Link.{LinkView, Passes}
 use Rattle.tk_hub.specs.Door.{DoorView, GreetsHeld, LobbyView}
 use Rattle.tk_hub.specs.Lines.{IsAt}
@@ -112,7 +113,8 @@ pub record Turns {W : Type 0} (turn : HubTurn) (old new : HubView W) : Type 0 wh
   pub course : new.course ≡ course_of turn
   pub greeted : DoorView W
   pub welcome : Result (Unit {0}) NoMemory
-  pub greets : GreetsHeld old.run old.coordinator.settings.monitors welcome (door_of old) greeted
+  pub counts : W → Counts
+  pub greets : GreetsHeld counts old.run old.coordinator.settings.monitors welcome (door_of old) greeted
   pub memory : IsErr welcome → turn ≡ t.NoMemory
   pub exchanges : Exchanges turn (record { run = old.run; coordinator = old.coordinator; links = greeted.links }) (seats_of new) new.lines
   pub strangers : new.strangers ≡ greeted.lobby.strangers
@@ -122,7 +124,8 @@ pub record Turns {W : Type 0} (turn : HubTurn) (old new : HubView W) : Type 0 wh
 pub record Works {W : Type 0} (turn : HubTurn) (old : SeatsView W) (before : LobbyView W) (new : SeatsView W) (after : LobbyView W) (lines : Lines) : Type 0 where
   pub greeted : DoorView W
   pub welcome : Result (Unit {0}) NoMemory
-  pub greets : GreetsHeld old.run old.coordinator.settings.monitors welcome (record { lobby = before; links = old.links }) greeted
+  pub counts : W → Counts
+  pub greets : GreetsHeld counts old.run old.coordinator.settings.monitors welcome (record { lobby = before; links = old.links }) greeted
   pub memory : IsErr welcome → turn ≡ t.NoMemory
   pub exchanges : Exchanges turn (record { run = old.run; coordinator = old.coordinator; links = greeted.links }) new lines
   pub lobby : after ≡ greeted.lobby

@@ -196,7 +196,8 @@ impl<W: Wire + Drop> Hub<W> {
     /// Pulls from each connection without a Hello until its first frame is whole, and admits or closes it.
     pub fn greet(&mut self) -> Result<(), NoMemory>
         requires { self.old.course ≡ Course.Open }
-        ensures greets { GreetsHeld self.old.run (monitors_of (seats_of self.old)) result (door_of self.old) (door_of self.new) }
+        ensures greets { GreetsHeld W.counts self.old.run (monitors_of (seats_of self.old)) result
+            (door_of self.old) (door_of self.new) }
         ensures more { self.old.strangers ≤ self.new.strangers }
         ensures rest { self.new ≡ with_door (door_of self.new) self.old }
         ensures kept { IsHub self.new }

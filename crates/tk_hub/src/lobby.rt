@@ -128,7 +128,7 @@ impl<W: Wire + Drop> Lobby<W> {
 
     /// Pulls from the connection at a key until its first frame is whole, and admits or closes it.
     fn greet_at(&mut self, seats: &mut Seats<W>, key: usize) -> Result<(), NoMemory>
-        ensures greets { GreetsAt seats.old.run (monitors_of seats.old) key result
+        ensures greets { GreetsAt W.counts seats.old.run (monitors_of seats.old) key result
             (door self.old seats.old) (door self.new seats.new) }
         ensures rest { seats.new ≡ record seats.old { links = seats.new.links } }
         ensures kept { AreSeats seats.old → AreSeats seats.new }
@@ -161,7 +161,7 @@ impl<W: Wire + Drop> Lobby<W> {
 
     /// Pulls from each connection until its first frame is whole, and admits or closes it.
     pub fn greet(&mut self, seats: &mut Seats<W>) -> Result<(), NoMemory>
-        ensures greets { GreetsHeld seats.old.run (monitors_of seats.old) result
+        ensures greets { GreetsHeld W.counts seats.old.run (monitors_of seats.old) result
             (door self.old seats.old) (door self.new seats.new) }
         ensures rest { seats.new ≡ record seats.old { links = seats.new.links } }
         ensures kept { AreSeats seats.old → AreSeats seats.new }

@@ -131,6 +131,7 @@ impl<W: Wire> Visitor<W> {
     fn pull(&mut self) -> Pulled
         ensures pulls { Pulls result self.old.tells self.old.bytes self.new.bytes self.old.traffic self.new.traffic }
         ensures counted { self.new.counts ≡ counts_pulled result self.old.counts }
+        ensures told { W.counts self.new.wire ≡ self.new.counts }
         ensures same { (self.new.tells ≡ self.old.tells) × (self.new.front ≡ self.old.front) }
     {
         self.came.pull(&mut self.wire)
@@ -140,6 +141,7 @@ impl<W: Wire> Visitor<W> {
     fn greeting(&mut self, run: u64) -> Option<Greeting>
         ensures some { IfSome result (Says run self.new.bytes self.new.front) }
         ensures none { IfNone result (IsAwaited self.new.bytes) }
+        ensures told { W.counts self.new.wire ≡ self.new.counts }
         ensures rest { self.new ≡ record self.old { front = self.new.front } }
     {
         let frame = match self.front.take() {
@@ -160,6 +162,7 @@ impl<W: Wire> Visitor<W> {
         ensures some { IfSome result (λ greeting. Greets run greeting self.old self.new) }
         ensures none { IfNone result (HasMore self.old self.new) }
         ensures gathers { Gathers self.old self.new }
+        ensures told { W.counts self.new.wire ≡ self.new.counts }
     {
         if let Some(greeting) = self.greeting(run) {
             return Some(greeting);
@@ -182,6 +185,7 @@ impl<W: Wire> Visitor<W> {
         ensures strange { IsStrange run self.new.bytes → IsUnlessMemory result Greeting.Strange }
         // Whatever is answered, all that came is kept.
         ensures gathers { Gathers self.old self.new }
+        ensures told { W.counts self.new.wire ≡ self.new.counts }
     {
         loop {
             if let Some(greeting) = self.hear(run) {

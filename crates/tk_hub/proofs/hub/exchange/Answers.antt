@@ -10,7 +10,7 @@ use Rattle.tk_hub.proofs.hub.exchange.Goals as goal
 
 pub returns-then-is_err-clause-works : goal.returns-then-is_err-clause-works
 returns-then-is_err-clause-works g c =
-    works_of t.NoMemory c.greet.result c.args.seats.now c.args.lobby.now c.greet.new.seats c.greet.new.self c.greet.new.seats c.args.lines.now c.greet.ensures.greets c.greet.ensures.rest (λ _. refl)
+    works_of g.W.Wire.counts t.NoMemory c.greet.result c.args.seats.now c.args.lobby.now c.greet.new.seats c.greet.new.self c.greet.new.seats c.args.lines.now c.greet.ensures.greets c.greet.ensures.rest (λ _. refl)
     (exchanges_nothing c.greet.new.seats c.args.lines.now)
 
 pub returns-then-is_err-clause-at : goal.returns-then-is_err-clause-at
@@ -22,7 +22,7 @@ returns-then-is_err-clause-lines g c = λ _. writes_nothing c.args.names.now c.g
 pub returns-then-not-goes_on-clause-works : goal.returns-then-not-goes_on-clause-works
 returns-then-not-goes_on-clause-works g c =
     let stops = sym c.goes_on.ensures ∙ c.if-not-goes_on.true in
-    works_of c.exchange-turn.result c.greet.result c.args.seats.now c.args.lobby.now c.greet.new.seats c.greet.new.self c.exchange-turn.new.self c.args.lines.now c.greet.ensures.greets c.greet.ensures.rest
+    works_of g.W.Wire.counts c.exchange-turn.result c.greet.result c.args.seats.now c.args.lobby.now c.greet.new.seats c.greet.new.self c.exchange-turn.new.self c.args.lines.now c.greet.ensures.greets c.greet.ensures.rest
     (λ failed. absurd (no_error c.greet.result (sym c.is_err.ensures.value ∙ c.if-is_err.false) failed))
     (exchanges_ended c.exchange-turn.result c.greet.new.seats c.exchange-turn.new.self c.args.lines.now stops c.exchange-turn.ensures.hears)
 
@@ -59,20 +59,20 @@ write-requires-clause-named g c =
 pub returns-in-Err-WriteFailed-clause-works : goal.returns-in-Err-WriteFailed-clause-works
 returns-in-Err-WriteFailed-clause-works g c =
     let on = sym c.goes_on.ensures ∙ c.if-not-goes_on.false in
-    works_of t.WriteFailed c.greet.result c.args.seats.now c.args.lobby.now c.greet.new.seats c.greet.new.self c.exchange-turn.new.self c.write.new.self c.greet.ensures.greets c.greet.ensures.rest
+    works_of g.W.Wire.counts t.WriteFailed c.greet.result c.args.seats.now c.args.lobby.now c.greet.new.seats c.greet.new.self c.exchange-turn.new.self c.write.new.self c.greet.ensures.greets c.greet.ensures.rest
     (λ failed. absurd (no_error c.greet.result (sym c.is_err.ensures.value ∙ c.if-is_err.false) failed))
     (exchanges_unwritten c.exchange-turn.result c.greet.new.seats c.exchange-turn.new.self c.write.new.self on c.exchange-turn.ensures.hears)
 
 pub returns-in-Err-NoMemory-clause-works : goal.returns-in-Err-NoMemory-clause-works
 returns-in-Err-NoMemory-clause-works g c =
     let on = sym c.goes_on.ensures ∙ c.if-not-goes_on.false in
-    works_of t.NoMemory c.greet.result c.args.seats.now c.args.lobby.now c.greet.new.seats c.greet.new.self c.exchange-turn.new.self c.write.new.self c.greet.ensures.greets c.greet.ensures.rest (λ _. refl)
+    works_of g.W.Wire.counts t.NoMemory c.greet.result c.args.seats.now c.args.lobby.now c.greet.new.seats c.greet.new.self c.exchange-turn.new.self c.write.new.self c.greet.ensures.greets c.greet.ensures.rest (λ _. refl)
     (exchanges_wanting c.exchange-turn.result c.greet.new.seats c.exchange-turn.new.self c.write.new.self on c.exchange-turn.ensures.hears)
 
 pub returns-then-is_finished-clause-works : goal.returns-then-is_finished-clause-works
 returns-then-is_finished-clause-works g c =
     let on = sym c.goes_on.ensures ∙ c.if-not-goes_on.false in
-    works_of t.Finished c.greet.result c.args.seats.now c.args.lobby.now c.greet.new.seats c.greet.new.self c.exchange-turn.new.self c.write.new.self c.greet.ensures.greets c.greet.ensures.rest
+    works_of g.W.Wire.counts t.Finished c.greet.result c.args.seats.now c.args.lobby.now c.greet.new.seats c.greet.new.self c.exchange-turn.new.self c.write.new.self c.greet.ensures.greets c.greet.ensures.rest
     (λ failed. absurd (no_error c.greet.result (sym c.is_err.ensures.value ∙ c.if-is_err.false) failed))
     (exchanges_finished c.exchange-turn.result c.greet.new.seats c.exchange-turn.new.self c.write.new.self on c.exchange-turn.ensures.hears (c.is_finished.ensures.0 c.if-is_finished.true))
 
@@ -80,6 +80,6 @@ pub returns-else-is_finished-clause-works : goal.returns-else-is_finished-clause
 returns-else-is_finished-clause-works g c =
     let on = sym c.goes_on.ensures ∙ c.if-not-goes_on.false in
     let journal = c.journal.ensures.value ∙ ap (λ k. k.journal) c.coordinator.ensures.value in
-    works_of c.exchange-turn.result c.greet.result c.args.seats.now c.args.lobby.now c.greet.new.seats c.greet.new.self c.exchange-turn.new.self c.write.new.self c.greet.ensures.greets c.greet.ensures.rest
+    works_of g.W.Wire.counts c.exchange-turn.result c.greet.result c.args.seats.now c.args.lobby.now c.greet.new.seats c.greet.new.self c.exchange-turn.new.self c.write.new.self c.greet.ensures.greets c.greet.ensures.rest
     (λ failed. absurd (no_error c.greet.result (sym c.is_err.ensures.value ∙ c.if-is_err.false) failed))
     (exchanges_written c.exchange-turn.result c.greet.new.seats c.exchange-turn.new.self c.write.new.self on c.exchange-turn.ensures.hears (c.exchange-turn.ensures.said on) (c.in-Ok.ensures.all ∙ ap length journal) (λ is. absurd (false≢true (sym c.if-is_finished.false ∙ c.is_finished.ensures.1 is))))

@@ -8,7 +8,7 @@ use Rattle.tk_hub.proofs.lobby.Lobby.greet.Given as goal
 -- the connections at the keys passed were greeted
 abbrev pub invariant-loop-key : goal.invariant-loop-key
 invariant-loop-key g l =
-    GreetsUpTo l.initial.seats.run l.initial.seats.coordinator.settings.monitors l.key (record { lobby = l.initial.self; links = l.initial.seats.links }) (record { lobby = l.self; links = l.seats.links })
+    GreetsUpTo g.W.Wire.counts l.initial.seats.run l.initial.seats.coordinator.settings.monitors l.key (record { lobby = l.initial.self; links = l.initial.seats.links }) (record { lobby = l.self; links = l.seats.links })
     × (l.seats ≡ record l.initial.seats { links = l.seats.links })
     × (AreSeats l.initial.seats → AreSeats l.seats)
     × (EachOpen l.initial.seats.links → EachOpen l.seats.links)
