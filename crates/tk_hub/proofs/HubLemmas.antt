@@ -289,6 +289,10 @@ closes_open : {W : Type 0} (p : Bool) (before after : DoorView W) → Closes p b
 closes_open true before after closes is = closes
 closes_open false before after closes is = absurd (false≢true is)
 
+closes_shut : {W : Type 0} (p : Bool) (before after : DoorView W) → Closes p before after → p ≡ false → EachShuts before.links after.links
+closes_shut true before after closes is = absurd (false≢true (sym is))
+closes_shut false before after closes is = closes.0
+
 pub closes_count : {W : Type 0} (p : Bool) (before after : DoorView W) → Closes p before after → after.lobby.strangers ≡ before.lobby.strangers
 closes_count true before after closes = ap (λ d. d.lobby.strangers) closes
 closes_count false before after closes = closes.2
@@ -318,6 +322,7 @@ turns_one {W} mon turn old y b after course is h there hears closes on =
       ends = last.ends;
       counts = last.counts;
       others = λ open_ place apart. ap (λ d. link_at d.links place) (closes_open (is_open (course_of turn)) before after closes open_) ∙ get_or-set_other old.links (mon - 1) place y None apart;
+      others_shut = λ shut place apart. subst (λ x. SeatShuts x (link_at after.links place)) (get_or-set_other old.links (mon - 1) place y None apart) (closes_shut (is_open (course_of turn)) before after closes shut place);
       held = λ open_. ap (λ d. d.lobby.held) (closes_open (is_open (course_of turn)) before after closes open_);
     }
 

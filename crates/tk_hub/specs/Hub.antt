@@ -8,7 +8,7 @@ use Rattle.tk_wire.specs.Meanings.{Counts}
 use Rattle.tk_end.specs.Link.{LinkView, Passes}
 use Rattle.tk_hub.specs.Door.{DoorView, GreetsHeld, LobbyView}
 use Rattle.tk_hub.specs.Lines.{IsAt}
-use Rattle.tk_hub.specs.Seats.{AreSeats, EachShuts, IsAllGiven, SeatsView, link_at}
+use Rattle.tk_hub.specs.Seats.{AreSeats, EachShuts, IsAllGiven, SeatShuts, SeatsView, link_at}
 use Rattle.tk_hub.specs.Slot.{EndsOne, TakesUpTo}
 use Rattle.tk_hub.specs.Turn.{CountsAt, CountsEach, EachSaid, EndsEach, GivesPieces, HoldsAt, IsBadAt, IsRefusedAt, Reaches, SomeLost, course_of, goes_on, is_open}
 use Rattle.tk_hub.specs.Visitor.{VisitorView}
@@ -151,4 +151,5 @@ pub record TurnsOne {W : Type 0} (mon : ℕ) (turn : HubTurn) (old new : HubView
   pub ends : EndsOne mon new.coordinator now turn
   pub counts : CountsAt mon new.coordinator before now turn
   pub others : is_open (course_of turn) ≡ true → (place : ℕ) → (place ≡ mon - 1 → ⊥) → link_at new.links place ≡ link_at old.links place
+  pub others_shut : is_open (course_of turn) ≡ false → (place : ℕ) → (place ≡ mon - 1 → ⊥) → SeatShuts (link_at old.links place) (link_at new.links place)
   pub held : is_open (course_of turn) ≡ true → new.held ≡ old.held

@@ -1,12 +1,12 @@
 -- The printed lines of a journal, and how far they are written.
-use Rattle.std.specs.Prelude.{◌≡◌, ℕ, ◌+◌, ◌≤◌, ◌++◌, ◌||◌, List, length, take, slice_range, Option, Result, Ok, Err, ⊤}
+use Rattle.std.specs.Prelude.{◌≡◌, ℕ, ◌+◌, ◌≤◌, ◌++◌, ◌||◌, List, [], length, take, unwrap_or, slice_range, Option, Result, Ok, Err, ⊤}
 use Rattle.std.specs.List.{All, concat, list_any}
 use Rattle.tk_input.specs.Files.{one_more}
 use Rattle.tk_input.specs.Sink.{Grows}
 use Rattle.tk_journal.specs.Publishing.{publications}
 use Rattle.tk_journal.specs.declared.noted.Noted.{Noted}
 use Rattle.tk_journal.specs.declared.noted.Noted.TheVariants as n
-use Rattle.tk_ledger.specs.Text.{is_tuned, lines_of}
+use Rattle.tk_ledger.specs.Text.{is_tuned, line_at, lines_of}
 use Rattle.tk_hub.specs.declared.lines.LineFault.{LineFault}
 use Rattle.tk_hub.specs.declared.lines.LineFault.TheVariants as fault
 use Rattle.tk_hub.specs.declared.lines.Lines.{Lines}
@@ -24,6 +24,10 @@ AreNamed names (n.Tuned k epsilon) = ⊤
 pub record IsAt (journal : List Noted) (lines : Lines) : Type 0 where
   pub within : lines.passed ≤ length journal
   pub tuned : lines.tuned ≡ list_any is_tuned (take lines.passed journal)
+
+-- the line of the next entry, and no text where it has none
+abbrev pub line_of : List (List ℕ) → Lines → Noted → List ℕ
+line_of names lines entry = unwrap_or (line_at names lines.tuned entry) []
 
 -- one more entry was passed
 abbrev pub passing : Noted → Lines → Lines

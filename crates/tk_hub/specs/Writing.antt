@@ -1,8 +1,11 @@
 -- What a turn writes of the lines that a journal publishes.
-use Rattle.std.specs.Prelude.{◌≡◌, ℕ, List, Option}
+use Rattle.std.specs.Prelude.{◌≡◌, ◌≤◌, ℕ, List, length, Option}
+use Rattle.std.specs.List.{concat}
+use Rattle.tk_base.specs.History.{IsFront}
 use Rattle.tk_input.specs.Sink.{Grows}
 use Rattle.tk_journal.specs.declared.noted.Noted.{Noted}
-use Rattle.tk_hub.specs.Lines.{IsCutShort, text_between, text_from, written_in}
+use Rattle.tk_ledger.specs.Text.{lines_of}
+use Rattle.tk_hub.specs.Lines.{IsAt, IsCutShort, text_between, text_from, text_written, written_in}
 use Rattle.tk_hub.specs.declared.course.HubTurn.{HubTurn}
 use Rattle.tk_hub.specs.declared.course.HubTurn.TheVariants as t
 use Rattle.tk_hub.specs.declared.lines.Lines.{Lines}
@@ -15,6 +18,19 @@ WritesLines names journal from to old new = Grows old new (text_between names jo
 abbrev pub CutsLine : List (List ℕ) → List Noted → Lines → Lines → Option (List ℕ) → Option (List ℕ) → Type 0
 CutsLine names journal from to old new =
     IsCutShort (text_between names journal (written_in journal from) (written_in journal to)) (text_from names journal (written_in journal to)) old new
+
+-- what is written of a journal stays so as it grows
+abbrev pub TextStays : List (List ℕ) → List Noted → List Noted → Lines → Type 0
+TextStays names old new lines = IsFront old new → IsAt old lines → text_written names new lines ≡ text_written names old lines
+
+-- behind what was written of a journal's first entries, what one who goes on writes makes up what is written of more
+abbrev pub TextAddsUp : List (List ℕ) → List Noted → Lines → Lines → Type 0
+TextAddsUp names journal from to =
+    (a b c : Option (List ℕ)) → from.passed ≤ to.passed → Grows a b (text_written names journal from) → WritesLines names journal from to b c → Grows a c (text_written names journal to)
+
+-- where all entries are passed, the lines of all publications are written
+abbrev pub TextIsWhole : List (List ℕ) → List Noted → Lines → Type 0
+TextIsWhole names journal lines = lines.passed ≡ length journal → text_written names journal lines ≡ concat (lines_of names journal)
 
 -- the first where a turn did not fail to write, and the second where it did
 abbrev pub WritesUnless : HubTurn → List (List ℕ) → List Noted → Lines → Lines → Option (List ℕ) → Option (List ℕ) → Type 0

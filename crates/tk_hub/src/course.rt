@@ -109,6 +109,7 @@ impl Course {
         }
     }
 
+    /// Whether the hub goes on.
     pub fn is_open(self) -> bool
         ensures { result ≡ is_on self }
     {

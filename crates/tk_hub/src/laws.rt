@@ -1,14 +1,9 @@
 //! What holds of the journal with which a hub begins, and of the lines that it writes turn after turn.
 
-ghost use Rattle.std.specs.Prelude.{◌≡◌, ◌≤◌, ℕ, [], List, Option, length};
-ghost use Rattle.std.specs.List.{concat};
-ghost use Rattle.tk_base.specs.History.{IsFront};
-ghost use Rattle.tk_input.specs.Sink.{Grows};
+ghost use Rattle.std.specs.Prelude.{◌≡◌, ℕ, [], List};
 ghost use Rattle.tk_journal.specs.Legal.{Opening, inputs_of, opened};
 ghost use Rattle.tk_journal.specs.declared.noted.Noted.{Noted};
-ghost use Rattle.tk_ledger.specs.Text.{lines_of};
-ghost use Rattle.tk_hub.specs.Lines.{IsAt, text_written};
-ghost use Rattle.tk_hub.specs.Writing.{WritesLines};
+ghost use Rattle.tk_hub.specs.Writing.{TextAddsUp, TextIsWhole, TextStays};
 ghost use Rattle.tk_hub.specs.declared.lines.Lines.{Lines};
 
 /// The journal of a new coordinator has no input yet.
@@ -18,19 +13,15 @@ pub fn an_opening_has_no_input()
 
 /// What is written of a journal stays so as it grows.
 pub fn written_lines_stay()
-    ensures { (names : List (List ℕ)) (old new : List Noted) (lines : Lines)
-        → IsFront old new → IsAt old lines → text_written names new lines ≡ text_written names old lines }
+    ensures { (names : List (List ℕ)) (old new : List Noted) (lines : Lines) → TextStays names old new lines }
 {}
 
 /// The lines that are written turn after turn are those of the whole journal.
 pub fn written_lines_add_up()
-    ensures { (names : List (List ℕ)) (journal : List Noted) (from to : Lines) (a b c : Option (List ℕ))
-        → from.passed ≤ to.passed → Grows a b (text_written names journal from) → WritesLines names journal from to b c
-        → Grows a c (text_written names journal to) }
+    ensures { (names : List (List ℕ)) (journal : List Noted) (from to : Lines) → TextAddsUp names journal from to }
 {}
 
 /// Where all entries are passed, the lines of all publications are written.
 pub fn all_lines_are_written()
-    ensures { (names : List (List ℕ)) (journal : List Noted) (lines : Lines)
-        → lines.passed ≡ length journal → text_written names journal lines ≡ concat (lines_of names journal) }
+    ensures { (names : List (List ℕ)) (journal : List Noted) (lines : Lines) → TextIsWhole names journal lines }
 {}

@@ -1,9 +1,8 @@
-ghost use Rattle.std.specs.Prelude.{◌≡◌, ◌-◌, ◌^◌, ◌<◌, ◌≤◌, [], false, length, unwrap_or, IsErrOf, OnOk, OnErr};
+ghost use Rattle.std.specs.Prelude.{◌≡◌, ◌-◌, ◌^◌, ◌<◌, ◌≤◌, false, length, IsErrOf, OnOk, OnErr};
 ghost use Rattle.std.specs.List.{All};
 ghost use Rattle.tk_input.specs.Files.{HasRisen};
 ghost use Rattle.tk_input.specs.Sink.{Grows, GrowsByFront};
-ghost use Rattle.tk_ledger.specs.Text.{line_at};
-ghost use Rattle.tk_hub.specs.Lines.{AreNamed, IsAt, line_faults, passing};
+ghost use Rattle.tk_hub.specs.Lines.{AreNamed, IsAt, line_faults, line_of, passing};
 ghost use Rattle.tk_hub.specs.Writing.{CutsLine, WritesLines};
 ghost use Rattle.tk_hub.specs.declared.lines.LineFault.TheVariants.{NoMemory as OutOfMemory, WriteFailed as NotWritten};
 
@@ -65,11 +64,10 @@ impl Lines {
         requires named { AreNamed (length names.now) entry.now }
         ensures ok { OnOk result (self.new ≡ passing entry.now self.old) }
         ensures err { OnErr result (self.new ≡ self.old) }
-        ensures written { let line = unwrap_or (line_at names.now self.old.tuned entry.now) [] in
-            OnOk result (Grows (O.written out.old) (O.written out.new) line) }
+        ensures written { OnOk result (Grows (O.written out.old) (O.written out.new) (line_of names.now self.old entry.now)) }
         ensures memory { IsErrOf result LineFault.NoMemory → O.written out.new ≡ O.written out.old }
-        ensures failed { let line = unwrap_or (line_at names.now self.old.tuned entry.now) [] in
-            IsErrOf result LineFault.WriteFailed → GrowsByFront (O.written out.old) (O.written out.new) line }
+        ensures failed { IsErrOf result LineFault.WriteFailed
+            → GrowsByFront (O.written out.old) (O.written out.new) (line_of names.now self.old entry.now) }
         ensures counted { O.fault_count out.new ≡ line_faults result (O.fault_count out.old) }
     {
         match entry {

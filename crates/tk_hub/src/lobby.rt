@@ -60,6 +60,7 @@ impl<W: Wire + Drop> Lobby<W> {
         }
     }
 
+    /// How many were closed as strangers.
     pub fn strangers(&self) -> u64
         ensures { result ≡ self.now.strangers }
     {

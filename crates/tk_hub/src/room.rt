@@ -25,6 +25,7 @@ impl<W: Wire> Model for Room<W> {
 impl<W: Wire + Drop> Room<W> {
     ghost use Rattle.std.specs.Prelude.{◌≡◌, ◌≤◌, [], vec_capacity};
 
+    /// Takes the room.
     pub fn new(alloc: Global) -> Result<Room<W>, NoMemory> {
         let wires = Vec::with_capacity(alloc, MONITORS)?;
         Ok(Room { wires })

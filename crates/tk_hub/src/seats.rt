@@ -82,6 +82,7 @@ impl<W: Wire + Drop> Seats<W> {
 }
 
 impl<W: Wire + Drop> Seats<W> {
+    /// The coordinator.
     pub fn coordinator(&self) -> &Coordinator
         ensures value { result.now ≡ self.now.coordinator }
         ensures kept { AreSeats self.now }
@@ -177,6 +178,7 @@ impl<W: Wire + Drop> Seats<W> {
         hear_one(&mut self.links[mon.0 as usize - 1], &mut self.desk, mon)
     }
 
+    /// The number of the run.
     pub fn run(&self) -> u64
         ensures { result ≡ self.now.run }
     {
