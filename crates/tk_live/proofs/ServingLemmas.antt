@@ -18,7 +18,7 @@ here asked read command found is = ap served found ∙ ap (λ (c : Command). ser
 
 -- an input that has run
 pub ran : {words : List (List ℕ)} {told : List ℕ → Option (List ℕ)} {old new : List ℕ → ℕ} {before after : Option (List ℕ)} {taken taken_then : ℕ} (asked : LiveWords) (input : Input) (lived : Lived) (outcome : Outcome)
-    → served (words_of words) ≡ Some asked → Loads told old new asked.input (Ok input) → Concludes input asked.frames before after taken taken_then lived
+    → served (words_of words) ≡ Some asked → Loads told old new asked.sources (Ok input) → Concludes input asked.frames before after taken taken_then lived
     → outcome ≡ record { status = status_of lived.verdict; story = lived.story; ends = lived.ends } → EndsWords words told old new before after taken taken_then outcome
 ran {words} {told} {old} {new} {before} {after} {taken} {taken_then} asked input lived outcome is loads concludes made =
     let run : HasRun input asked.frames before after taken taken_then (record { status = status_of lived.verdict; story = lived.story; ends = lived.ends }) =
@@ -27,7 +27,7 @@ ran {words} {told} {old} {new} {before} {after} {taken} {taken_then} asked input
 
 -- files that give no input
 pub unread : {words : List (List ℕ)} {told : List ℕ → Option (List ℕ)} {old new : List ℕ → ℕ} {before : Option (List ℕ)} {taken : ℕ} (asked : LiveWords) (status : Status) (outcome : Outcome)
-    → served (words_of words) ≡ Some asked → Loads told old new asked.input (Err status)
+    → served (words_of words) ≡ Some asked → Loads told old new asked.sources (Err status)
     → outcome ≡ record { status = status; story = None; ends = None } → EndsWords words told old new before before taken taken outcome
 unread {words} {told} {old} {new} {before} {taken} asked status outcome is loads made =
     subst (EndsWords words told old new before before taken taken) (sym made) (Unread asked is loads (record { story = refl; ends = refl; unwritten = refl }))

@@ -43,5 +43,5 @@ pub record HasRun (input : Input) (version : ℕ) (before after : Option (List �
 pub data EndsWords (words : List (List ℕ)) (told : List ℕ → Option (List ℕ)) (old new : List ℕ → ℕ) (before after : Option (List ℕ)) (taken taken_then : ℕ) (outcome : Outcome) : Type 0 where
   Refused : served (words_of words) ≡ None → outcome.status ≡ s.Usage → IsUnstarted before after outcome → EndsWords words told old new before after taken taken_then outcome
   Unmet : outcome.status ≡ s.NoMemory → IsUnstarted before after outcome → EndsWords words told old new before after taken taken_then outcome
-  Unread : (asked : LiveWords) → served (words_of words) ≡ Some asked → Loads told old new asked.input (Err outcome.status) → IsUnstarted before after outcome → EndsWords words told old new before after taken taken_then outcome
-  Ran : (asked : LiveWords) (input : Input) → served (words_of words) ≡ Some asked → Loads told old new asked.input (Ok input) → HasRun input asked.frames before after taken taken_then outcome → EndsWords words told old new before after taken taken_then outcome
+  Unread : (asked : LiveWords) → served (words_of words) ≡ Some asked → Loads told old new asked.sources (Err outcome.status) → IsUnstarted before after outcome → EndsWords words told old new before after taken taken_then outcome
+  Ran : (asked : LiveWords) (input : Input) → served (words_of words) ≡ Some asked → Loads told old new asked.sources (Ok input) → HasRun input asked.frames before after taken taken_then outcome → EndsWords words told old new before after taken taken_then outcome

@@ -6,7 +6,7 @@ use Rattle.tk_input.specs.Judged.{Assigned}
 use Rattle.tk_input.specs.Logs.{LogSet}
 use Rattle.tk_input.specs.Order.{Ordered}
 use Rattle.tk_input.specs.Records.{and_then}
-use Rattle.tk_words.specs.Words.{ReplayWords}
+use Rattle.tk_words.specs.Words.{SourceWords}
 use Rattle.tk_load.specs.Faults.{Fault, after}
 use Rattle.tk_load.specs.Input.{File, ReadWords, greatest_monitor, input_of, joined, logs_in, names_in, order_in, settings_in}
 use Rattle.tk_load.specs.Reads.{AreKept, AreRead, IsRead, Loads, Reads, ReadsLogs, ReadsOrder, Tells, log_of, words_of}
@@ -65,7 +65,7 @@ read_order_unread told old new None = tt
 read_order_unread told old new (Some name) = gave_told (told name) (old name) (new name)
 
 -- the words with these files
-abbrev with_files : ReplayWords → Option (List ℕ) → Option File → List (ℕ × File) → ReadWords
+abbrev with_files : SourceWords → Option (List ℕ) → Option File → List (ℕ × File) → ReadWords
 with_files words content order logs = record {
   k = words.k;
   epsilon = words.epsilon;
@@ -75,10 +75,10 @@ with_files words content order logs = record {
   logs = logs;
 }
 
-abbrev worded : ReplayWords → Option (List ℕ) → List (ℕ × List ℕ) → ReplayWords
+abbrev worded : SourceWords → Option (List ℕ) → List (ℕ × List ℕ) → SourceWords
 worded words order logs = record { k = words.k; epsilon = words.epsilon; own_weight = words.own_weight; objects = words.objects; order = order; logs = logs }
 
-words_with : (words : ReplayWords) (content : Option (List ℕ)) (order : Option File) (logs : List (ℕ × File)) → option_map (λ (f : File). f.name) order ≡ words.order → map log_of logs ≡ words.logs → words_of (with_files words content order logs) ≡ words
+words_with : (words : SourceWords) (content : Option (List ℕ)) (order : Option File) (logs : List (ℕ × File)) → option_map (λ (f : File). f.name) order ≡ words.order → map log_of logs ≡ words.logs → words_of (with_files words content order logs) ≡ words
 words_with words content order logs is are = ap (λ (o : Option (List ℕ)). worded words o (map log_of logs)) is ∙ ap (λ (l : List (ℕ × List ℕ)). worded words words.order l) are
 
 logs_before : (t t' : List ℕ → Option (List ℕ)) (a b c : List ℕ → ℕ) (logs : List (ℕ × File)) → All (λ (log : ℕ × File). IsRead t a b log.1) logs → AreKept t t' b c → All (λ (log : ℕ × File). IsRead t a c log.1) logs
@@ -91,7 +91,7 @@ order_after : (t t' t'' : List ℕ → Option (List ℕ)) (a b c : List ℕ → 
 order_after t t' t'' a b c None first read last = tt
 order_after t t' t'' a b c (Some file) first read last = read_after t t' t'' a b c file first read last
 
-module _ (t0 t1 : List ℕ → Option (List ℕ)) (f0 f1 : List ℕ → ℕ) (words : ReplayWords) (kept1 : AreKept t0 t1 f0 f1) where
+module _ (t0 t1 : List ℕ → Option (List ℕ)) (f0 f1 : List ℕ → ℕ) (words : SourceWords) (kept1 : AreKept t0 t1 f0 f1) where
   abbrev ReadsNames : Result (List (List ℕ)) Status → Type 0
   ReadsNames answer = Reads t0 f0 f1 words.objects (λ (names : List (List ℕ)). names) names_in answer
 

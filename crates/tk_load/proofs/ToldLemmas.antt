@@ -2,7 +2,7 @@
 use Rattle.std.proofs.Common.{◌≡◌, ℕ, suc, List, [], ◌∷◌, ◌++◌, All, Option, Some, None, IfSome, option_map, Result, map, refl, ap, sym, subst, ◌∙◌, arith}
 use Rattle.std.proofs.lemmas.List.Elements.{All-head}
 use Rattle.tk_input.specs.Files.{HasRisen}
-use Rattle.tk_words.specs.Words.{ReplayWords}
+use Rattle.tk_words.specs.Words.{SourceWords}
 use Rattle.tk_load.specs.Input.{File, ReadWords, input_of}
 use Rattle.tk_load.specs.Reads.{AreRead, Gave, IsRead, Loads, Meets, log_of, words_of}
 use Rattle.tk_load.specs.Told.{AreTold, file_by, only, read_by}
@@ -59,11 +59,11 @@ module _ (told : List ℕ → Option (List ℕ)) (old new : List ℕ → ℕ) (c
       ∙ ap (λ (o : Option File). with read (file_by contents read.objects.name) o read.logs) order
       ∙ ap (λ (l : List (ℕ × File)). with read (file_by contents read.objects.name) (option_map (file_by contents) (option_map (λ (f : File). f.name) read.order)) l) logs.0
 
-  of_words : (words : ReplayWords) (read : ReadWords) → words_of read ≡ words → AreTold told old new contents words → AreRead told old new words read → read ≡ read_by contents words
+  of_words : (words : SourceWords) (read : ReadWords) → words_of read ≡ words → AreTold told old new contents words → AreRead told old new words read → read ≡ read_by contents words
   of_words words read same are reads =
-      subst (λ (w : ReplayWords). read ≡ read_by contents w) same
-      (all_told read (subst (λ (w : ReplayWords). AreTold told old new contents w) (sym same) are)
+      subst (λ (w : SourceWords). read ≡ read_by contents w) same
+      (all_told read (subst (λ (w : SourceWords). AreTold told old new contents w) (sym same) are)
       (record { same = refl; objects = reads.objects; logs = reads.logs; order = reads.order }))
 
-  pub meant_as_told : (words : ReplayWords) (answer : Result Input Status) → AreTold told old new contents words → Loads told old new words answer → Meets (λ (input : Input). input) (input_of (read_by contents words)) answer
+  pub meant_as_told : (words : SourceWords) (answer : Result Input Status) → AreTold told old new contents words → Loads told old new words answer → Meets (λ (input : Input). input) (input_of (read_by contents words)) answer
   meant_as_told words answer are loads = subst (λ (r : ReadWords). Meets (λ (input : Input). input) (input_of r) answer) (of_words words loads.read loads.are_read.same are loads.are_read) loads.meets

@@ -20,7 +20,7 @@ use Rattle.tk_input.specs.declared.order.OrderFault.{OrderFault}
 use Rattle.tk_input.specs.declared.order.OrderFault.TheVariants as o
 use Rattle.tk_input.specs.declared.part.PartFault.{PartFault}
 use Rattle.tk_input.specs.declared.part.PartFault.TheVariants as p
-use Rattle.tk_words.specs.Words.{ReplayWords}
+use Rattle.tk_words.specs.Words.{SourceWords}
 use Rattle.tk_load.specs.Faults.{Fault, after, bad_file, catalog_fault, log_fault, logs_fault, order_fault, setting_fault, telling}
 use Rattle.tk_load.specs.Faults.Fault.{Unread}
 use Rattle.tk_load.specs.Input.{File, ReadWords, bad_line, bytes_from, bytes_in, changes_after, changes_in, count_of, counted, greatest_monitor, input_of, joined, log_added, logs_in, names_in, order_from, order_in, order_of_bytes, retune_kind, retune_tested, retunes_tested, settings_in}
@@ -220,12 +220,12 @@ module _ (n : List ℕ) where
         | inr next ↦ behind read.objects.name (logs_and_order read) (settings_lost next.0 next.2)
       ]
 
-    lost_of : (words : ReplayWords) (read : ReadWords) → words_of read ≡ words → AreRead told old new words read → Unreads (input_of read) → Found (files_of words)
+    lost_of : (words : SourceWords) (read : ReadWords) → words_of read ≡ words → AreRead told old new words read → Unreads (input_of read) → Found (files_of words)
     lost_of words read same are is =
-        subst (λ (w : ReplayWords). Found (files_of w)) same (input_lost read (record { same = refl; objects = are.objects; logs = are.logs; order = are.order }) is)
+        subst (λ (w : SourceWords). Found (files_of w)) same (input_lost read (record { same = refl; objects = are.objects; logs = are.logs; order = are.order }) is)
 
 -- a file that is told to be unreadable
-pub unread_is_lost : (told : List ℕ → Option (List ℕ)) (old new : List ℕ → ℕ) (words : ReplayWords) (status : Status) → Loads told old new words (Err status) → IsCounted words old new status
+pub unread_is_lost : (told : List ℕ → Option (List ℕ)) (old new : List ℕ → ℕ) (words : SourceWords) (status : Status) → Loads told old new words (Err status) → IsCounted words old new status
 unread_is_lost told old new words (s.ReadFault file) loads = lost_of file.items told old new words loads.read loads.are_read.same loads.are_read loads.meets
 unread_is_lost told old new words s.Done loads = tt
 unread_is_lost told old new words s.Usage loads = tt

@@ -1,7 +1,7 @@
 -- What reading the files of some words gave, and what is then answered.
 use Rattle.std.specs.Prelude.{ℕ, ◌≡◌, ◌≤◌, List, map, Option, Some, None, option_map, IfSome, All, Result, Ok, Err}
 use Rattle.tk_input.specs.Files.{HasRisen}
-use Rattle.tk_words.specs.Words.{ReplayWords}
+use Rattle.tk_words.specs.Words.{SourceWords}
 use Rattle.tk_load.specs.Faults.{Fault}
 use Rattle.tk_load.specs.Faults.Fault.{Bad, Great, Unread}
 use Rattle.tk_load.specs.Input.{File, ReadWords, input_of}
@@ -13,7 +13,7 @@ use Rattle.tk_load.specs.declared.status.Status.TheVariants as s
 abbrev pub log_of : ℕ × File → ℕ × List ℕ
 log_of log = (log.0, log.1.name)
 
-abbrev pub words_of : ReadWords → ReplayWords
+abbrev pub words_of : ReadWords → SourceWords
 words_of read = record {
   k = read.k;
   epsilon = read.epsilon;
@@ -33,7 +33,7 @@ abbrev pub IsRead : (List ℕ → Option (List ℕ)) → (List ℕ → ℕ) → 
 IsRead told old new file = Gave (told file.name) (old file.name) (new file.name) file.content
 
 -- each file of the words was read
-pub record AreRead (told : List ℕ → Option (List ℕ)) (old new : List ℕ → ℕ) (words : ReplayWords) (read : ReadWords) : Type 0 where
+pub record AreRead (told : List ℕ → Option (List ℕ)) (old new : List ℕ → ℕ) (words : SourceWords) (read : ReadWords) : Type 0 where
   pub same : words_of read ≡ words
   pub objects : IsRead told old new read.objects
   pub logs : All (λ log. IsRead told old new log.1) read.logs
@@ -75,7 +75,7 @@ pub record Reads {A V : Type 0} (told : List ℕ → Option (List ℕ)) (old new
   pub meets : Meets view (meant (record { name = name; content = content })) answer
 
 -- the files of the words were read, and the answer is their input, or the first rule that fails
-pub record Loads (told : List ℕ → Option (List ℕ)) (old new : List ℕ → ℕ) (words : ReplayWords) (answer : Result Input Status) : Type 0 where
+pub record Loads (told : List ℕ → Option (List ℕ)) (old new : List ℕ → ℕ) (words : SourceWords) (answer : Result Input Status) : Type 0 where
   pub read : ReadWords
   pub are_read : AreRead told old new words read
   pub meets : Meets (λ input. input) (input_of read) answer

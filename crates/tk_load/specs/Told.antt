@@ -1,7 +1,7 @@
 -- The input over files that tell what they hold.
 use Rattle.std.specs.Prelude.{ℕ, ◌≡◌, List, [], ◌∷◌, ◌++◌, map, Option, Some, None, option_map, All, Contains}
 use Rattle.tk_input.specs.Files.{HasRisen}
-use Rattle.tk_words.specs.Words.{ReplayWords}
+use Rattle.tk_words.specs.Words.{SourceWords}
 use Rattle.tk_load.specs.Input.{File, ReadWords}
 use Rattle.tk_load.specs.declared.status.Status.{Status}
 use Rattle.tk_load.specs.declared.status.Status.TheVariants as s
@@ -11,7 +11,7 @@ abbrev pub file_by : (List ℕ → List ℕ) → List ℕ → File
 file_by contents name = record { name = name; content = Some (contents name) }
 
 -- some words with what stands under the names of their files
-abbrev pub read_by : (List ℕ → List ℕ) → ReplayWords → ReadWords
+abbrev pub read_by : (List ℕ → List ℕ) → SourceWords → ReadWords
 read_by contents words = record {
   k = words.k;
   epsilon = words.epsilon;
@@ -27,16 +27,16 @@ only None = []
 only (Some name) = name ∷ []
 
 -- the files of some words, in the order of work
-abbrev pub files_of : ReplayWords → List (List ℕ)
+abbrev pub files_of : SourceWords → List (List ℕ)
 files_of words = words.objects ∷ (map (λ log. log.1) words.logs ++ only words.order)
 
 -- each file of the words tells what stands under its name, and no read of it failed
-pub record AreTold (told : List ℕ → Option (List ℕ)) (old new : List ℕ → ℕ) (contents : List ℕ → List ℕ) (words : ReplayWords) : Type 0 where
+pub record AreTold (told : List ℕ → Option (List ℕ)) (old new : List ℕ → ℕ) (contents : List ℕ → List ℕ) (words : SourceWords) : Type 0 where
   pub content : All (λ name. told name ≡ Some (contents name)) (files_of words)
   pub unfailed : All (λ name. HasRisen (old name) (new name) → ⊥) (files_of words)
 
 -- a file that is told to be unreadable is one of the words, and its faults rose
-abbrev pub IsCounted : ReplayWords → (List ℕ → ℕ) → (List ℕ → ℕ) → Status → Type 0
+abbrev pub IsCounted : SourceWords → (List ℕ → ℕ) → (List ℕ → ℕ) → Status → Type 0
 IsCounted words old new (s.ReadFault file) = Contains (files_of words) file.items × HasRisen (old file.items) (new file.items)
 IsCounted words old new s.Done = Unit
 IsCounted words old new s.Usage = Unit

@@ -2,7 +2,7 @@ ghost use Rattle.std.specs.Prelude.{◌≡◌, IfOk, length};
 ghost use Rattle.tk_load.specs.Input.{greatest_monitor, names_in, settings_in};
 ghost use Rattle.tk_load.specs.Reads.{AreKept, Loads, Meets, Reads};
 ghost use Rattle.tk_load.specs.Whole.{AreAgreed};
-ghost use Rattle.tk_words.specs.Asked.{AreOfMonitors, asked_logs, asked_replay};
+ghost use Rattle.tk_words.specs.Asked.{AreOfMonitors, asked_logs, asked_sources};
 
 use crate::changes::{logs_of, parts_of};
 use crate::reading::{names_of, read};
@@ -12,7 +12,7 @@ use crate::status::Status;
 use std::alloc::Global;
 use tk_base::{Mon, Settings};
 use tk_input::{Catalog, Files, Logs, Order};
-use tk_words::Replay;
+use tk_words::Sources;
 
 /// What the words of a run and its files give.
 #[derive(Drop)]
@@ -41,7 +41,7 @@ fn read_names<F: Files>(alloc: Global, files: &mut F, file: &str) -> Result<Cata
     }
 }
 
-fn settings_of(alloc: Global, words: &Replay<'_>, names: &Catalog) -> Result<Settings, Status>
+fn settings_of(alloc: Global, words: &Sources<'_>, names: &Catalog) -> Result<Settings, Status>
     ensures objects { IfOk result (λ s. s.objects ≡ length names.now) }
     ensures monitors { IfOk result (λ s. s.monitors ≡ greatest_monitor (asked_logs words.now.logs.items)) }
     ensures meets { Meets (λ s. s)
@@ -60,11 +60,11 @@ fn settings_of(alloc: Global, words: &Replay<'_>, names: &Catalog) -> Result<Set
 }
 
 /// Reads all that the words name, in the order of work: the objects, the settings, the logs, the order.
-pub fn load<F: Files>(alloc: Global, words: &Replay<'_>, files: &mut F) -> Result<Input, Status>
+pub fn load<F: Files>(alloc: Global, words: &Sources<'_>, files: &mut F) -> Result<Input, Status>
     requires { AreOfMonitors words.now.logs.items }
     ensures agreed { IfOk result (λ input. AreAgreed input.names input.settings input.logs) }
     ensures read { Loads (F.content files.old) (F.fault_count files.old) (F.fault_count files.new)
-        (asked_replay words.now) result }
+        (asked_sources words.now) result }
     ensures kept { AreKept (F.content files.old) (F.content files.new) (F.fault_count files.old) (F.fault_count files.new) }
 {
     let names = match read_names(alloc, files, words.objects) {

@@ -5,18 +5,18 @@ ghost use Rattle.tk_load.specs.Reads.{Loads, Meets};
 ghost use Rattle.tk_load.specs.Told.{AreTold, IsCounted, read_by};
 ghost use Rattle.tk_load.specs.declared.input.Input.{Input};
 ghost use Rattle.tk_load.specs.declared.status.Status.{Status};
-ghost use Rattle.tk_words.specs.Words.{ReplayWords};
+ghost use Rattle.tk_words.specs.Words.{SourceWords};
 
 /// Where the files tell what they hold and no read fails, what is answered is the input of the words and the contents,
 /// or its first fault.
 pub fn what_is_told_is_meant()
-    ensures { (told : List ℕ → Option (List ℕ)) (old new : List ℕ → ℕ) (contents : List ℕ → List ℕ) (words : ReplayWords)
+    ensures { (told : List ℕ → Option (List ℕ)) (old new : List ℕ → ℕ) (contents : List ℕ → List ℕ) (words : SourceWords)
         (answer : Result Input Status) → AreTold told old new contents words → Loads told old new words answer
         → Meets (λ input. input) (input_of (read_by contents words)) answer }
 {}
 
 /// A file that is told to be unreadable is one of the words, and its faults rose.
 pub fn an_unreadable_file_is_counted()
-    ensures { (told : List ℕ → Option (List ℕ)) (old new : List ℕ → ℕ) (words : ReplayWords) (status : Status)
+    ensures { (told : List ℕ → Option (List ℕ)) (old new : List ℕ → ℕ) (words : SourceWords) (status : Status)
         → Loads told old new words (Err status) → IsCounted words old new status }
 {}

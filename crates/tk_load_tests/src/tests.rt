@@ -37,9 +37,9 @@ fn told_of(alloc: Global, words: &str, files: &mut MapFiles) -> Result<Vec<u8>, 
         list.push(String::from_str(alloc, word)?)?;
     }
     let outcome = match read(alloc, list.as_slice()) {
-        Ok(Command::Replay(words)) => load(alloc, &words, files),
+        Ok(Command::Replay(words)) => load(alloc, &words.sources, files),
         Ok(Command::Generate(words)) => make(alloc, &words),
-        Ok(Command::Live(words)) => load(alloc, &words.input, files),
+        Ok(Command::Live(words)) => load(alloc, &words.sources, files),
         Err(WordsFault::Usage) => Err(Status::Usage),
         Err(WordsFault::NoMemory) => Err(Status::NoMemory),
     };

@@ -2,10 +2,12 @@
 use Rattle.std.specs.Prelude.{ℕ, ◌≡◌, ◌⊎◌, ◌≤◌, All, List, map, option_map}
 use Rattle.std.specs.Borrow.{Bor}
 use Rattle.tk_base.specs.declared.ids.Mon.{Mon}
-use Rattle.tk_words.specs.Words.{Asked, ReplayWords, GenerateWords, LiveWords}
+use Rattle.tk_words.specs.Words.{Asked, CarriageWords, GenerateWords, LiveWords, ReplayWords, SourceWords}
 use Rattle.tk_words.specs.Words.Asked.{Replays, Generates, Lives}
 use Rattle.tk_words.specs.declared.command.Command.{Command}
 use Rattle.tk_words.specs.declared.command.Command.TheVariants.{Replay as Replayed, Generate as Generated, Live as Lived}
+use Rattle.tk_words.specs.declared.sources.Sources.{Sources}
+use Rattle.tk_words.specs.declared.carriage.Carriage.{Carriage}
 use Rattle.tk_words.specs.declared.replay.Replay.{Replay}
 use Rattle.tk_words.specs.declared.generate.Generate.{Generate}
 use Rattle.tk_words.specs.declared.live.Live.{Live}
@@ -14,8 +16,8 @@ use Rattle.tk_words.specs.declared.live.Live.{Live}
 abbrev pub asked_logs : List (Mon × Bor (List ℕ)) → List (ℕ × List ℕ)
 asked_logs logs = map (λ log. (log.0.0, log.1.now)) logs
 
-abbrev pub asked_replay : Replay → ReplayWords
-asked_replay r = record {
+abbrev pub asked_sources : Sources → SourceWords
+asked_sources r = record {
   k = r.k;
   epsilon = r.epsilon;
   own_weight = r.own_weight;
@@ -23,6 +25,12 @@ asked_replay r = record {
   order = option_map (λ s. s.now) r.order;
   logs = asked_logs r.logs.items;
 }
+
+abbrev pub asked_carriage : Carriage → CarriageWords
+asked_carriage c = record { piece = c.piece; frames = c.frames }
+
+abbrev pub asked_replay : Replay → ReplayWords
+asked_replay r = record { sources = asked_sources r.sources; carriage = asked_carriage r.carriage }
 
 abbrev pub asked_generate : Generate → GenerateWords
 asked_generate g = record {
@@ -35,7 +43,7 @@ asked_generate g = record {
 }
 
 abbrev pub asked_live : Live → LiveWords
-asked_live l = record { input = asked_replay l.input; frames = l.frames }
+asked_live l = record { sources = asked_sources l.sources; frames = l.frames }
 
 abbrev pub asked_by : Command → Asked
 asked_by (Replayed r) = Replays (asked_replay r)
@@ -48,12 +56,18 @@ AreOfMonitors logs = All (λ log. (1 ≤ log.0.0) × (log.0.0 ≤ 64)) logs
 
 -- so are the logs of a command
 abbrev pub HasMonitors : Command → Type 0
-HasMonitors (Replayed r) = AreOfMonitors r.logs.items
+HasMonitors (Replayed r) = AreOfMonitors r.sources.logs.items
 HasMonitors (Generated g) = Unit
-HasMonitors (Lived l) = AreOfMonitors l.input.logs.items
+HasMonitors (Lived l) = AreOfMonitors l.sources.logs.items
 
--- the frames of a command have a version that there is
-abbrev pub HasVersion : Command → Type 0
-HasVersion (Replayed r) = Unit
-HasVersion (Generated g) = Unit
-HasVersion (Lived l) = (l.frames ≡ 1) ⊎ (l.frames ≡ 2)
+-- a piece of 1 to 65,536 bytes, and a version that there is
+pub record IsCarriage (c : Carriage) : Type 0 where
+  pub some : 1 ≤ c.piece
+  pub piece : c.piece ≤ 65536
+  pub frames : (c.frames ≡ 1) ⊎ (c.frames ≡ 2)
+
+-- the frames of a command go so
+abbrev pub HasCarriage : Command → Type 0
+HasCarriage (Replayed r) = IsCarriage r.carriage
+HasCarriage (Generated g) = Unit
+HasCarriage (Lived l) = (l.frames ≡ 1) ⊎ (l.frames ≡ 2)

@@ -14,12 +14,14 @@ logs_rule = record (new_rule (codes "log")) { required = true; action = Some App
 -- `replay`
 abbrev pub replay_app : App
 replay_app =
-    with_rule (with_rule (with_rule (with_rule (with_rule (with_rule (new_app (codes "replay"))
+    with_rule (with_rule (with_rule (with_rule (with_rule (with_rule (with_rule (with_rule (new_app (codes "replay"))
     (option_rule (codes "k") true))
     (option_rule (codes "epsilon") true))
     (option_rule (codes "objects") true))
     (option_rule (codes "own-weight") false))
     (option_rule (codes "order") false))
+    (option_rule (codes "piece") false))
+    (option_rule (codes "frames") false))
     logs_rule
 
 -- `live`

@@ -21,6 +21,14 @@ abbrev pub monitor_in : List ℕ → Option ℕ
 monitor_in [] = None
 monitor_in (c ∷ rest) = if c == 48 then None else (if nat_le (length rest) 1 then monitor_from (digits_in (c ∷ rest)) else None)
 
+-- the length of a piece: 1 to 65,536
+abbrev pub piece_from : Option ℕ → Option ℕ
+piece_from None = None
+piece_from (Some n) = if nat_lt 0 n && nat_le n 65536 then Some n else None
+
+abbrev pub piece_in : List ℕ → Option ℕ
+piece_in text = piece_from (short_in text)
+
 -- the version of frames that is named
 abbrev pub version_in : List ℕ → Option ℕ
 version_in text = if bytes_eq text (codes "1") then Some 1 else (if bytes_eq text (codes "2") then Some 2 else None)

@@ -5,10 +5,10 @@ use Rattle.clap.specs.Words.{Row, all_of, first_of}
 use Rattle.tk_words.specs.declared.verb.Verb.{Verb}
 use Rattle.tk_words.specs.declared.verb.Verb.TheVariants.{Replay, Generate, Live}
 use Rattle.tk_words.specs.Clap.{found_in, gen_app, live_app, replay_app}
-use Rattle.tk_words.specs.Forms.{digits_in, file_in, logs_in, short_in, version_in}
+use Rattle.tk_words.specs.Forms.{digits_in, file_in, logs_in, piece_in, short_in, version_in}
 
--- what a replay asks for: the numbers of the settings, and the files with their logs' monitors
-pub record ReplayWords : Type 0 where
+-- where a run finds its input: the numbers of the settings, and the files with their logs' monitors
+pub record SourceWords : Type 0 where
   pub k : ℕ
   pub epsilon : ℕ
   pub own_weight : ℕ
@@ -16,9 +16,19 @@ pub record ReplayWords : Type 0 where
   pub order : Option (List ℕ)
   pub logs : List (ℕ × List ℕ)
 
--- what a live run asks for: an input without an order, and the version of its frames
+-- how frames go: the length of a piece, and their version
+pub record CarriageWords : Type 0 where
+  pub piece : ℕ
+  pub frames : ℕ
+
+-- what a replay asks for
+pub record ReplayWords : Type 0 where
+  pub sources : SourceWords
+  pub carriage : CarriageWords
+
+-- what a live run asks for: sources without an order, and the version of its frames
 pub record LiveWords : Type 0 where
-  pub input : ReplayWords
+  pub sources : SourceWords
   pub frames : ℕ
 
 -- what a generated run asks for
@@ -49,8 +59,8 @@ abbrev pub logs_of : List Row → Option (List (ℕ × List ℕ))
 logs_of rows = option_and_then logs_in (all_of (codes "log") rows)
 
 -- the settings, the objects and the logs that are named, with this order
-abbrev pub named_with : Option (List ℕ) → List Row → Option ReplayWords
-named_with order rows =
+abbrev pub sources_with : Option (List ℕ) → List Row → Option SourceWords
+sources_with order rows =
     option_and_then (λ k. option_and_then (λ epsilon. option_and_then (λ own_weight. option_and_then (λ objects.
     option_map (λ logs. record { k = k; epsilon = epsilon; own_weight = own_weight; objects = objects; order = order; logs = logs })
     (logs_of rows))
@@ -59,15 +69,24 @@ named_with order rows =
     (required digits_in (codes "epsilon") rows))
     (required short_in (codes "k") rows)
 
+-- how frames go: by 4,096 bytes in version 1, where nothing else is said
+abbrev pub carriage_of : List Row → Option CarriageWords
+carriage_of rows =
+    option_and_then (λ piece. option_map (λ frames. record { piece = piece; frames = frames }) (optional version_in (codes "frames") 1 rows))
+    (optional piece_in (codes "piece") 4096 rows)
+
 -- the values of a replay
 abbrev pub replay_of : List Row → Option ReplayWords
 replay_of rows =
-    option_and_then (λ order. named_with order rows) (optional (λ text. option_map Some (file_in text)) (codes "order") None rows)
+    option_and_then (λ carriage. option_and_then (λ order. option_map (λ sources. record { sources = sources; carriage = carriage })
+    (sources_with order rows))
+    (optional (λ text. option_map Some (file_in text)) (codes "order") None rows))
+    (carriage_of rows)
 
 -- the values of a live run
 abbrev pub live_of : List Row → Option LiveWords
 live_of rows =
-    option_and_then (λ frames. option_map (λ input. record { input = input; frames = frames }) (named_with None rows))
+    option_and_then (λ frames. option_map (λ sources. record { sources = sources; frames = frames }) (sources_with None rows))
     (optional version_in (codes "frames") 1 rows)
 
 -- the values of a generated run

@@ -1,5 +1,5 @@
 ghost use Rattle.std.specs.Prelude.{◌≡◌, Some, None, IfOk, IsErrOf, map, string_bytes};
-ghost use Rattle.tk_words.specs.Asked.{HasMonitors, HasVersion, asked_by};
+ghost use Rattle.tk_words.specs.Asked.{HasCarriage, HasMonitors, asked_by};
 ghost use Rattle.tk_words.specs.Words.{words_of};
 
 use crate::fault::WordsFault;
@@ -26,7 +26,7 @@ pub fn read<'a>(alloc: Global, words: &'a [String]) -> Result<Command<'a>, Words
     // Where the first names no command, clap refuses the rest, or a value is not in its form.
     ensures usage { IsErrOf result WordsFault.Usage → words_of (map string_bytes words.entry.now) ≡ None }
     ensures monitors { IfOk result HasMonitors }
-    ensures versions { IfOk result HasVersion }
+    ensures carriage { IfOk result HasCarriage }
 {
     match verb_of(words) {
         None => Err(WordsFault::Usage),

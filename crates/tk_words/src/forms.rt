@@ -1,5 +1,5 @@
 ghost use Rattle.std.specs.Prelude.{◌≡◌, ◌⊎◌, ◌≤◌, IfSome, option_map};
-ghost use Rattle.tk_words.specs.Forms.{digits_in, file_in, log_in, monitor_in, short_in, version_in};
+ghost use Rattle.tk_words.specs.Forms.{digits_in, file_in, log_in, monitor_in, piece_in, short_in, version_in};
 
 use crate::digits::digits_of;
 use tk_base::Mon;
@@ -7,6 +7,8 @@ use tk_base::Mon;
 const MAX_MONITOR: u128 = 64;
 
 const SHORT_DIGITS: usize = 18;
+
+const MAX_PIECE: u64 = 65_536;
 
 /// A number of 1 to 38 decimal digits.
 pub fn long_number(text: &str) -> Option<u128>
@@ -43,6 +45,19 @@ fn monitor(text: &[u8]) -> Option<Mon>
                 None
             }
         }
+    }
+}
+
+/// The length of a piece: 1 to 65,536.
+pub fn piece_length(text: &str) -> Option<u64>
+    ensures value { result ≡ piece_in text.now }
+    ensures range { IfSome result (λ n. (1 ≤ n) × (n ≤ 65536)) }
+{
+    let length = short_number(text)?;
+    if 0 < length && length <= MAX_PIECE {
+        Some(length)
+    } else {
+        None
     }
 }
 

@@ -5,6 +5,7 @@
 //! A new command has a file of its own, a variant of `Command`, and an arm in `read`.
 #![tactic(auto)]
 
+mod carriage;
 mod command;
 mod digits;
 mod fault;
@@ -14,11 +15,14 @@ mod live;
 mod options;
 mod parsing;
 mod replay;
+mod sources;
 mod verb;
 
+pub use carriage::Carriage;
 pub use command::{Command, read};
 pub use fault::WordsFault;
 pub use generate::Generate;
 pub use live::Live;
 pub use replay::Replay;
+pub use sources::Sources;
 pub use verb::Verb;

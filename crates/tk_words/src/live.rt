@@ -1,23 +1,22 @@
-ghost use Rattle.std.specs.Prelude.{◌≡◌, ◌⊎◌, Some, None, IfOk, IfSome, IsErrOf, map, codes, string_bytes};
+ghost use Rattle.std.specs.Prelude.{◌≡◌, ◌⊎◌, Some, None, IfOk, IsErrOf, map, string_bytes};
 ghost use Rattle.clap.specs.Words.{app_of, found_of, rows_of};
 ghost use Rattle.tk_words.specs.Asked.{AreOfMonitors, asked_live};
 ghost use Rattle.tk_words.specs.Clap.{live_app};
-ghost use Rattle.tk_words.specs.Forms.{version_in};
-ghost use Rattle.tk_words.specs.Words.{live_in, live_of, optional};
+ghost use Rattle.tk_words.specs.Words.{live_in, live_of};
 
+use crate::carriage::frames;
 use crate::fault::WordsFault;
-use crate::forms::version;
 use crate::options::{log_words, option};
-use crate::parsing::{parse, value};
-use crate::replay::{Replay, named_with};
+use crate::parsing::parse;
+use crate::sources::{Sources, sources_with};
 use clap::{ArgMatches, Command};
 use std::alloc::{AllocError, Global};
 
 /// What the words of a live run ask for.
 #[derive(Drop)]
 pub struct Live<'a> {
-    /// Its settings, its objects and its logs: those of a replay without an order.
-    pub input: Replay<'a>,
+    /// Its settings, its objects and its logs, without an order.
+    pub sources: Sources<'a>,
     /// The version of the frames behind the Hellos, 1 or 2.
     pub frames: u8,
 }
@@ -34,28 +33,17 @@ fn command<'a>(alloc: Global) -> Result<Command<'a>, AllocError>
         .arg(log_words(alloc))
 }
 
-/// The optional version of the frames, 1 where there is none.
-fn frames(matches: &ArgMatches<'_>) -> Option<u8>
-    ensures value { result ≡ optional version_in (codes "frames") 1 (rows_of (found_of matches.now)) }
-    ensures version { IfSome result (λ v. (v ≡ 1) ⊎ (v ≡ 2)) }
-{
-    match value(matches, "frames") {
-        None => Some(1),
-        Some(text) => version(text),
-    }
-}
-
 fn values<'a>(alloc: Global, matches: &ArgMatches<'a>) -> Result<Live<'a>, WordsFault>
     ensures ok { IfOk result (λ l. live_of (rows_of (found_of matches.now)) ≡ Some (asked_live l)) }
     ensures usage { IsErrOf result WordsFault.Usage → live_of (rows_of (found_of matches.now)) ≡ None }
-    ensures monitors { IfOk result (λ l. AreOfMonitors l.input.logs.items) }
+    ensures monitors { IfOk result (λ l. AreOfMonitors l.sources.logs.items) }
     ensures version { IfOk result (λ l. (l.frames ≡ 1) ⊎ (l.frames ≡ 2)) }
 {
     let Some(frames) = frames(matches) else {
         return Err(WordsFault::Usage);
     };
-    match named_with(alloc, matches, None) {
-        Ok(input) => Ok(Live { input, frames }),
+    match sources_with(alloc, matches, None) {
+        Ok(sources) => Ok(Live { sources, frames }),
         Err(fault) => Err(fault),
     }
 }
@@ -64,7 +52,7 @@ fn values<'a>(alloc: Global, matches: &ArgMatches<'a>) -> Result<Live<'a>, Words
 pub fn read_live<'a>(alloc: Global, words: &'a [String]) -> Result<Live<'a>, WordsFault>
     ensures ok { IfOk result (λ l. live_in (map string_bytes words.entry.now) ≡ Some (asked_live l)) }
     ensures usage { IsErrOf result WordsFault.Usage → live_in (map string_bytes words.entry.now) ≡ None }
-    ensures monitors { IfOk result (λ l. AreOfMonitors l.input.logs.items) }
+    ensures monitors { IfOk result (λ l. AreOfMonitors l.sources.logs.items) }
     ensures version { IfOk result (λ l. (l.frames ≡ 1) ⊎ (l.frames ≡ 2)) }
 {
     let command = command(alloc)?;

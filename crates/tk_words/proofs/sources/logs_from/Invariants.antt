@@ -1,7 +1,7 @@
 use Rattle.std.proofs.Common.{◌≡◌, Some, map, take}
 use Rattle.tk_words.specs.Asked.{AreOfMonitors, asked_logs}
 use Rattle.tk_words.specs.Forms.{logs_in}
-use Rattle.tk_words.proofs.replay.logs_from.Given as goal
+use Rattle.tk_words.proofs.sources.logs_from.Given as goal
 
 -- the words before were read
 abbrev pub invariant-loop-word : goal.invariant-loop-word

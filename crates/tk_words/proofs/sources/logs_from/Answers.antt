@@ -3,7 +3,7 @@ use Rattle.std.proofs.lemmas.List.Elements.{All-push}
 use Rattle.tk_base.specs.declared.ids.Mon.{Mon}
 use Rattle.tk_words.specs.Asked.{asked_logs}
 use Rattle.tk_words.proofs.LogsLemmas.{one_more, one_wrong}
-use Rattle.tk_words.proofs.replay.logs_from.Goals as goal
+use Rattle.tk_words.proofs.sources.logs_from.Goals as goal
 
 abbrev shown : Option (Mon × Bor (List ℕ)) → Option (ℕ × List ℕ)
 shown = option_map (λ log. (log.0.0, log.1.now))
