@@ -5,7 +5,8 @@
 
 For the examples below it asks how many allocations a run makes, and runs it again with the first, the second, .. refused.
 Each run must end with status 7 or 0 within ten seconds, what it wrote must be a front of the whole text, and its
-line, if there is one, must be that of want of memory. With --every N it tries each Nth allocation alone. It wants a C
+line, if there is one, must be that of want of memory. Of a live run, whose text and whose allocations depend on how its
+threads meet, what it wrote must be whole lines of sets. With --every N it tries each Nth allocation alone. It wants a C
 compiler and the program as `rt run` or the gate leaves it; it is no part of the gate.
 """
 import argparse
@@ -17,8 +18,8 @@ import tempfile
 
 HERE = pathlib.Path(__file__).resolve().parent
 ROOT = HERE.parent.parent
-PROGRAM = ROOT / "crates" / "topk" / "out" / "topk"
-EXAMPLES = ("two_monitors", "ninth_report", "pages")
+PROGRAM = pathlib.Path(os.environ.get("TOPK", ROOT / "crates" / "topk" / "out" / "topk"))
+EXAMPLES = ("two_monitors", "ninth_report", "pages", "live_two_monitors")
 GENERATED = "gen --seed 7 --monitors 8 --objects 256 --updates 2000 --k 10 --epsilon 50".split()
 LINE = b"topk: out of memory\n"
 
@@ -36,11 +37,24 @@ def run(name, shim, **more):
     return subprocess.run([PROGRAM, *words], cwd=folder, env=environment, capture_output=True, timeout=10)
 
 
-def fault_of(done, whole):
+def is_live(name):
+    return words_of(name)[1][0] == "live"
+
+
+def is_of_sets(text):
+    """Whether a text is whole lines of published sets, the last of them final or none."""
+    lines = text.split(b"\n")
+    return lines.pop() == b"" and all(line.startswith((b"set ", b"final ")) for line in lines)
+
+
+def fault_of(name, done, whole):
     """What is wrong with a run, or None."""
     if done.returncode not in (0, 7):
         return f"status {done.returncode}"
-    if not whole.startswith(done.stdout) or (done.returncode == 0 and done.stdout != whole):
+    if is_live(name):
+        if done.returncode == 7 and not is_of_sets(done.stdout):
+            return "another text"
+    elif not whole.startswith(done.stdout) or (done.returncode == 0 and done.stdout != whole):
         return "another text"
     if done.stderr not in ((b"",) if done.returncode == 0 else (b"", LINE)):
         return f"another line: {done.stderr!r}"
@@ -58,7 +72,7 @@ def try_all(name, shim, count, every):
             ended = run(name, shim, REFUSE=str(number))
         except subprocess.TimeoutExpired:
             return f"{name}: hangs where allocation {number} is refused"
-        fault = fault_of(ended, whole.stdout)
+        fault = fault_of(name, ended, whole.stdout)
         if fault:
             return f"{name}: {fault} where allocation {number} is refused"
         refused += ended.returncode == 7
