@@ -23,20 +23,20 @@ module _ (words : List (List ℕ)) (asked : ReplayWords) (told : List ℕ → Op
   not_refused s.LinkFault none = absurd none
   not_refused (s.LinkDiffers mon direction place sent received) none = absurd none
 
-  module _ (contents : List ℕ → List ℕ) (are : AreTold told old new contents asked) (input : Input) (is : input_of (read_by contents asked) ≡ Ok input) where
-    no_fault : (status : Status) → Loads told old new asked (Err status) → IsDone status
-    no_fault (s.ReadFault file) loads = let meant = meant_as_told told old new contents asked (Err (s.ReadFault file)) are loads in absurd (cc (meant, is))
-    no_fault (s.BadInput file line kind) loads = let meant = meant_as_told told old new contents asked (Err (s.BadInput file line kind)) are loads in absurd (cc (meant, is))
-    no_fault (s.TooGreat mon obj) loads = let meant = meant_as_told told old new contents asked (Err (s.TooGreat mon obj)) are loads in absurd (cc (meant, is))
+  module _ (contents : List ℕ → List ℕ) (are : AreTold told old new contents asked.sources) (input : Input) (is : input_of (read_by contents asked.sources) ≡ Ok input) where
+    no_fault : (status : Status) → Loads told old new asked.sources (Err status) → IsDone status
+    no_fault (s.ReadFault file) loads = let meant = meant_as_told told old new contents asked.sources (Err (s.ReadFault file)) are loads in absurd (cc (meant, is))
+    no_fault (s.BadInput file line kind) loads = let meant = meant_as_told told old new contents asked.sources (Err (s.BadInput file line kind)) are loads in absurd (cc (meant, is))
+    no_fault (s.TooGreat mon obj) loads = let meant = meant_as_told told old new contents asked.sources (Err (s.TooGreat mon obj)) are loads in absurd (cc (meant, is))
     no_fault s.NoMemory loads = tt
     no_fault s.Done loads = tt
-    no_fault s.Usage loads = absurd (meant_as_told told old new contents asked (Err s.Usage) are loads)
-    no_fault s.WriteFault loads = absurd (meant_as_told told old new contents asked (Err s.WriteFault) are loads)
-    no_fault s.LinkFault loads = absurd (meant_as_told told old new contents asked (Err s.LinkFault) are loads)
+    no_fault s.Usage loads = absurd (meant_as_told told old new contents asked.sources (Err s.Usage) are loads)
+    no_fault s.WriteFault loads = absurd (meant_as_told told old new contents asked.sources (Err s.WriteFault) are loads)
+    no_fault s.LinkFault loads = absurd (meant_as_told told old new contents asked.sources (Err s.LinkFault) are loads)
     no_fault (s.LinkDiffers mon direction place sent received) loads =
-        absurd (meant_as_told told old new contents asked (Err (s.LinkDiffers mon direction place sent received)) are loads)
+        absurd (meant_as_told told old new contents asked.sources (Err (s.LinkDiffers mon direction place sent received)) are loads)
 
-    ended : (status : Status) → (status ≡ s.WriteFault → ⊥) → Ends (Loads told old new asked) (text_by (Replays asked)) before after status → IsDone status
+    ended : (status : Status) → (status ≡ s.WriteFault → ⊥) → Ends (Loads told old new asked.sources) (text_by (Replays asked)) before after status → IsDone status
     ended (s.ReadFault file) written ends = no_fault (s.ReadFault file) ends.0
     ended (s.BadInput file line kind) written ends = no_fault (s.BadInput file line kind) ends.0
     ended (s.TooGreat mon obj) written ends = no_fault (s.TooGreat mon obj) ends.0

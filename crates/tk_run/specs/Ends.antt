@@ -80,7 +80,7 @@ served (Some (Lives words)) = None
 
 -- what gives the input: a generated run reads no file, and a live run is not served
 abbrev pub Gives : Asked → (List ℕ → Option (List ℕ)) → (List ℕ → ℕ) → (List ℕ → ℕ) → Result Input Status → Type 0
-Gives (Replays words) told old new answer = Loads told old new words answer
+Gives (Replays words) told old new answer = Loads told old new words.sources answer
 Gives (Generates words) told old new answer = Meets (λ input. input) (generated_of words) answer
 Gives (Lives words) told old new answer = ⊥
 

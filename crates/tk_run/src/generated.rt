@@ -14,7 +14,7 @@ use std::alloc::Global;
 use tk_input::Sink;
 use tk_ledger::{PrintFault, print_summary};
 use tk_load::{Status, make};
-use tk_words::Generate;
+use tk_words::{Carriage, Generate};
 
 /// Serves `gen`. Nothing is written before the story is over.
 pub fn serve<O: Sink>(alloc: Global, words: &Generate, out: &mut O) -> Outcome
@@ -30,7 +30,7 @@ pub fn serve<O: Sink>(alloc: Global, words: &Generate, out: &mut O) -> Outcome
         Ok(input) => input,
         Err(status) => return Outcome::ended(status),
     };
-    let Ok((story, names)) = story_of(alloc, input) else {
+    let Ok((story, names)) = story_of(alloc, input, Carriage::USUAL) else {
         return Outcome::ended(Status::NoMemory);
     };
     match print_summary(alloc, &story, &names, out) {

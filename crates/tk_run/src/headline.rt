@@ -41,6 +41,6 @@ pub fn an_input_has_one_story()
 pub fn an_input_is_run()
     ensures { (words : List (List ℕ)) (asked : ReplayWords) (told : List ℕ → Option (List ℕ)) (old new : List ℕ → ℕ)
         (before after : Option (List ℕ)) (contents : List ℕ → List ℕ) (input : Input) (status : Status)
-        → words_of words ≡ Some (Replays asked) → AreTold told old new contents asked → input_of (read_by contents asked) ≡ Ok input
+        → words_of words ≡ Some (Replays asked) → AreTold told old new contents asked.sources → input_of (read_by contents asked.sources) ≡ Ok input
         → (status ≡ NotWritten → ⊥) → EndsWords words told old new before after status → IsDone status }
 {}

@@ -5,7 +5,7 @@ ghost use Rattle.tk_load.specs.Reads.{Loads};
 ghost use Rattle.tk_load.specs.declared.status.Status.TheVariants.{Done, WriteFault as NotWritten};
 ghost use Rattle.tk_run.specs.Ends.{Ends, HasRun};
 ghost use Rattle.tk_run.specs.Headline.{IsSound};
-ghost use Rattle.tk_words.specs.Asked.{AreOfMonitors, asked_replay};
+ghost use Rattle.tk_words.specs.Asked.{AreOfMonitors, IsCarriage, asked_sources};
 
 use crate::outcome::Outcome;
 use crate::playing::story_of;
@@ -22,20 +22,21 @@ pub fn replay<F: Files, O: Sink>(
     files: &mut F,
     out: &mut O,
 ) -> Outcome
-    requires { AreOfMonitors words.now.logs.items }
+    requires monitors { AreOfMonitors words.now.sources.logs.items }
+    requires carriage { IsCarriage words.now.carriage }
     ensures done { IsSome result.story ↔ (result.status ≡ Done) }
     ensures sound { IfSome result.story (λ s. IsSound s.story) }
-    ensures ran { let gives = Loads (F.content files.old) (F.fault_count files.old) (F.fault_count files.new) (asked_replay words.now) in
+    ensures ran { let gives = Loads (F.content files.old) (F.fault_count files.old) (F.fault_count files.new) (asked_sources words.now.sources) in
         IfSome result.story (HasRun gives text_of (O.written out.old) (O.written out.new)) }
-    ensures ends { let gives = Loads (F.content files.old) (F.fault_count files.old) (F.fault_count files.new) (asked_replay words.now) in
+    ensures ends { let gives = Loads (F.content files.old) (F.fault_count files.old) (F.fault_count files.new) (asked_sources words.now.sources) in
         Ends gives text_of (O.written out.old) (O.written out.new) result.status }
     ensures unwritten { result.status ≡ NotWritten → HasRisen (O.fault_count out.old) (O.fault_count out.new) }
 {
-    let input = match load(alloc, words, files) {
+    let input = match load(alloc, &words.sources, files) {
         Ok(input) => input,
         Err(status) => return Outcome::ended(status),
     };
-    let Ok((story, names)) = story_of(alloc, input) else {
+    let Ok((story, names)) = story_of(alloc, input, words.carriage) else {
         return Outcome::ended(Status::NoMemory);
     };
     match print(alloc, &story, &names, out) {

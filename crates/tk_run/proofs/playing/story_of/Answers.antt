@@ -32,4 +32,4 @@ returns-clause-names c =
     let begun : KeptStory = record { story = begin input.settings input.logs c.in_ok-from.from; events = [] } in
     let driven : Drives (events_in input.order) begun world = subst (λ (k : KeptStory). Drives (events_in input.order) k world) c.in_ok-world.ensures c.in_ok-play.ensures.driven in
     let ran = c.what_is_reached_runs.ensures input.settings input.logs c.in_ok-from.from world c.in_ok-play.ensures.legal (c.a_drive_is_reached.ensures.driven (events_in input.order) begun world driven) in
-    c.requires.names ∙ ap (λ (s : Setup). s.objects) (sym ran.settings_is) ∙ ap (λ (k : KeptStory). k.story.settings.objects) (sym c.in_ok-into_story.ensures)
+    c.requires.agreed.names ∙ ap (λ (s : Setup). s.objects) (sym ran.settings_is) ∙ ap (λ (k : KeptStory). k.story.settings.objects) (sym c.in_ok-into_story.ensures)
