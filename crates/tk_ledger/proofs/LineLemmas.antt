@@ -20,34 +20,34 @@ use Rattle.tk_journal.specs.Legal.{start}
 use Rattle.tk_journal.specs.declared.publication.Publication.{Publication}
 use Rattle.tk_story.specs.Story.{IsStory, StoryView}
 use Rattle.tk_ledger.specs.Printing.{AreNamed}
-use Rattle.tk_ledger.specs.Text.{is_tuned, line_at, lines_in, lines_of, monitor_text, monitors_text}
+use Rattle.tk_ledger.specs.Text.{is_tuned, lines_by, monitor_text, monitors_text}
 use Rattle.tk_ledger.specs.declared.counts.Counts.{Counts}
 
 -- ---- publications
 
--- one more entry adds its line, if it has one
-pub lines_more : (names : List (List ℕ)) (journal : List Noted) (i : ℕ) (entry : Noted) → i < length journal → entry ≡ get_or journal i entry
-    → lines_of names (take (i + 1) journal) ≡ lines_of names (take i journal) ++ lines_in names (take i journal) entry
-unfolding lines_of
-lines_more names journal i entry within at =
-    let more : take (i + 1) journal ≡ take i journal ++ entry ∷ [] = take_more journal i entry within ∙ ap (λ (e : Noted). take i journal ++ e ∷ []) (sym at) in
-    ap (λ (j : List Noted). lines_of names j) more
-    ∙ walk-append (λ before lines e. lines ++ lines_in names before e) [] [] (take i journal) (entry ∷ [])
+module _ (line_of : Bool → Noted → Option (List ℕ)) where
+  -- one more entry adds its line, if it has one
+  pub lines_more : (journal : List Noted) (i : ℕ) (entry : Noted) → i < length journal → entry ≡ get_or journal i entry
+      → lines_by line_of (take (i + 1) journal) ≡ lines_by line_of (take i journal) ++ cons_option (line_of (list_any is_tuned (take i journal)) entry) []
+  lines_more journal i entry within at =
+      let more : take (i + 1) journal ≡ take i journal ++ entry ∷ [] = take_more journal i entry within ∙ ap (λ (e : Noted). take i journal ++ e ∷ []) (sym at) in
+      ap (λ (j : List Noted). lines_by line_of j) more
+      ∙ walk-append (λ before lines e. lines ++ cons_option (line_of (list_any is_tuned before) e) []) [] [] (take i journal) (entry ∷ [])
 
--- an entry that is no publication adds nothing
-pub no_line : (names : List (List ℕ)) (journal : List Noted) (i : ℕ) (entry : Noted) → i < length journal → entry ≡ get_or journal i entry
-    → line_at names (list_any is_tuned (take i journal)) entry ≡ None → lines_of names (take (i + 1) journal) ≡ lines_of names (take i journal)
-no_line names journal i entry within at none =
-    lines_more names journal i entry within at
-    ∙ ap (λ (o : Option (List ℕ)). lines_of names (take i journal) ++ cons_option o []) none
-    ∙ append-nil (lines_of names (take i journal))
+  -- an entry that is no publication adds nothing
+  pub no_line : (journal : List Noted) (i : ℕ) (entry : Noted) → i < length journal → entry ≡ get_or journal i entry
+      → line_of (list_any is_tuned (take i journal)) entry ≡ None → lines_by line_of (take (i + 1) journal) ≡ lines_by line_of (take i journal)
+  no_line journal i entry within at none =
+      lines_more journal i entry within at
+      ∙ ap (λ (o : Option (List ℕ)). lines_by line_of (take i journal) ++ cons_option o []) none
+      ∙ append-nil (lines_by line_of (take i journal))
 
--- a publication adds its line
-pub one_line : (names : List (List ℕ)) (journal : List Noted) (i : ℕ) (entry : Noted) (line : List ℕ) → i < length journal → entry ≡ get_or journal i entry
-    → line_at names (list_any is_tuned (take i journal)) entry ≡ Some line → lines_of names (take (i + 1) journal) ≡ lines_of names (take i journal) ++ line ∷ []
-one_line names journal i entry line within at some =
-    lines_more names journal i entry within at
-    ∙ ap (λ (o : Option (List ℕ)). lines_of names (take i journal) ++ cons_option o []) some
+  -- a publication adds its line
+  pub one_line : (journal : List Noted) (i : ℕ) (entry : Noted) (line : List ℕ) → i < length journal → entry ≡ get_or journal i entry
+      → line_of (list_any is_tuned (take i journal)) entry ≡ Some line → lines_by line_of (take (i + 1) journal) ≡ lines_by line_of (take i journal) ++ line ∷ []
+  one_line journal i entry line within at some =
+      lines_more journal i entry within at
+      ∙ ap (λ (o : Option (List ℕ)). lines_by line_of (take i journal) ++ cons_option o []) some
 
 pub concat-push : (lines more : List (List ℕ)) (line : List ℕ) → more ≡ lines ++ line ∷ [] → concat more ≡ concat lines ++ line
 concat-push lines more line is =
@@ -81,35 +81,37 @@ pub tuned_next : (journal : List Noted) (i : ℕ) (entry : Noted) (tuned now : B
 tuned_next journal i entry tuned now within at was is =
     ap (λ (b : Bool). b || now) was ∙ ap (λ (b : Bool). list_any is_tuned (take i journal) || b) is ∙ sym (tuned_more journal i entry within at)
 
--- what a call that forms lines found
-pub line_is : (names : List (List ℕ)) (journal : List Noted) (i : ℕ) (entry : Noted) (tuned : Bool) (found : Option (Vec ℕ Global)) (line : Vec ℕ Global)
-    → tuned ≡ list_any is_tuned (take i journal) → option_map (λ l. l.items) found ≡ line_at names tuned entry → found ≡ Some line
-    → line_at names (list_any is_tuned (take i journal)) entry ≡ Some line.items
-line_is names journal i entry tuned found line was is some =
-    ap (λ (b : Bool). line_at names b entry) (sym was) ∙ sym is ∙ ap (λ (o : Option (Vec ℕ Global)). option_map (λ l. l.items) o) some
+module _ (line_of : Bool → Noted → Option (List ℕ)) where
+  -- what a call that forms lines found
+  pub line_is : (journal : List Noted) (i : ℕ) (entry : Noted) (tuned : Bool) (found : Option (Vec ℕ Global)) (line : Vec ℕ Global)
+      → tuned ≡ list_any is_tuned (take i journal) → option_map (λ l. l.items) found ≡ line_of tuned entry → found ≡ Some line
+      → line_of (list_any is_tuned (take i journal)) entry ≡ Some line.items
+  line_is journal i entry tuned found line was is some =
+      ap (λ (b : Bool). line_of b entry) (sym was) ∙ sym is ∙ ap (λ (o : Option (Vec ℕ Global)). option_map (λ l. l.items) o) some
 
-pub no_line_is : (names : List (List ℕ)) (journal : List Noted) (i : ℕ) (entry : Noted) (tuned : Bool) (found : Option (Vec ℕ Global))
-    → tuned ≡ list_any is_tuned (take i journal) → option_map (λ l. l.items) found ≡ line_at names tuned entry → found ≡ None
-    → line_at names (list_any is_tuned (take i journal)) entry ≡ None
-no_line_is names journal i entry tuned found was is none =
-    ap (λ (b : Bool). line_at names b entry) (sym was) ∙ sym is ∙ ap (λ (o : Option (Vec ℕ Global)). option_map (λ l. l.items) o) none
+  pub no_line_is : (journal : List Noted) (i : ℕ) (entry : Noted) (tuned : Bool) (found : Option (Vec ℕ Global))
+      → tuned ≡ list_any is_tuned (take i journal) → option_map (λ l. l.items) found ≡ line_of tuned entry → found ≡ None
+      → line_of (list_any is_tuned (take i journal)) entry ≡ None
+  no_line_is journal i entry tuned found was is none =
+      ap (λ (b : Bool). line_of b entry) (sym was) ∙ sym is ∙ ap (λ (o : Option (Vec ℕ Global)). option_map (λ l. l.items) o) none
 
-walked : (names : List (List ℕ)) (before : List Noted) (lines : List (List ℕ)) (after : List Noted)
-    → (rest : List (List ℕ)) × (walk (λ b l e. l ++ lines_in names b e) before lines after ≡ lines ++ rest)
-walked names before lines [] = ([], sym (append-nil lines))
-walked names before lines (e ∷ after) =
-    let (rest, is) = walked names (before ++ e ∷ []) (lines ++ lines_in names before e) after in
-    (lines_in names before e ++ rest, is ∙ append_assoc lines (lines_in names before e) rest)
+  abbrev step : List Noted → List (List ℕ) → Noted → List (List ℕ)
+  step before lines e = lines ++ cons_option (line_of (list_any is_tuned before) e) []
 
--- the text of the first lines stands in front of the whole
-pub lines_split : (names : List (List ℕ)) (journal : List Noted) (i : ℕ) → (rest : List ℕ) × (concat (lines_of names journal) ≡ concat (lines_of names (take i journal)) ++ rest)
-unfolding lines_of
-lines_split names journal i =
-    let step : List Noted → List (List ℕ) → Noted → List (List ℕ) = λ b l e. l ++ lines_in names b e in
-    let (rest, is) = walked names (take i journal) (lines_of names (take i journal)) (drop i journal) in
-    let whole : lines_of names journal ≡ lines_of names (take i journal) ++ rest =
-    ap (λ (j : List Noted). lines_of names j) (sym (take-append-drop i journal)) ∙ walk-append step [] [] (take i journal) (drop i journal) ∙ is in
-    (concat rest, ap (λ (l : List (List ℕ)). concat l) whole ∙ concat-append (lines_of names (take i journal)) rest)
+  walked : (before : List Noted) (lines : List (List ℕ)) (after : List Noted) → (rest : List (List ℕ)) × (walk step before lines after ≡ lines ++ rest)
+  walked before lines [] = ([], sym (append-nil lines))
+  walked before lines (e ∷ after) =
+      let here = cons_option (line_of (list_any is_tuned before) e) [] in
+      let (rest, is) = walked (before ++ e ∷ []) (lines ++ here) after in
+      (here ++ rest, is ∙ append_assoc lines here rest)
+
+  -- the text of the first lines stands in front of the whole
+  pub lines_split : (journal : List Noted) (i : ℕ) → (rest : List ℕ) × (concat (lines_by line_of journal) ≡ concat (lines_by line_of (take i journal)) ++ rest)
+  lines_split journal i =
+      let (rest, is) = walked (take i journal) (lines_by line_of (take i journal)) (drop i journal) in
+      let whole : lines_by line_of journal ≡ lines_by line_of (take i journal) ++ rest =
+      ap (λ (j : List Noted). lines_by line_of j) (sym (take-append-drop i journal)) ∙ walk-append step [] [] (take i journal) (drop i journal) ∙ is in
+      (concat rest, ap (λ (l : List (List ℕ)). concat l) whole ∙ concat-append (lines_by line_of (take i journal)) rest)
 
 -- ---- monitors
 

@@ -2,12 +2,13 @@
 use Rattle.std.specs.Prelude.{ℕ, ◌++◌, Bool, true, false, List, [], length, flat_map, sum_by, codes, decimal, unwrap_or, Option, Some, None}
 use Rattle.std.specs.List.{concat, cons_option, enumerate_from, list_any}
 use Rattle.tk_base.specs.History.{last_of}
-use Rattle.tk_journal.specs.Line.{line_text}
+use Rattle.tk_journal.specs.Line.{cut_text, line_text}
 use Rattle.tk_journal.specs.Walks.{walk}
 use Rattle.tk_journal.specs.declared.noted.Noted.{Noted}
 use Rattle.tk_journal.specs.declared.noted.Noted.TheVariants as n
 use Rattle.tk_frames.specs.declared.kind.Kind.TheVariants as k
 use Rattle.tk_story.specs.Story.{StoryView}
+use Rattle.tk_window.specs.TickEnds.{ticks_at}
 use Rattle.tk_ledger.specs.Counting.{count_of}
 use Rattle.tk_ledger.specs.Ledger.{ledger_of}
 use Rattle.tk_ledger.specs.declared.counts.Counts.{Counts}
@@ -35,6 +36,29 @@ lines_in names before e = cons_option (line_at names (list_any is_tuned before) 
 -- the lines of the publications, in order
 unfoldable pub lines_of : List (List ℕ) → List Noted → List (List ℕ)
 lines_of names journal = walk (λ before lines e. lines ++ lines_in names before e) [] [] journal
+
+-- the lines that are formed so of some entries, each with whether a retune stands before it
+abbrev pub lines_by : (Bool → Noted → Option (List ℕ)) → List Noted → List (List ℕ)
+lines_by line journal = walk (λ before lines e. lines ++ cons_option (line (list_any is_tuned before) e) []) [] [] journal
+
+-- ---- publications of a run over windows
+
+-- the line behind a publication: at which ticks its places stand, where one ends at each
+abbrev pub ticks_text : Option (List (List ℕ)) → List ℕ
+ticks_text None = []
+ticks_text (Some ticks) = codes "ticks" ++ cut_text ticks ++ codes "\n"
+
+-- the lines of an entry that is a publication, over logs whose ticks end so
+abbrev pub ticked_at : List (List (List ℕ)) → List (List ℕ) → Bool → Noted → Option (List ℕ)
+ticked_at ends names tuned (n.Got from frame) = None
+ticked_at ends names tuned (n.Sent to frame) = None
+ticked_at ends names tuned (n.Published publication) = Some (line_text names tuned publication ++ ticks_text (ticks_at ends publication.cut))
+ticked_at ends names tuned (n.Tuned k epsilon) = None
+
+-- with ticks or without
+abbrev pub line_with : Option (List (List (List ℕ))) → List (List ℕ) → Bool → Noted → Option (List ℕ)
+line_with None names = line_at names
+line_with (Some ends) names = ticked_at ends names
 
 -- ---- the ledger
 
@@ -99,6 +123,10 @@ ledger_text ledger = totals_text ledger ++ monitors_text ledger.per
 -- the text of a story: the lines of its publications, then those of its ledger
 unfoldable pub text_of : List (List ℕ) → StoryView → List ℕ
 text_of names s = concat (lines_of names s.journal) ++ ledger_text (ledger_of s.settings s.journal)
+
+-- the same of a run over windows, where each publication is followed by its ticks
+unfoldable pub ticked_text_of : List (List (List ℕ)) → List (List ℕ) → StoryView → List ℕ
+ticked_text_of ends names s = concat (lines_by (ticked_at ends names) s.journal) ++ ledger_text (ledger_of s.settings s.journal)
 
 -- the summary of a story: how many publications there are, the line of the last of them, and the first three
 -- lines of its ledger

@@ -1,10 +1,11 @@
-ghost use Rattle.std.specs.Prelude.{◌≡◌, [], length, option_map, unwrap_or, IfOk, OnOk, OnErr, IsErrOf};
+ghost use Rattle.std.specs.Prelude.{◌≡◌, ◌++◌, [], length, option_map, unwrap_or, IfOk, OnOk, OnErr, IsErrOf};
 ghost use Rattle.std.specs.List.{concat, All};
 ghost use Rattle.tk_base.specs.History.{last_of};
 ghost use Rattle.tk_input.specs.Files.{HasRisen};
 ghost use Rattle.tk_input.specs.Sink.{Grows, GrowsByFront};
 ghost use Rattle.tk_ledger.specs.Printing.{AreNamed, print_faults};
-ghost use Rattle.tk_ledger.specs.Text.{is_tuned, ledger_text, line_at, lines_of, monitors_text, summary_of, text_of, totals_text};
+ghost use Rattle.tk_ledger.specs.Text.{is_tuned, ledger_text, line_at, line_with, lines_by, lines_of, monitors_text, summary_of, text_of, ticked_at, ticked_text_of, ticks_text, totals_text};
+ghost use Rattle.tk_window.specs.TickEnds.{ticks_at};
 ghost use Rattle.tk_ledger.specs.declared.printing.PrintFault.TheVariants.{NoMemory as OutOfMemory, WriteFailed as NotWritten};
 
 use crate::counts::PerMonitor;
@@ -13,10 +14,11 @@ use crate::text::{bytes_line, frames_line, monitor_line, publications_line, roun
 use std::alloc::{AllocError, Global};
 use std::error::Error;
 use std::fmt;
-use tk_base::NoMemory;
+use tk_base::{Cut, NoMemory};
 use tk_input::{Catalog, PutFailed, Sink};
-use tk_journal::Noted;
+use tk_journal::{Noted, push_cut};
 use tk_story::Story;
+use tk_window::TickEnds;
 
 /// Why a text was not written to its end. What was written is a front of it.
 #[derive(Clone, Copy, Debug, PartialEq, Eq)]
@@ -119,22 +121,81 @@ fn line_in(
     }
 }
 
+/// Writes the ticks that end at the places of a cut, where one does at each.
+fn push_ticks(
+    alloc: Global,
+    line: &mut Vec<u8>,
+    ends: &TickEnds,
+    cut: &Cut,
+) -> Result<(), NoMemory>
+    ensures { OnOk result (line.new.items ≡ line.old.items ++ ticks_text (ticks_at ends.now cut.now)) }
+{
+    let Some(ticks) = ends.at(alloc, cut)? else {
+        return Ok(());
+    };
+    line.extend_from_slice(b"ticks")?;
+    push_cut(line, &ticks)?;
+    line.extend_from_slice(b"\n")?;
+    Ok(())
+}
+
+/// The line of an entry that is a publication, and that of its ticks.
+fn ticked_line(
+    alloc: Global,
+    entry: &Noted,
+    names: &Catalog,
+    tuned: bool,
+    ends: &TickEnds,
+) -> Result<Option<Vec<u8>>, NoMemory>
+    requires { AreNamed (length names.now) entry.now }
+    ensures { IfOk result (λ line. option_map (λ l. l.items) line ≡ ticked_at ends.now names.now tuned entry.now) }
+{
+    match entry {
+        Noted::Published(publication) => {
+            let mut line = publication.get().line(alloc, names, tuned)?;
+            push_ticks(alloc, &mut line, ends, &publication.get().cut)?;
+            Ok(Some(line))
+        }
+        Noted::Got(..) | Noted::Sent(..) | Noted::Tuned(..) => Ok(None),
+    }
+}
+
+/// The same with ticks or without.
+fn line_by(
+    alloc: Global,
+    entry: &Noted,
+    names: &Catalog,
+    tuned: bool,
+    ticks: Option<&TickEnds>,
+) -> Result<Option<Vec<u8>>, NoMemory>
+    requires { AreNamed (length names.now) entry.now }
+    ensures { IfOk result (λ line. option_map (λ l. l.items) line ≡ line_with (option_map (λ t. t.now) ticks.entry) names.now tuned entry.now) }
+{
+    match ticks {
+        None => line_in(alloc, entry, names, tuned),
+        Some(ends) => ticked_line(alloc, entry, names, tuned, ends),
+    }
+}
+
 /// Writes the lines of the publications.
 fn print_publications<O: Sink>(
     alloc: Global,
     journal: &[Noted],
     names: &Catalog,
+    ticks: Option<&TickEnds>,
     out: &mut O,
 ) -> Result<(), PrintFault>
     requires { All (AreNamed (length names.now)) journal.now }
-    ensures ok { OnOk result (Grows (O.written out.old) (O.written out.new) (concat (lines_of names.now journal.now))) }
-    ensures err { OnErr result (GrowsByFront (O.written out.old) (O.written out.new) (concat (lines_of names.now journal.now))) }
+    ensures ok { let lines = lines_by (line_with (option_map (λ t. t.now) ticks.entry) names.now) journal.now in
+        OnOk result (Grows (O.written out.old) (O.written out.new) (concat lines)) }
+    ensures err { let lines = lines_by (line_with (option_map (λ t. t.now) ticks.entry) names.now) journal.now in
+        OnErr result (GrowsByFront (O.written out.old) (O.written out.new) (concat lines)) }
     ensures failed { IsErrOf result PrintFault.WriteFailed → HasRisen (O.fault_count out.old) (O.fault_count out.new) }
     ensures counted { O.fault_count out.new ≡ print_faults result (O.fault_count out.old) }
 {
     let mut tuned = false;
     for entry in journal {
-        if let Some(line) = line_in(alloc, entry, names, tuned)? {
+        if let Some(line) = line_by(alloc, entry, names, tuned, ticks)? {
             out.put(&line)?;
         }
         tuned |= is_retune(entry);
@@ -175,7 +236,26 @@ pub fn print<O: Sink>(
     ensures failed { IsErrOf result PrintFault.WriteFailed → HasRisen (O.fault_count out.old) (O.fault_count out.new) }
     ensures counted { O.fault_count out.new ≡ print_faults result (O.fault_count out.old) }
 {
-    print_publications(alloc, story.journal(), names, out)?;
+    print_publications(alloc, story.journal(), names, None, out)?;
+    print_ledger(alloc, &Ledger::of(alloc, story)?, out)
+}
+
+/// The same of a run over windows: behind the line of a publication whose places are all ends of ticks stands one of
+/// these ticks.
+pub fn print_ticked<O: Sink>(
+    alloc: Global,
+    story: &Story,
+    names: &Catalog,
+    ends: &TickEnds,
+    out: &mut O,
+) -> Result<(), PrintFault>
+    requires names { length names.now ≡ story.now.story.settings.objects }
+    ensures ok { OnOk result (Grows (O.written out.old) (O.written out.new) (ticked_text_of ends.now names.now story.now.story)) }
+    ensures err { OnErr result (GrowsByFront (O.written out.old) (O.written out.new) (ticked_text_of ends.now names.now story.now.story)) }
+    ensures failed { IsErrOf result PrintFault.WriteFailed → HasRisen (O.fault_count out.old) (O.fault_count out.new) }
+    ensures counted { O.fault_count out.new ≡ print_faults result (O.fault_count out.old) }
+{
+    print_publications(alloc, story.journal(), names, Some(ends), out)?;
     print_ledger(alloc, &Ledger::of(alloc, story)?, out)
 }
 

@@ -14,7 +14,7 @@ pub print_publications-requires : goal.print_publications-requires
 print_publications-requires g c = named_at c.args.story.now.story c.args.names.now c.journal.result.now c.journal.ensures.legal c.requires.names c.journal.ensures.value
 
 pub returns-in_err-print_publications-clause-err : goal.returns-in_err-print_publications-clause-err
-unfolding text_of
+unfolding text_of lines_of
 returns-in_err-print_publications-clause-err g c =
     let w = g.O.Sink.written in
     let s = c.args.story.now.story in
@@ -23,7 +23,7 @@ returns-in_err-print_publications-clause-err g c =
     (subst (λ (j : List Noted). GrowsByFront (w c.args.out.now) (w c.print_publications.new.out) (concat (lines_of names j))) c.journal.ensures.value c.in_err-print_publications.ensures.err))
 
 pub returns-in_err-of-clause-err : goal.returns-in_err-of-clause-err
-unfolding text_of
+unfolding text_of lines_of
 returns-in_err-of-clause-err g c =
     let w = g.O.Sink.written in
     let s = c.args.story.now.story in
@@ -32,7 +32,7 @@ returns-in_err-of-clause-err g c =
     (subst (λ (j : List Noted). Grows (w c.args.out.now) (w c.print_publications.new.out) (concat (lines_of names j))) c.journal.ensures.value c.in_ok-print_publications.ensures.ok))
 
 pub returns-clause-ok : goal.returns-clause-ok
-unfolding text_of
+unfolding text_of lines_of
 returns-clause-ok g c =
     let w = g.O.Sink.written in
     let s = c.args.story.now.story in
@@ -42,7 +42,7 @@ returns-clause-ok g c =
     then_ok c.print_ledger.result (w c.args.out.now) (w c.print_publications.new.out) (w c.print_ledger.new.out) (concat (lines_of names s.journal)) (ledger_text (ledger_of s.settings s.journal)) first ledger
 
 pub returns-clause-err : goal.returns-clause-err
-unfolding text_of
+unfolding text_of lines_of
 returns-clause-err g c =
     let w = g.O.Sink.written in
     let s = c.args.story.now.story in
