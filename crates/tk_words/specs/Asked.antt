@@ -23,6 +23,7 @@ asked_sources r = record {
   own_weight = r.own_weight;
   objects = r.objects.now;
   order = option_map (λ s. s.now) r.order;
+  width = r.width;
   logs = asked_logs r.logs.items;
 }
 

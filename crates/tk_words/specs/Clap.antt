@@ -24,6 +24,20 @@ replay_app =
     (option_rule (codes "frames") false))
     logs_rule
 
+-- `window`
+abbrev pub window_app : App
+window_app =
+    with_rule (with_rule (with_rule (with_rule (with_rule (with_rule (with_rule (with_rule (with_rule (new_app (codes "window"))
+    (option_rule (codes "k") true))
+    (option_rule (codes "epsilon") true))
+    (option_rule (codes "objects") true))
+    (option_rule (codes "width") true))
+    (option_rule (codes "own-weight") false))
+    (option_rule (codes "order") false))
+    (option_rule (codes "piece") false))
+    (option_rule (codes "frames") false))
+    logs_rule
+
 -- `live`
 abbrev pub live_app : App
 live_app =

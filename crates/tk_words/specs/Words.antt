@@ -3,17 +3,19 @@ use Rattle.std.specs.Prelude.{ℕ, List, [], ◌∷◌, Option, Some, None, opti
 use Rattle.std.specs.Option.{option_map_or}
 use Rattle.clap.specs.Words.{Row, all_of, first_of}
 use Rattle.tk_words.specs.declared.verb.Verb.{Verb}
-use Rattle.tk_words.specs.declared.verb.Verb.TheVariants.{Replay, Generate, Live}
-use Rattle.tk_words.specs.Clap.{found_in, gen_app, live_app, replay_app}
+use Rattle.tk_words.specs.declared.verb.Verb.TheVariants.{Replay, Generate, Live, Window}
+use Rattle.tk_words.specs.Clap.{found_in, gen_app, live_app, replay_app, window_app}
 use Rattle.tk_words.specs.Forms.{digits_in, file_in, logs_in, piece_in, short_in, version_in}
 
--- where a run finds its input: the numbers of the settings, and the files with their logs' monitors
+-- where a run finds its input: the numbers of the settings, the files with their logs' monitors, and the width of the
+-- window over them, where there is one
 pub record SourceWords : Type 0 where
   pub k : ℕ
   pub epsilon : ℕ
   pub own_weight : ℕ
   pub objects : List ℕ
   pub order : Option (List ℕ)
+  pub width : Option ℕ
   pub logs : List (ℕ × List ℕ)
 
 -- how frames go: the length of a piece, and their version
@@ -58,11 +60,11 @@ optional form name absent rows = option_map_or form (first_of name rows) (Some a
 abbrev pub logs_of : List Row → Option (List (ℕ × List ℕ))
 logs_of rows = option_and_then logs_in (all_of (codes "log") rows)
 
--- the settings, the objects and the logs that are named, with this order
-abbrev pub sources_with : Option (List ℕ) → List Row → Option SourceWords
-sources_with order rows =
+-- the settings, the objects and the logs that are named, with this order and this window
+abbrev pub sources_with : Option (List ℕ) → Option ℕ → List Row → Option SourceWords
+sources_with order width rows =
     option_and_then (λ k. option_and_then (λ epsilon. option_and_then (λ own_weight. option_and_then (λ objects.
-    option_map (λ logs. record { k = k; epsilon = epsilon; own_weight = own_weight; objects = objects; order = order; logs = logs })
+    option_map (λ logs. record { k = k; epsilon = epsilon; own_weight = own_weight; objects = objects; order = order; width = width; logs = logs })
     (logs_of rows))
     (required file_in (codes "objects") rows))
     (optional short_in (codes "own-weight") 1 rows))
@@ -75,18 +77,26 @@ carriage_of rows =
     option_and_then (λ piece. option_map (λ frames. record { piece = piece; frames = frames }) (optional version_in (codes "frames") 1 rows))
     (optional piece_in (codes "piece") 4096 rows)
 
--- the values of a replay
-abbrev pub replay_of : List Row → Option ReplayWords
-replay_of rows =
+-- the values of a replay with this window
+abbrev pub replay_with : Option ℕ → List Row → Option ReplayWords
+replay_with width rows =
     option_and_then (λ carriage. option_and_then (λ order. option_map (λ sources. record { sources = sources; carriage = carriage })
-    (sources_with order rows))
+    (sources_with order width rows))
     (optional (λ text. option_map Some (file_in text)) (codes "order") None rows))
     (carriage_of rows)
+
+-- those of a replay of the logs as they are
+abbrev pub replay_of : List Row → Option ReplayWords
+replay_of rows = replay_with None rows
+
+-- those of a replay with a window
+abbrev pub window_of : List Row → Option ReplayWords
+window_of rows = option_and_then (λ width. replay_with (Some width) rows) (required short_in (codes "width") rows)
 
 -- the values of a live run
 abbrev pub live_of : List Row → Option LiveWords
 live_of rows =
-    option_and_then (λ frames. option_map (λ sources. record { sources = sources; frames = frames }) (sources_with None rows))
+    option_and_then (λ frames. option_map (λ sources. record { sources = sources; frames = frames }) (sources_with None None rows))
     (optional version_in (codes "frames") 1 rows)
 
 -- the values of a generated run
@@ -105,6 +115,10 @@ generate_of rows =
 abbrev pub replay_in : List (List ℕ) → Option ReplayWords
 replay_in words = option_and_then replay_of (found_in replay_app words)
 
+-- what those of a window ask for
+abbrev pub window_in : List (List ℕ) → Option ReplayWords
+window_in words = option_and_then window_of (found_in window_app words)
+
 -- what those of a live run ask for
 abbrev pub live_in : List (List ℕ) → Option LiveWords
 live_in words = option_and_then live_of (found_in live_app words)
@@ -117,19 +131,21 @@ generate_in words = option_and_then generate_of (found_in gen_app words)
 abbrev pub verb_named : List ℕ → Option Verb
 verb_named word =
     if bytes_eq word (codes "replay") then Some Replay
-    else (if bytes_eq word (codes "gen") then Some Generate else (if bytes_eq word (codes "live") then Some Live else None))
+    else (if bytes_eq word (codes "gen") then Some Generate else (if bytes_eq word (codes "live") then Some Live
+    else (if bytes_eq word (codes "window") then Some Window else None)))
 
 -- the command of some words, which the first of them names
 abbrev pub verb_of : List (List ℕ) → Option Verb
 verb_of [] = None
 verb_of (word ∷ rest) = verb_named word
 
--- what the words of a command ask for
+-- what the words of a command ask for: a window is a replay of its logs, expanded
 abbrev pub asked_under : Option Verb → List (List ℕ) → Option Asked
 asked_under None words = None
 asked_under (Some Replay) words = option_map Replays (replay_in words)
 asked_under (Some Generate) words = option_map Generates (generate_in words)
 asked_under (Some Live) words = option_map Lives (live_in words)
+asked_under (Some Window) words = option_map Replays (window_in words)
 
 -- what words ask for, where they are understood
 abbrev pub words_of : List (List ℕ) → Option Asked

@@ -7,12 +7,13 @@ use crate::generate::{Generate, read_generate};
 use crate::live::{Live, read_live};
 use crate::replay::{Replay, read_replay};
 use crate::verb::{Verb, verb_of};
+use crate::window::read_window;
 use std::alloc::Global;
 
 /// What the words of the program ask for.
 #[derive(Drop)]
 pub enum Command<'a> {
-    /// A replay of logs from files.
+    /// A replay of logs from files, as they are or with a window over them.
     Replay(Replay<'a>),
     /// A replay of logs that are made.
     Generate(Generate),
@@ -40,6 +41,10 @@ pub fn read<'a>(alloc: Global, words: &'a [String]) -> Result<Command<'a>, Words
         },
         Some(Verb::Live) => match read_live(alloc, words) {
             Ok(live) => Ok(Command::Live(live)),
+            Err(fault) => Err(fault),
+        },
+        Some(Verb::Window) => match read_window(alloc, words) {
+            Ok(replay) => Ok(Command::Replay(replay)),
             Err(fault) => Err(fault),
         },
     }

@@ -17,6 +17,7 @@ mod parsing;
 mod replay;
 mod sources;
 mod verb;
+mod window;
 
 pub use carriage::Carriage;
 pub use command::{Command, read};

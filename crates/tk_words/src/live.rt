@@ -42,7 +42,7 @@ fn values<'a>(alloc: Global, matches: &ArgMatches<'a>) -> Result<Live<'a>, Words
     let Some(frames) = frames(matches) else {
         return Err(WordsFault::Usage);
     };
-    match sources_with(alloc, matches, None) {
+    match sources_with(alloc, matches, None, None) {
         Ok(sources) => Ok(Live { sources, frames }),
         Err(fault) => Err(fault),
     }

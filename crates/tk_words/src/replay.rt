@@ -3,7 +3,8 @@ ghost use Rattle.clap.specs.Words.{app_of, found_of, rows_of};
 ghost use Rattle.tk_words.specs.Asked.{AreOfMonitors, IsCarriage, asked_replay};
 ghost use Rattle.tk_words.specs.Clap.{replay_app};
 ghost use Rattle.tk_words.specs.Forms.{file_in};
-ghost use Rattle.tk_words.specs.Words.{optional, replay_in, replay_of};
+ghost use Rattle.tk_words.specs.Words as spec;
+ghost use Rattle.tk_words.specs.Words.{optional, replay_in};
 
 use crate::carriage::{Carriage, carriage_in};
 use crate::fault::WordsFault;
@@ -46,9 +47,14 @@ fn order<'a>(matches: &ArgMatches<'a>) -> Option<Option<&'a str>>
     }
 }
 
-fn values<'a>(alloc: Global, matches: &ArgMatches<'a>) -> Result<Replay<'a>, WordsFault>
-    ensures ok { IfOk result (λ r. replay_of (rows_of (found_of matches.now)) ≡ Some (asked_replay r)) }
-    ensures usage { IsErrOf result WordsFault.Usage → replay_of (rows_of (found_of matches.now)) ≡ None }
+/// The values of a replay, with this window.
+pub fn replay_with<'a>(
+    alloc: Global,
+    matches: &ArgMatches<'a>,
+    width: Option<u64>,
+) -> Result<Replay<'a>, WordsFault>
+    ensures ok { IfOk result (λ r. spec.replay_with width (rows_of (found_of matches.now)) ≡ Some (asked_replay r)) }
+    ensures usage { IsErrOf result WordsFault.Usage → spec.replay_with width (rows_of (found_of matches.now)) ≡ None }
     ensures monitors { IfOk result (λ r. AreOfMonitors r.sources.logs.items) }
     ensures carriage { IfOk result (λ r. IsCarriage r.carriage) }
 {
@@ -58,7 +64,7 @@ fn values<'a>(alloc: Global, matches: &ArgMatches<'a>) -> Result<Replay<'a>, Wor
     let Some(order) = order(matches) else {
         return Err(WordsFault::Usage);
     };
-    match sources_with(alloc, matches, order) {
+    match sources_with(alloc, matches, order, width) {
         Ok(sources) => Ok(Replay { sources, carriage }),
         Err(fault) => Err(fault),
     }
@@ -73,7 +79,7 @@ pub fn read_replay<'a>(alloc: Global, words: &'a [String]) -> Result<Replay<'a>,
 {
     let command = command(alloc)?;
     match parse(command, words) {
-        Ok(matches) => match values(alloc, &matches) {
+        Ok(matches) => match replay_with(alloc, &matches, None) {
             Ok(replay) => Ok(replay),
             Err(fault) => Err(fault),
         },

@@ -12,7 +12,7 @@ use clap::ArgMatches;
 use std::alloc::Global;
 use tk_base::Mon;
 
-/// Where a run finds its input: the numbers of its settings, and its files.
+/// Where a run finds its input: the numbers of its settings, its files, and the window over them.
 #[derive(Drop)]
 pub struct Sources<'a> {
     pub k: u64,
@@ -20,6 +20,8 @@ pub struct Sources<'a> {
     pub own_weight: u64,
     pub objects: &'a str,
     pub order: Option<&'a str>,
+    /// The width of the window, in ticks, where the logs have such.
+    pub width: Option<u64>,
     /// The logs in the order of the words; those of one monitor become its feeders.
     pub logs: Vec<(Mon, &'a str)>,
 }
@@ -60,14 +62,15 @@ fn logs<'a>(alloc: Global, matches: &ArgMatches<'a>) -> Result<Vec<(Mon, &'a str
     }
 }
 
-/// The settings, the objects and the logs, with this order.
+/// The settings, the objects and the logs, with this order and this window.
 pub fn sources_with<'a>(
     alloc: Global,
     matches: &ArgMatches<'a>,
     order: Option<&'a str>,
+    width: Option<u64>,
 ) -> Result<Sources<'a>, WordsFault>
-    ensures ok { IfOk result (λ r. spec.sources_with (option_map (λ s. s.now) order.entry) (rows_of (found_of matches.now)) ≡ Some (asked_sources r)) }
-    ensures usage { IsErrOf result WordsFault.Usage → spec.sources_with (option_map (λ s. s.now) order.entry) (rows_of (found_of matches.now)) ≡ None }
+    ensures ok { IfOk result (λ r. spec.sources_with (option_map (λ s. s.now) order.entry) width (rows_of (found_of matches.now)) ≡ Some (asked_sources r)) }
+    ensures usage { IsErrOf result WordsFault.Usage → spec.sources_with (option_map (λ s. s.now) order.entry) width (rows_of (found_of matches.now)) ≡ None }
     ensures monitors { IfOk result (λ r. AreOfMonitors r.logs.items) }
 {
     let Some(k) = short(matches, "k") else {
@@ -89,6 +92,7 @@ pub fn sources_with<'a>(
             own_weight,
             objects,
             order,
+            width,
             logs,
         }),
         Err(fault) => Err(fault),

@@ -7,6 +7,7 @@ pub enum Verb {
     Replay,
     Generate,
     Live,
+    Window,
 }
 
 fn verb_in(word: &str) -> Option<Verb>
@@ -18,6 +19,8 @@ fn verb_in(word: &str) -> Option<Verb>
         Some(Verb::Generate)
     } else if word == "live" {
         Some(Verb::Live)
+    } else if word == "window" {
+        Some(Verb::Window)
     } else {
         None
     }

@@ -7,15 +7,15 @@ use Rattle.tk_words.specs.Words.{replay_of}
 use Rattle.tk_words.proofs.FoundLemmas.{formed, unformed}
 use Rattle.tk_words.proofs.replay.read_replay.Goals as goal
 
-pub returns-in-Ok-values-clause-ok : goal.returns-in-Ok-values-clause-ok
-returns-in-Ok-values-clause-ok c =
-    formed replay_of (app_of c.in_ok-command.command) replay_app (map string_bytes c.args.words.now) (rows_of (found_of c.in-Ok.matches)) (Some (asked_replay c.in-Ok-values.replay)) c.in_ok-command.ensures c.in-Ok.ensures.ok
-    c.in-Ok-values.ensures.ok
+pub returns-in-Ok-replay_with-clause-ok : goal.returns-in-Ok-replay_with-clause-ok
+returns-in-Ok-replay_with-clause-ok c =
+    formed replay_of (app_of c.in_ok-command.command) replay_app (map string_bytes c.args.words.now) (rows_of (found_of c.in-Ok.matches)) (Some (asked_replay c.in-Ok-replay_with.replay)) c.in_ok-command.ensures c.in-Ok.ensures.ok
+    c.in-Ok-replay_with.ensures.ok
 
 pub returns-in-Ok-clause-usage : goal.returns-in-Ok-clause-usage
 returns-in-Ok-clause-usage c = λ usage.
     formed replay_of (app_of c.in_ok-command.command) replay_app (map string_bytes c.args.words.now) (rows_of (found_of c.in-Ok.matches)) None c.in_ok-command.ensures c.in-Ok.ensures.ok
-    (c.in-Err-values.ensures.usage usage)
+    (c.in-Err-replay_with.ensures.usage usage)
 
 pub returns-clause-usage : goal.returns-clause-usage
 returns-clause-usage c = λ usage.

@@ -1,0 +1,56 @@
+ghost use Rattle.std.specs.Prelude.{◌≡◌, Some, None, IfOk, IsErrOf, map, string_bytes};
+ghost use Rattle.clap.specs.Words.{app_of, found_of, rows_of};
+ghost use Rattle.tk_words.specs.Asked.{AreOfMonitors, IsCarriage, asked_replay};
+ghost use Rattle.tk_words.specs.Clap.{window_app};
+ghost use Rattle.tk_words.specs.Words.{window_in, window_of};
+
+use crate::fault::WordsFault;
+use crate::options::{log_words, option};
+use crate::parsing::{parse, short};
+use crate::replay::{Replay, replay_with};
+use clap::{ArgMatches, Command};
+use std::alloc::{AllocError, Global};
+
+fn command<'a>(alloc: Global) -> Result<Command<'a>, AllocError>
+    ensures { IfOk result (λ c. app_of c ≡ window_app) }
+{
+    Command::new(alloc, "window")
+        .arg(option(alloc, "k", true))?
+        .arg(option(alloc, "epsilon", true))?
+        .arg(option(alloc, "objects", true))?
+        .arg(option(alloc, "width", true))?
+        .arg(option(alloc, "own-weight", false))?
+        .arg(option(alloc, "order", false))?
+        .arg(option(alloc, "piece", false))?
+        .arg(option(alloc, "frames", false))?
+        .arg(log_words(alloc))
+}
+
+fn values<'a>(alloc: Global, matches: &ArgMatches<'a>) -> Result<Replay<'a>, WordsFault>
+    ensures ok { IfOk result (λ r. window_of (rows_of (found_of matches.now)) ≡ Some (asked_replay r)) }
+    ensures usage { IsErrOf result WordsFault.Usage → window_of (rows_of (found_of matches.now)) ≡ None }
+    ensures monitors { IfOk result (λ r. AreOfMonitors r.sources.logs.items) }
+    ensures carriage { IfOk result (λ r. IsCarriage r.carriage) }
+{
+    let Some(width) = short(matches, "width") else {
+        return Err(WordsFault::Usage);
+    };
+    replay_with(alloc, matches, Some(width))
+}
+
+/// Reads the words of `window`, the command first: those of a replay, and the width of the window.
+pub fn read_window<'a>(alloc: Global, words: &'a [String]) -> Result<Replay<'a>, WordsFault>
+    ensures ok { IfOk result (λ r. window_in (map string_bytes words.entry.now) ≡ Some (asked_replay r)) }
+    ensures usage { IsErrOf result WordsFault.Usage → window_in (map string_bytes words.entry.now) ≡ None }
+    ensures monitors { IfOk result (λ r. AreOfMonitors r.sources.logs.items) }
+    ensures carriage { IfOk result (λ r. IsCarriage r.carriage) }
+{
+    let command = command(alloc)?;
+    match parse(command, words) {
+        Ok(matches) => match values(alloc, &matches) {
+            Ok(replay) => Ok(replay),
+            Err(fault) => Err(fault),
+        },
+        Err(fault) => Err(fault),
+    }
+}
