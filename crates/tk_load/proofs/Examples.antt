@@ -23,13 +23,14 @@ abbrev unknown : File
 unknown = record { name = codes "unknown.csv"; content = Some (codes "a,1\nb,2\nc,3\n") }
 
 abbrev asked : ℕ → Option File → List (ℕ × File) → ReadWords
-asked k order logs = record { k = k; epsilon = 0; own_weight = 1; objects = names; order = order; logs = logs }
+asked k order logs = record { k = k; epsilon = 0; own_weight = 1; objects = names; order = order; width = None; logs = logs }
 
 -- two monitors, k 1 and epsilon 0
 pub two_monitors : input_of (asked 1 None ((1, one) ∷ (2, two) ∷ [])) ≡ Ok (record {
   names = codes "a" ∷ codes "b" ∷ [];
   settings = record { k = 1; epsilon = pos 0; own_weight = 1; objects = 2; monitors = 2 };
   logs = record { logs = (((1, pos 5) ∷ []) ∷ []) ∷ (((2, pos 3) ∷ []) ∷ []) ∷ []; objects = 2 };
+  ends = None;
   order = None;
 })
 unfolding csv_on_literals through objects

@@ -1,36 +1,36 @@
 -- The input, from what each stage of the work gave.
 use Rattle.std.proofs.Common.{◌≡◌, ℕ, max, List, [], All, Option, Some, None, IfSome, unwrap_or, option_map, Result, Ok, Err, get_or, length, map, refl, ap, sym, subst, ◌∙◌, arith}
 use Rattle.std.proofs.lemmas.List.Folds.{fold-map}
-use Rattle.tk_base.specs.Settings.{Setup}
-use Rattle.tk_input.specs.Judged.{Assigned}
-use Rattle.tk_input.specs.Logs.{LogSet}
 use Rattle.tk_input.specs.Order.{Ordered}
 use Rattle.tk_input.specs.Records.{and_then}
 use Rattle.tk_words.specs.Words.{SourceWords}
 use Rattle.tk_load.specs.Faults.{Fault, after}
-use Rattle.tk_load.specs.Input.{File, ReadWords, greatest_monitor, input_of, joined, logs_in, names_in, order_in, settings_in}
+use Rattle.tk_load.specs.Input.{File, ReadWords, greatest_monitor, input_of, limits_in, logs_in, names_in, order_in, together}
 use Rattle.tk_load.specs.Reads.{AreKept, AreRead, IsRead, Loads, Reads, ReadsLogs, ReadsOrder, Tells, log_of, words_of}
+use Rattle.tk_window.specs.TickEnds.{Sources}
+use Rattle.tk_load.specs.declared.changes.Together.{Together}
 use Rattle.tk_load.specs.declared.input.Input.{Input}
+use Rattle.tk_load.specs.declared.settings.Limits.{Limits}
 use Rattle.tk_load.specs.declared.status.Status.{Status}
 use Rattle.tk_load.proofs.FaultLemmas.{tells_on}
 use Rattle.tk_load.proofs.LogsLemmas.{names_unread, read_unread, unread}
 use Rattle.tk_load.proofs.ReadLemmas.{gave_told, kept_on, read_after, read_before}
 
 -- what is left of the work, once the names, the settings, the logs and all of them together stand
-abbrev whole : List (List ℕ) → Setup → LogSet → Option Ordered → Input
-whole names settings all order = record { names = names; settings = settings; logs = all; order = order }
+abbrev whole : List (List ℕ) → Limits → Together → Option Ordered → Input
+whole names limits all order = record { names = names; settings = limits.settings; logs = all.logs; ends = all.ends; order = order }
 
-abbrev from_all : ReadWords → List (List ℕ) → Setup → LogSet → Result Input Fault
-from_all read names settings all = after (order_in settings read.order) (λ order. Ok (whole names settings all order))
+abbrev from_all : ReadWords → List (List ℕ) → Limits → Together → Result Input Fault
+from_all read names limits all = after (order_in limits.settings read.order) (λ order. Ok (whole names limits all order))
 
-abbrev from_logs : ReadWords → List (List ℕ) → Setup → Assigned → Result Input Fault
-from_logs read names settings logs = after (joined logs (length names)) (from_all read names settings)
+abbrev from_logs : ReadWords → List (List ℕ) → Limits → Sources → Result Input Fault
+from_logs read names limits logs = after (together limits.width logs (length names)) (from_all read names limits)
 
-abbrev from_settings : ReadWords → List (List ℕ) → Setup → Result Input Fault
-from_settings read names settings = after (logs_in names read.logs) (from_logs read names settings)
+abbrev from_settings : ReadWords → List (List ℕ) → Limits → Result Input Fault
+from_settings read names limits = after (logs_in limits.width names read.logs) (from_logs read names limits)
 
-abbrev settings_at : ReadWords → List (List ℕ) → Result Setup Fault
-settings_at read names = settings_in read.k read.epsilon read.own_weight (length names) (greatest_monitor read.logs)
+abbrev settings_at : ReadWords → List (List ℕ) → Result Limits Fault
+settings_at read names = limits_in read.k read.epsilon read.own_weight read.width (length names) (greatest_monitor read.logs)
 
 abbrev from_names : ReadWords → List (List ℕ) → Result Input Fault
 from_names read names = after (settings_at read names) (from_settings read names)
@@ -38,13 +38,13 @@ from_names read names = after (settings_at read names) (from_settings read names
 at_names : (read : ReadWords) (names : List (List ℕ)) → names_in read.objects ≡ Ok names → input_of read ≡ from_names read names
 at_names read names is = ap (and_then (from_names read)) is
 
-at_settings : (read : ReadWords) (names : List (List ℕ)) (settings : Setup) → settings_at read names ≡ Ok settings → from_names read names ≡ from_settings read names settings
+at_settings : (read : ReadWords) (names : List (List ℕ)) (settings : Limits) → settings_at read names ≡ Ok settings → from_names read names ≡ from_settings read names settings
 at_settings read names settings is = ap (and_then (from_settings read names)) is
 
-at_logs : (read : ReadWords) (names : List (List ℕ)) (settings : Setup) (logs : Assigned) → logs_in names read.logs ≡ Ok logs → from_settings read names settings ≡ from_logs read names settings logs
+at_logs : (read : ReadWords) (names : List (List ℕ)) (settings : Limits) (logs : Sources) → logs_in settings.width names read.logs ≡ Ok logs → from_settings read names settings ≡ from_logs read names settings logs
 at_logs read names settings logs is = ap (and_then (from_logs read names settings)) is
 
-at_all : (read : ReadWords) (names : List (List ℕ)) (settings : Setup) (logs : Assigned) (all : LogSet) → joined logs (length names) ≡ Ok all → from_logs read names settings logs ≡ from_all read names settings all
+at_all : (read : ReadWords) (names : List (List ℕ)) (settings : Limits) (logs : Sources) (all : Together) → together settings.width logs (length names) ≡ Ok all → from_logs read names settings logs ≡ from_all read names settings all
 at_all read names settings logs all is = ap (and_then (from_all read names settings)) is
 
 -- the greatest monitor is that of the words
@@ -72,11 +72,12 @@ with_files words content order logs = record {
   own_weight = words.own_weight;
   objects = record { name = words.objects; content = content };
   order = order;
+  width = words.width;
   logs = logs;
 }
 
 abbrev worded : SourceWords → Option (List ℕ) → List (ℕ × List ℕ) → SourceWords
-worded words order logs = record { k = words.k; epsilon = words.epsilon; own_weight = words.own_weight; objects = words.objects; order = order; logs = logs }
+worded words order logs = record { k = words.k; epsilon = words.epsilon; own_weight = words.own_weight; objects = words.objects; order = order; width = words.width; logs = logs }
 
 words_with : (words : SourceWords) (content : Option (List ℕ)) (order : Option File) (logs : List (ℕ × File)) → option_map (λ (f : File). f.name) order ≡ words.order → map log_of logs ≡ words.logs → words_of (with_files words content order logs) ≡ words
 words_with words content order logs is are = ap (λ (o : Option (List ℕ)). worded words o (map log_of logs)) is ∙ ap (λ (l : List (ℕ × List ℕ)). worded words words.order l) are
@@ -111,7 +112,7 @@ module _ (t0 t1 : List ℕ → Option (List ℕ)) (f0 f1 : List ℕ → ℕ) (wo
 
   module _ (names : List (List ℕ)) (reads : ReadsNames (Ok names)) where
     -- the settings are refused
-    pub settings_refused : (status : Status) → Tells status (settings_in words.k words.epsilon words.own_weight (length names) (greatest_monitor words.logs)) → Loads t0 f0 f1 words (Err status)
+    pub settings_refused : (status : Status) → Tells status (limits_in words.k words.epsilon words.own_weight words.width (length names) (greatest_monitor words.logs)) → Loads t0 f0 f1 words (Err status)
     settings_refused status tells =
         let read = with_files words reads.content (unread_order t0 words.order) (unread t0 words.logs) in record {
           read = read;
@@ -123,20 +124,20 @@ module _ (t0 t1 : List ℕ → Option (List ℕ)) (f0 f1 : List ℕ → ℕ) (wo
           };
           meets = subst (λ (m : Result Input Fault). Tells status m) (sym (at_names read names reads.meets))
               (tells_on status (settings_at read names) (from_settings read names)
-              (subst (λ (last : ℕ). Tells status (settings_in words.k words.epsilon words.own_weight (length names) last)) (sym (greatest_of (unread t0 words.logs) words.logs (names_unread t0 words.logs))) tells));
+              (subst (λ (last : ℕ). Tells status (limits_in words.k words.epsilon words.own_weight words.width (length names) last)) (sym (greatest_of (unread t0 words.logs) words.logs (names_unread t0 words.logs))) tells));
         }
 
-    module _ (settings : Setup) (set : settings_in words.k words.epsilon words.own_weight (length names) (greatest_monitor words.logs) ≡ Ok settings)
+    module _ (settings : Limits) (set : limits_in words.k words.epsilon words.own_weight words.width (length names) (greatest_monitor words.logs) ≡ Ok settings)
         (t2 : List ℕ → Option (List ℕ)) (f2 : List ℕ → ℕ) (kept2 : AreKept t1 t2 f1 f2) where
       -- the settings and the names, whatever files come after
       settled : (order : Option File) (logs : List (ℕ × File)) → map log_of logs ≡ words.logs → input_of (with_files words reads.content order logs) ≡ from_settings (with_files words reads.content order logs) names settings
       settled order logs are =
           let read = with_files words reads.content order logs in
           at_names read names reads.meets
-          ∙ at_settings read names settings (ap (λ (last : ℕ). settings_in words.k words.epsilon words.own_weight (length names) last) (greatest_of logs words.logs are) ∙ set)
+          ∙ at_settings read names settings (ap (λ (last : ℕ). limits_in words.k words.epsilon words.own_weight words.width (length names) last) (greatest_of logs words.logs are) ∙ set)
 
       -- a log is refused
-      pub logs_refused : {A : Type 0} (view : A → Assigned) (status : Status) → ReadsLogs t1 f1 f2 words.logs view (logs_in names) (Err status) → Loads t0 f0 f2 words (Err status)
+      pub logs_refused : {A : Type 0} (view : A → Sources) (status : Status) → ReadsLogs t1 f1 f2 words.logs view (logs_in settings.width names) (Err status) → Loads t0 f0 f2 words (Err status)
       logs_refused view status logs =
           let read = with_files words reads.content (unread_order t0 words.order) logs.logs in record {
             read = read;
@@ -146,15 +147,15 @@ module _ (t0 t1 : List ℕ → Option (List ℕ)) (f0 f1 : List ℕ → ℕ) (wo
               logs = logs_after t0 t1 t2 f0 f1 f2 logs.logs kept1 logs.read kept2;
               order = read_order_unread t0 f0 f2 words.order;
             };
-            meets = subst (λ (m : Result Input Fault). Tells status m) (sym (settled read.order logs.logs logs.are_of)) (tells_on status (logs_in names logs.logs) (from_logs read names settings) logs.meets);
+            meets = subst (λ (m : Result Input Fault). Tells status m) (sym (settled read.order logs.logs logs.are_of)) (tells_on status (logs_in settings.width names logs.logs) (from_logs read names settings) logs.meets);
           }
 
-      module _ (parts : Assigned) (logs : ReadsLogs t1 f1 f2 words.logs (λ (logs : Assigned). logs) (logs_in names) (Ok parts)) where
+      module _ (parts : Sources) (logs : ReadsLogs t1 f1 f2 words.logs (λ (logs : Sources). logs) (logs_in settings.width names) (Ok parts)) where
         kept_two : AreKept t0 t2 f1 f2
         kept_two = record { same = λ n. kept2.same n ∙ kept1.same n; counts = kept2.counts }
 
         -- the logs together are refused
-        pub joined_refused : (status : Status) → Tells status (joined parts (length names)) → Loads t0 f0 f2 words (Err status)
+        pub joined_refused : (status : Status) → Tells status (together settings.width parts (length names)) → Loads t0 f0 f2 words (Err status)
         joined_refused status tells =
             let read = with_files words reads.content (unread_order t0 words.order) logs.logs in record {
               read = read;
@@ -165,10 +166,10 @@ module _ (t0 t1 : List ℕ → Option (List ℕ)) (f0 f1 : List ℕ → ℕ) (wo
                 order = read_order_unread t0 f0 f2 words.order;
               };
               meets = subst (λ (m : Result Input Fault). Tells status m) (sym (settled read.order logs.logs logs.are_of ∙ at_logs read names settings parts logs.meets))
-                  (tells_on status (joined parts (length names)) (from_all read names settings) tells);
+                  (tells_on status (together settings.width parts (length names)) (from_all read names settings) tells);
             }
 
-        module _ (all : LogSet) (join : joined parts (length names) ≡ Ok all) (t3 : List ℕ → Option (List ℕ)) (f3 : List ℕ → ℕ) (kept3 : AreKept t2 t3 f2 f3) where
+        module _ (all : Together) (join : together settings.width parts (length names) ≡ Ok all) (t3 : List ℕ → Option (List ℕ)) (f3 : List ℕ → ℕ) (kept3 : AreKept t2 t3 f2 f3) where
           are_all : (order : Option File) → option_map (λ (f : File). f.name) order ≡ words.order → IfSome order (IsRead t2 f2 f3) → AreRead t0 f0 f3 words (with_files words reads.content order logs.logs)
           are_all order is read = record {
             same = words_with words reads.content order logs.logs is logs.are_of;
@@ -184,15 +185,15 @@ module _ (t0 t1 : List ℕ → Option (List ℕ)) (f0 f1 : List ℕ → ℕ) (wo
               settled order logs.logs logs.are_of ∙ at_logs read names settings parts logs.meets ∙ at_all read names settings parts all join
 
           -- the order is refused
-          pub order_refused : (status : Status) → ReadsOrder t2 f2 f3 words.order (order_in settings) (Err status) → Loads t0 f0 f3 words (Err status)
+          pub order_refused : (status : Status) → ReadsOrder t2 f2 f3 words.order (order_in settings.settings) (Err status) → Loads t0 f0 f3 words (Err status)
           order_refused status order = record {
             read = with_files words reads.content order.file logs.logs;
             are_read = are_all order.file order.is_of order.read;
-            meets = subst (λ (m : Result Input Fault). Tells status m) (sym (order_then order.file)) (tells_on status (order_in settings order.file) (λ found. Ok (whole names settings all found)) order.meets);
+            meets = subst (λ (m : Result Input Fault). Tells status m) (sym (order_then order.file)) (tells_on status (order_in settings.settings order.file) (λ found. Ok (whole names settings all found)) order.meets);
           }
 
           -- nothing is refused
-          pub loaded : (found : Option Ordered) → ReadsOrder t2 f2 f3 words.order (order_in settings) (Ok found) → Loads t0 f0 f3 words (Ok (whole names settings all found))
+          pub loaded : (found : Option Ordered) → ReadsOrder t2 f2 f3 words.order (order_in settings.settings) (Ok found) → Loads t0 f0 f3 words (Ok (whole names settings all found))
           loaded found order = record {
             read = with_files words reads.content order.file logs.logs;
             are_read = are_all order.file order.is_of order.read;
@@ -200,10 +201,10 @@ module _ (t0 t1 : List ℕ → Option (List ℕ)) (f0 f1 : List ℕ → ℕ) (wo
           }
 
 -- logs that were read, as the words have them
-pub seen_logs : {A : Type 0} (view : A → Assigned) (told : List ℕ → Option (List ℕ)) (old new : List ℕ → ℕ) (names : List (List ℕ)) (words words' : List (ℕ × List ℕ)) (parts : A) → words' ≡ words
-    → ReadsLogs told old new words' view (logs_in names) (Ok parts) → ReadsLogs told old new words (λ (logs : Assigned). logs) (logs_in names) (Ok (view parts))
-seen_logs view told old new names words words' parts same reads = record { logs = reads.logs; are_of = reads.are_of ∙ same; read = reads.read; meets = reads.meets }
+pub seen_logs : {A : Type 0} (view : A → Sources) (told : List ℕ → Option (List ℕ)) (old new : List ℕ → ℕ) (width : Option ℕ) (names : List (List ℕ)) (words words' : List (ℕ × List ℕ)) (parts : A) → words' ≡ words
+    → ReadsLogs told old new words' view (logs_in width names) (Ok parts) → ReadsLogs told old new words (λ (logs : Sources). logs) (logs_in width names) (Ok (view parts))
+seen_logs view told old new width names words words' parts same reads = record { logs = reads.logs; are_of = reads.are_of ∙ same; read = reads.read; meets = reads.meets }
 
-pub seen_fault : {A : Type 0} (view : A → Assigned) (told : List ℕ → Option (List ℕ)) (old new : List ℕ → ℕ) (names : List (List ℕ)) (words words' : List (ℕ × List ℕ)) (status : Status) → words' ≡ words
-    → ReadsLogs told old new words' view (logs_in names) (Err status) → ReadsLogs told old new words view (logs_in names) (Err status)
-seen_fault view told old new names words words' status same reads = record { logs = reads.logs; are_of = reads.are_of ∙ same; read = reads.read; meets = reads.meets }
+pub seen_fault : {A : Type 0} (view : A → Sources) (told : List ℕ → Option (List ℕ)) (old new : List ℕ → ℕ) (width : Option ℕ) (names : List (List ℕ)) (words words' : List (ℕ × List ℕ)) (status : Status) → words' ≡ words
+    → ReadsLogs told old new words' view (logs_in width names) (Err status) → ReadsLogs told old new words view (logs_in width names) (Err status)
+seen_fault view told old new width names words words' status same reads = record { logs = reads.logs; are_of = reads.are_of ∙ same; read = reads.read; meets = reads.meets }

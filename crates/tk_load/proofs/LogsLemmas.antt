@@ -1,12 +1,15 @@
 -- Logs that are read one after the other.
-use Rattle.std.proofs.Common.{◌≡◌, ℕ, ◌+◌, ◌<◌, ℤ, List, [], ◌∷◌, ◌++◌, All, Bor, Option, Some, Result, Ok, Err, IsErrAnd, unwrap_or, get_or, length, map, max, take, drop, add-one, zero-add, refl, ap, sym, subst, ◌∙◌, arith}
+use Rattle.std.proofs.Common.{◌≡◌, ℕ, ◌+◌, ◌<◌, List, [], ◌∷◌, ◌++◌, All, Bor, Option, Some, Result, Ok, Err, IsErrAnd, unwrap_or, get_or, length, map, max, take, drop, add-one, zero-add, refl, ap, sym, subst, ◌∙◌, arith}
 use Rattle.std.proofs.Math.Seq.{take-suc}
 use Rattle.std.proofs.lemmas.List.{map-append, take-append-drop}
 use Rattle.std.proofs.lemmas.List.Sums.{fold_push, sum_by-append}
 use Rattle.std.proofs.lemmas.List.Elements.{All-append, All-map, All-push}
 use Rattle.tk_base.specs.declared.ids.Mon.{Mon}
-use Rattle.tk_input.specs.Judged.{Assigned, last_monitor}
 use Rattle.tk_input.specs.Records.{and_then, through}
+use Rattle.tk_window.specs.Expanded.{expansion_of, sources_of}
+use Rattle.tk_window.specs.TickEnds.{Sources, last_source}
+use Rattle.tk_window.specs.Window.{Expansion}
+use Rattle.tk_window.specs.declared.expanded.Expanded.{Expanded}
 use Rattle.tk_words.specs.Asked.{asked_logs}
 use Rattle.tk_load.specs.Faults.{Fault}
 use Rattle.tk_load.specs.Input.{File, changes_after, count_of, greatest_monitor, log_added, logs_in}
@@ -55,22 +58,22 @@ read_unread told old new rest =
     (λ i d within. gave_told (told (get_or rest i d).1) (old (get_or rest i d).1) (new (get_or rest i d).1))
 
 -- the logs of some words, and what they give
-pub record SoFar (told : List ℕ → Option (List ℕ)) (old now : List ℕ → ℕ) (names : List (List ℕ)) (words : List (ℕ × List ℕ)) (parts : Assigned) : Type 0 where
+pub record SoFar (told : List ℕ → Option (List ℕ)) (old now : List ℕ → ℕ) (width : Option ℕ) (names : List (List ℕ)) (words : List (ℕ × List ℕ)) (parts : Sources) : Type 0 where
   pub logs : List (ℕ × File)
   pub are_of : map log_of logs ≡ words
   pub read : All (λ log. IsRead told old now log.1) logs
-  pub value : logs_in names logs ≡ Ok parts
+  pub value : logs_in width names logs ≡ Ok parts
 
-pub none_so_far : (told : List ℕ → Option (List ℕ)) (old : List ℕ → ℕ) (names : List (List ℕ)) → SoFar told old old names [] []
-none_so_far told old names = record { logs = []; are_of = refl; read = λ i d within. absurd (omega (arith, within)); value = through_none (log_added names) [] }
+pub none_so_far : (told : List ℕ → Option (List ℕ)) (old : List ℕ → ℕ) (width : Option ℕ) (names : List (List ℕ)) → SoFar told old old width names [] []
+none_so_far told old width names = record { logs = []; are_of = refl; read = λ i d within. absurd (omega (arith, within)); value = through_none (log_added width names) [] }
 
 -- later counts do not undo it
 later : (told told2 : List ℕ → Option (List ℕ)) (old mid new : List ℕ → ℕ) (logs : List (ℕ × File)) → AreKept told told2 mid new
     → All (λ (log : ℕ × File). IsRead told old mid log.1) logs → All (λ (log : ℕ × File). IsRead told old new log.1) logs
 later told told2 old mid new logs kept read = λ i d within. read_before told told2 old mid new (get_or logs i d).1 (read i d within) (record { same = kept.same; counts = kept.counts })
 
-module _ (told told2 told3 : List ℕ → Option (List ℕ)) (old mid new : List ℕ → ℕ) (names : List (List ℕ)) (words : List (ℕ × List ℕ)) (parts : Assigned) (mon : ℕ) (name : List ℕ)
-    (count : ℕ) (counted : count ≡ count_of parts) (first : AreKept told told2 old mid) (next : AreKept told2 told3 mid new) (so_far : SoFar told old mid names words parts) where
+module _ (told told2 told3 : List ℕ → Option (List ℕ)) (old mid new : List ℕ → ℕ) (width : Option ℕ) (names : List (List ℕ)) (words : List (ℕ × List ℕ)) (parts : Sources) (mon : ℕ) (name : List ℕ)
+    (count : ℕ) (counted : count ≡ count_of parts) (first : AreKept told told2 old mid) (next : AreKept told2 told3 mid new) (so_far : SoFar told old mid width names words parts) where
   -- a log whose file was read, among those before
   read_one : (content : Option (List ℕ)) → IsRead told2 mid new (record { name = name; content = content }) → All (λ (log : ℕ × File). IsRead told old new log.1) (so_far.logs ++ (mon, record { name = name; content = content }) ∷ [])
   read_one content read =
@@ -82,48 +85,48 @@ module _ (told told2 told3 : List ℕ → Option (List ℕ)) (old mid new : List
   are_one content = map-append log_of so_far.logs ((mon, record { name = name; content = content }) ∷ []) ∙ ap (λ (logs : List (ℕ × List ℕ)). logs ++ (mon, name) ∷ []) so_far.are_of
 
   -- what it gives
-  value_one : (content : Option (List ℕ)) → through (log_added names) [] (so_far.logs ++ (mon, record { name = name; content = content }) ∷ []) ≡ log_added names parts (mon, record { name = name; content = content })
+  value_one : (content : Option (List ℕ)) → through (log_added width names) [] (so_far.logs ++ (mon, record { name = name; content = content }) ∷ []) ≡ log_added width names parts (mon, record { name = name; content = content })
   value_one content =
       let log : ℕ × File = (mon, record { name = name; content = content }) in
-      through-append (log_added names) [] so_far.logs (log ∷ [])
-      ∙ ap (λ (r : Result Assigned Fault). and_then (λ before. through (log_added names) before (log ∷ [])) r) so_far.value
-      ∙ through_one (log_added names) parts log []
-      ∙ alone (log_added names) (log_added names parts log)
+      through-append (log_added width names) [] so_far.logs (log ∷ [])
+      ∙ ap (λ (r : Result Sources Fault). and_then (λ before. through (log_added width names) before (log ∷ [])) r) so_far.value
+      ∙ through_one (log_added width names) parts log []
+      ∙ alone (log_added width names) (log_added width names parts log)
 
-  pub so_far_next : (part : List (ℕ × ℤ)) → Reads told2 mid new name (λ (p : List (ℕ × ℤ)). p) (changes_after count names) (Ok part)
-      → SoFar told old new names (words ++ (mon, name) ∷ []) (parts ++ (record { 0 = mon }, part) ∷ [])
-  so_far_next part reads = record {
+  pub so_far_next : {B : Type 0} (shown : B → Expansion) (log : B) → Reads told2 mid new name shown (changes_after count width names) (Ok log)
+      → SoFar told old new width names (words ++ (mon, name) ∷ []) (parts ++ (record { 0 = mon }, shown log) ∷ [])
+  so_far_next shown log reads = record {
     logs = so_far.logs ++ (mon, record { name = name; content = reads.content }) ∷ [];
     are_of = are_one reads.content;
     read = read_one reads.content reads.read;
-    value = value_one reads.content ∙ ap (and_then (λ (changes : List (ℕ × ℤ)). Ok (parts ++ (record { 0 = mon }, changes) ∷ []))) (subst (λ (n : ℕ). changes_after n names (record { name = name; content = reads.content }) ≡ Ok part) counted reads.meets);
+    value = value_one reads.content ∙ ap (and_then (λ (changes : Expansion). Ok (parts ++ (record { 0 = mon }, changes) ∷ []))) (subst (λ (n : ℕ). changes_after n width names (record { name = name; content = reads.content }) ≡ Ok (shown log)) counted reads.meets);
   }
 
   -- a log that is refused, whatever logs come behind it
-  pub logs_refused : {A : Type 0} (view : A → Assigned) (status : Status) (rest all : List (ℕ × List ℕ)) → all ≡ (words ++ (mon, name) ∷ []) ++ rest → Reads told2 mid new name (λ (p : List (ℕ × ℤ)). p) (changes_after count names) (Err status)
-      → ReadsLogs told old new all view (logs_in names) (Err status)
-  logs_refused view status rest all is reads =
+  pub logs_refused : {A B : Type 0} (view : A → Sources) (shown : B → Expansion) (status : Status) (rest all : List (ℕ × List ℕ)) → all ≡ (words ++ (mon, name) ∷ []) ++ rest → Reads told2 mid new name shown (changes_after count width names) (Err status)
+      → ReadsLogs told old new all view (logs_in width names) (Err status)
+  logs_refused view shown status rest all is reads =
       let log : ℕ × File = (mon, record { name = name; content = reads.content }) in
       let front = so_far.logs ++ log ∷ [] in
-      let told_of = tells_on status (changes_after (count_of parts) names log.1) (λ changes. Ok (parts ++ (record { 0 = mon }, changes) ∷ [])) (subst (λ (n : ℕ). Tells status (changes_after n names log.1)) counted reads.meets) in record {
+      let told_of = tells_on status (changes_after (count_of parts) width names log.1) (λ changes. Ok (parts ++ (record { 0 = mon }, changes) ∷ [])) (subst (λ (n : ℕ). Tells status (changes_after n width names log.1)) counted reads.meets) in record {
         logs = front ++ unread told rest;
         are_of = map-append log_of front (unread told rest) ∙ ap (λ (logs : List (ℕ × List ℕ)). logs ++ map log_of (unread told rest)) (are_one reads.content) ∙ ap (λ (logs : List (ℕ × List ℕ)). (words ++ (mon, name) ∷ []) ++ logs) (names_unread told rest) ∙ sym is;
         read = All-append (λ (log : ℕ × File). IsRead told old new log.1) front (unread told rest) (read_one reads.content reads.read) (read_unread told old new rest);
-        meets = subst (λ (m : Result Assigned Fault). Tells status m) (sym (through-append (log_added names) [] front (unread told rest) ∙ ap (and_then (λ mid. through (log_added names) mid (unread told rest))) (value_one reads.content)))
-            (tells_on status (log_added names parts log) (λ mid. through (log_added names) mid (unread told rest)) told_of);
+        meets = subst (λ (m : Result Sources Fault). Tells status m) (sym (through-append (log_added width names) [] front (unread told rest) ∙ ap (and_then (λ mid. through (log_added width names) mid (unread told rest))) (value_one reads.content)))
+            (tells_on status (log_added width names parts log) (λ mid. through (log_added width names) mid (unread told rest)) told_of);
       }
 
 -- no memory is found, whatever the logs give
-pub logs_wanting : {A : Type 0} (view : A → Assigned) (told : List ℕ → Option (List ℕ)) (old new : List ℕ → ℕ) (names : List (List ℕ)) (words : List (ℕ × List ℕ)) → ReadsLogs told old new words view (logs_in names) (Err s.NoMemory)
-logs_wanting view told old new names words = record { logs = unread told words; are_of = names_unread told words; read = read_unread told old new words; meets = tt }
+pub logs_wanting : {A : Type 0} (view : A → Sources) (told : List ℕ → Option (List ℕ)) (old new : List ℕ → ℕ) (width : Option ℕ) (names : List (List ℕ)) (words : List (ℕ × List ℕ)) → ReadsLogs told old new words view (logs_in width names) (Err s.NoMemory)
+logs_wanting view told old new width names words = record { logs = unread told words; are_of = names_unread told words; read = read_unread told old new words; meets = tt }
 
-pub logs_answered : {A : Type 0} (view : A → Assigned) (told : List ℕ → Option (List ℕ)) (old new : List ℕ → ℕ) (names : List (List ℕ)) (words : List (ℕ × List ℕ)) (answer : Result A Status) → IsErrAnd answer (λ e. e ≡ s.NoMemory) → ReadsLogs told old new words view (logs_in names) answer
-logs_answered view told old new names words (Err e) wants = subst (λ (status : Status). ReadsLogs told old new words view (logs_in names) (Err status)) (sym wants) (logs_wanting view told old new names words)
-logs_answered view told old new names words (Ok x) wants = absurd wants
+pub logs_answered : {A : Type 0} (view : A → Sources) (told : List ℕ → Option (List ℕ)) (old new : List ℕ → ℕ) (width : Option ℕ) (names : List (List ℕ)) (words : List (ℕ × List ℕ)) (answer : Result A Status) → IsErrAnd answer (λ e. e ≡ s.NoMemory) → ReadsLogs told old new words view (logs_in width names) answer
+logs_answered view told old new width names words (Err e) wants = subst (λ (status : Status). ReadsLogs told old new words view (logs_in width names) (Err status)) (sym wants) (logs_wanting view told old new width names words)
+logs_answered view told old new width names words (Ok x) wants = absurd wants
 
 -- all logs were read
-pub logs_read : {A : Type 0} (view : A → Assigned) (told : List ℕ → Option (List ℕ)) (old new : List ℕ → ℕ) (names : List (List ℕ)) (words : List (ℕ × List ℕ)) (parts : A) → SoFar told old new names words (view parts) → ReadsLogs told old new words view (logs_in names) (Ok parts)
-logs_read view told old new names words parts so_far = record { logs = so_far.logs; are_of = so_far.are_of; read = so_far.read; meets = so_far.value }
+pub logs_read : {A : Type 0} (view : A → Sources) (told : List ℕ → Option (List ℕ)) (old new : List ℕ → ℕ) (width : Option ℕ) (names : List (List ℕ)) (words : List (ℕ × List ℕ)) (parts : A) → SoFar told old new width names words (view parts) → ReadsLogs told old new words view (logs_in width names) (Ok parts)
+logs_read view told old new width names words parts so_far = record { logs = so_far.logs; are_of = so_far.are_of; read = so_far.read; meets = so_far.value }
 
 -- the logs of the words before and the next one
 abbrev pub named_at : List (Mon × Bor (List ℕ)) → ℕ → Mon × Bor (List ℕ) → ℕ × List ℕ
@@ -143,11 +146,15 @@ all_words words i d within =
     ∙ ap (λ (l : List (ℕ × List ℕ)). l ++ asked_logs (drop (i + 1) words)) (one_word words i d within)
 
 -- the greatest monitor, and how many changes there are, with one more log
-pub last_one : (parts : Assigned) (part : List (ℕ × ℤ)) (words : List (ℕ × List ℕ)) (mon : Mon) (name : List ℕ) → last_monitor parts ≡ greatest_monitor words → last_monitor (parts ++ (mon, part) ∷ []) ≡ greatest_monitor (words ++ (mon.0, name) ∷ [])
+pub last_one : (parts : Sources) (part : Expansion) (words : List (ℕ × List ℕ)) (mon : Mon) (name : List ℕ) → last_source parts ≡ greatest_monitor words → last_source (parts ++ (mon, part) ∷ []) ≡ greatest_monitor (words ++ (mon.0, name) ∷ [])
 last_one parts part words mon name before =
-    fold_push (λ (last : ℕ) (p : Mon × List (ℕ × ℤ)). max last p.0.0) 0 parts (mon, part)
+    fold_push (λ (last : ℕ) (p : Mon × Expansion). max last p.0.0) 0 parts (mon, part)
     ∙ ap (λ (n : ℕ). max n mon.0) before
     ∙ sym (fold_push (λ (last : ℕ) (log : ℕ × List ℕ). max last log.0) 0 words (mon.0, name))
 
-pub count_one : (parts : Assigned) (part : List (ℕ × ℤ)) (mon : Mon) → count_of (parts ++ (mon, part) ∷ []) ≡ count_of parts + length part
-count_one parts part mon = sum_by-append (λ (log : Mon × List (ℕ × ℤ)). length log.1) parts ((mon, part) ∷ []) ∙ ap (λ (n : ℕ). count_of parts + n) (zero-add (length part))
+pub count_one : (parts : Sources) (part : Expansion) (mon : Mon) → count_of (parts ++ (mon, part) ∷ []) ≡ count_of parts + length part.part
+count_one parts part mon = sum_by-append (λ (log : Mon × Expansion). length log.1.part) parts ((mon, part) ∷ []) ∙ ap (λ (n : ℕ). count_of parts + n) (zero-add (length part.part))
+
+-- the logs of the code, with one more
+pub sources_one : (logs : List (Mon × Expanded)) (mon : Mon) (log : Expanded) → sources_of (logs ++ (mon, log) ∷ []) ≡ sources_of logs ++ (mon, expansion_of log) ∷ []
+sources_one logs mon log = map-append (λ (l : Mon × Expanded). (l.0, expansion_of l.1)) logs ((mon, log) ∷ [])

@@ -46,7 +46,7 @@ module _ (told : List ℕ → Option (List ℕ)) (old new : List ℕ → ℕ) (c
   order_told (Some file) is stand read = ap (λ (f : File). Some f) (file_told file (All-head Told file.name [] is) (All-head Stands file.name [] stand) read)
 
   abbrev with : ReadWords → File → Option File → List (ℕ × File) → ReadWords
-  with read objects order logs = record { k = read.k; epsilon = read.epsilon; own_weight = read.own_weight; objects = objects; order = order; logs = logs }
+  with read objects order logs = record { k = read.k; epsilon = read.epsilon; own_weight = read.own_weight; objects = objects; order = order; width = read.width; logs = logs }
 
   -- so the words with their files are those with what is told
   all_told : (read : ReadWords) → AreTold told old new contents (words_of read) → AreRead told old new (words_of read) read → read ≡ read_by contents (words_of read)

@@ -1,12 +1,12 @@
 -- A file that is told to be unreadable is one of the words, and its faults rose.
-use Rattle.std.proofs.Common.{◌≡◌, ℕ, suc, ◌+◌, ℤ, Bool, true, false, if◌then◌else◌, List, [], ◌∷◌, ◌++◌, All, Option, Some, None, IfSome, option_map, Result, Ok, Err, length, map, refl, subst, arith, inl, inr}
-use Rattle.std.specs.Prelude.{◌⊎◌, Contains, nat_lt}
+use Rattle.std.proofs.Common.{◌≡◌, ℕ, suc, ◌+◌, Bool, true, false, if◌then◌else◌, List, [], ◌∷◌, ◌++◌, All, Option, Some, None, IfSome, option_map, Result, Ok, Err, length, map, refl, subst, arith, inl, inr}
+use Rattle.std.specs.Prelude.{◌⊎◌, ◌&&◌, Contains, nat_le, nat_lt}
 use Rattle.std.specs.List.{zip}
 use Rattle.std.proofs.lemmas.List.Elements.{All-head, Contains-append_left, Contains-append_right}
 use Rattle.tk_base.specs.Settings.{Setup, settings_of}
 use Rattle.tk_input.specs.Catalog.{catalog_of}
 use Rattle.tk_input.specs.Files.{HasRisen}
-use Rattle.tk_input.specs.Judged.{Assigned, logs_of}
+use Rattle.tk_input.specs.Judged.{logs_of}
 use Rattle.tk_input.specs.Log.{log_of as changes_of}
 use Rattle.tk_input.specs.Logs.{LogSet}
 use Rattle.tk_input.specs.Order.{Ordered, order_of}
@@ -21,12 +21,19 @@ use Rattle.tk_input.specs.declared.order.OrderFault.TheVariants as o
 use Rattle.tk_input.specs.declared.part.PartFault.{PartFault}
 use Rattle.tk_input.specs.declared.part.PartFault.TheVariants as p
 use Rattle.tk_words.specs.Words.{SourceWords}
-use Rattle.tk_load.specs.Faults.{Fault, after, bad_file, catalog_fault, log_fault, logs_fault, order_fault, setting_fault, telling}
+use Rattle.tk_load.specs.Faults.{Fault, after, bad_file, bad_whole, catalog_fault, expand_fault, log_fault, logs_fault, order_fault, setting_fault, telling}
 use Rattle.tk_load.specs.Faults.Fault.{Unread}
-use Rattle.tk_load.specs.Input.{File, ReadWords, bad_line, bytes_from, bytes_in, changes_after, changes_in, count_of, counted, greatest_monitor, input_of, joined, log_added, logs_in, names_in, order_from, order_in, order_of_bytes, retune_kind, retune_tested, retunes_tested, settings_in}
+use Rattle.tk_load.specs.Input.{File, ReadWords, bad_line, bytes_from, bytes_in, changes_after, changes_in, count_of, counted, ends_with, greatest_monitor, input_of, joined, limits_in, log_added, log_from, logs_in, names_in, order_from, order_in, order_of_bytes, retune_kind, retune_tested, retunes_tested, settings_in, together, width_in}
 use Rattle.tk_load.specs.Reads.{AreRead, Gave, IsRead, Loads, log_of, words_of}
 use Rattle.tk_load.specs.Told.{IsCounted, files_of, only}
+use Rattle.tk_window.specs.TickEnds.{Sources, parts_in}
+use Rattle.tk_window.specs.Ticks.{ticked_of}
+use Rattle.tk_window.specs.Window.{Expansion, expanded_of}
+use Rattle.tk_window.specs.declared.fault.ExpandFault.{ExpandFault}
+use Rattle.tk_window.specs.declared.fault.ExpandFault.TheVariants as e
+use Rattle.tk_load.specs.declared.changes.Together.{Together}
 use Rattle.tk_load.specs.declared.input.Input.{Input}
+use Rattle.tk_load.specs.declared.settings.Limits.{Limits}
 use Rattle.tk_load.specs.declared.status.InputKind.{InputKind}
 use Rattle.tk_load.specs.declared.status.InputKind.TheVariants as k
 use Rattle.tk_load.specs.declared.status.Status.{Status}
@@ -60,6 +67,10 @@ module _ (n : List ℕ) where
   log_other file (p.BadNumber m) is = cc (is)
   log_other file p.NoMemory is = cc (is)
 
+  expand_other : (file : List ℕ) (fault : ExpandFault) → expand_fault file fault ≡ Unread n → ⊥
+  expand_other file (e.TooLong m) is = cc (is)
+  expand_other file e.NoMemory is = cc (is)
+
   order_other : (file : List ℕ) (e : OrderFault) → order_fault file e ≡ Unread n → ⊥
   order_other file (o.BadOrder m) is = cc (is)
   order_other file o.NoMemory is = cc (is)
@@ -89,25 +100,36 @@ module _ (n : List ℕ) where
     | inr next ↦ absurd (not_telling (catalog_fault file.name) (catalog_of next.0) (catalog_other file.name) next.2)
   ]
 
-  not_counted : (many : Bool) (name : List ℕ) (changes : List (ℕ × ℤ)) → Unreads (if many then Err (bad_file name k.TooManyUpdates) else Ok changes) → ⊥
-  not_counted true name changes is = cc (is)
-  not_counted false name changes is = cc (is)
+  not_counted : (many : Bool) (name : List ℕ) (log : Expansion) → Unreads (if many then Err (bad_file name k.TooManyUpdates) else Ok log) → ⊥
+  not_counted true name log is = cc (is)
+  not_counted false name log is = cc (is)
 
-  changes_lost : (names : List (List ℕ)) (file : File) → Unreads (changes_in names file) → IsLost file
-  changes_lost names file is = elim (either (bytes_in file) (λ bytes. telling (log_fault file.name) (changes_of names bytes)) is) [
+  -- what comes after the bytes of a log
+  not_log : (width : Option ℕ) (names : List (List ℕ)) (name bytes : List ℕ) → Unreads (log_from width names name bytes) → ⊥
+  not_log None names name bytes is = elim (either (telling (log_fault name) (changes_of names bytes)) (λ changes. Ok (record { part = changes; ends = [] })) is) [
+    | inl lost ↦ not_telling (log_fault name) (changes_of names bytes) (log_other name) lost
+    | inr next ↦ let ok = next.2 in cc (ok)
+  ]
+  not_log (Some width) names name bytes is = elim (either (telling (log_fault name) (ticked_of names bytes)) (λ ticks. telling (expand_fault name) (expanded_of width ticks)) is) [
+    | inl lost ↦ not_telling (log_fault name) (ticked_of names bytes) (log_other name) lost
+    | inr next ↦ not_telling (expand_fault name) (expanded_of width next.0) (expand_other name) next.2
+  ]
+
+  changes_lost : (width : Option ℕ) (names : List (List ℕ)) (file : File) → Unreads (changes_in width names file) → IsLost file
+  changes_lost width names file is = elim (either (bytes_in file) (log_from width names file.name) is) [
     | inl lost ↦ bytes_lost file.name file.content lost
-    | inr next ↦ absurd (not_telling (log_fault file.name) (changes_of names next.0) (log_other file.name) next.2)
+    | inr next ↦ absurd (not_log width names file.name next.0 next.2)
   ]
 
-  after_lost : (before : ℕ) (names : List (List ℕ)) (file : File) → Unreads (changes_after before names file) → IsLost file
-  after_lost before names file is = elim (either (changes_in names file) (counted before file.name) is) [
-    | inl lost ↦ changes_lost names file lost
-    | inr next ↦ absurd (not_counted (nat_lt 4000000 (before + length next.0)) file.name next.0 next.2)
+  after_lost : (before : ℕ) (width : Option ℕ) (names : List (List ℕ)) (file : File) → Unreads (changes_after before width names file) → IsLost file
+  after_lost before width names file is = elim (either (changes_in width names file) (counted before file.name) is) [
+    | inl lost ↦ changes_lost width names file lost
+    | inr next ↦ absurd (not_counted (nat_lt 4000000 (before + length next.0.part)) file.name next.0 next.2)
   ]
 
-  log_lost : (names : List (List ℕ)) (before : Assigned) (log : ℕ × File) → Unreads (log_added names before log) → IsLost log.1
-  log_lost names before log is = elim (either (changes_after (count_of before) names log.1) (λ changes. Ok (before ++ (record { 0 = log.0 }, changes) ∷ [])) is) [
-    | inl lost ↦ after_lost (count_of before) names log.1 lost
+  log_lost : (width : Option ℕ) (names : List (List ℕ)) (before : Sources) (log : ℕ × File) → Unreads (log_added width names before log) → IsLost log.1
+  log_lost width names before log is = elim (either (changes_after (count_of before) width names log.1) (λ changes. Ok (before ++ (record { 0 = log.0 }, changes) ∷ [])) is) [
+    | inl lost ↦ after_lost (count_of before) width names log.1 lost
     | inr next ↦ let ok = next.2 in absurd (cc (ok))
   ]
 
@@ -127,12 +149,12 @@ module _ (n : List ℕ) where
     here : (file : File) (names : List (List ℕ)) → IsLost file → IsRead told old new file → Found (file.name ∷ names)
     here file names lost read = ((0, omega arith, lost.0), risen file lost read)
 
-    logs_lost : (names : List (List ℕ)) (before : Assigned) (logs : List (ℕ × File)) → Unreads (through (log_added names) before logs) → All (λ (log : ℕ × File). IsRead told old new log.1) logs → Found (map (λ log. log.1) (map log_of logs))
+    logs_lost : (width : Option ℕ) (names : List (List ℕ)) (before : Sources) (logs : List (ℕ × File)) → Unreads (through (log_added width names) before logs) → All (λ (log : ℕ × File). IsRead told old new log.1) logs → Found (map (λ log. log.1) (map log_of logs))
     unfolding through
-    logs_lost names before [] is read = absurd (cc (is))
-    logs_lost names before (log ∷ logs) is read = elim (either (log_added names before log) (λ mid. through (log_added names) mid logs) is) [
-      | inl lost ↦ here log.1 (map (λ (l : ℕ × List ℕ). l.1) (map log_of logs)) (log_lost names before log lost) (All-head (λ (l : ℕ × File). IsRead told old new l.1) log logs read)
-      | inr next ↦ behind log.1.name (map (λ (l : ℕ × List ℕ). l.1) (map log_of logs)) (logs_lost names next.0 logs next.2 (λ k d within. read (suc k) d (omega arith)))
+    logs_lost width names before [] is read = absurd (cc (is))
+    logs_lost width names before (log ∷ logs) is read = elim (either (log_added width names before log) (λ mid. through (log_added width names) mid logs) is) [
+      | inl lost ↦ here log.1 (map (λ (l : ℕ × List ℕ). l.1) (map log_of logs)) (log_lost width names before log lost) (All-head (λ (l : ℕ × File). IsRead told old new l.1) log logs read)
+      | inr next ↦ behind log.1.name (map (λ (l : ℕ × List ℕ). l.1) (map log_of logs)) (logs_lost width names next.0 logs next.2 (λ k d within. read (suc k) d (omega arith)))
     ]
 
     not_line : (name : List ℕ) (line : ℕ) (kind : Option InputKind) → Unreads (bad_line name line kind) → ⊥
@@ -174,43 +196,78 @@ module _ (n : List ℕ) where
 
     -- ---- the whole work
 
-    abbrev from_all : ReadWords → List (List ℕ) → Setup → LogSet → Result Input Fault
-    from_all read names settings all = after (order_in settings read.order) (λ order. Ok (record { names = names; settings = settings; logs = all; order = order }))
+    abbrev from_all : ReadWords → List (List ℕ) → Limits → Together → Result Input Fault
+    from_all read names limits all = after (order_in limits.settings read.order) (λ order. Ok (record { names = names; settings = limits.settings; logs = all.logs; ends = all.ends; order = order }))
 
-    abbrev from_logs : ReadWords → List (List ℕ) → Setup → Assigned → Result Input Fault
-    from_logs read names settings logs = after (joined logs (length names)) (from_all read names settings)
+    abbrev from_logs : ReadWords → List (List ℕ) → Limits → Sources → Result Input Fault
+    from_logs read names limits logs = after (together limits.width logs (length names)) (from_all read names limits)
 
-    abbrev from_settings : ReadWords → List (List ℕ) → Setup → Result Input Fault
-    from_settings read names settings = after (logs_in names read.logs) (from_logs read names settings)
+    abbrev from_settings : ReadWords → List (List ℕ) → Limits → Result Input Fault
+    from_settings read names limits = after (logs_in limits.width names read.logs) (from_logs read names limits)
+
+    abbrev limits_at : ReadWords → List (List ℕ) → Result Limits Fault
+    limits_at read names = limits_in read.k read.epsilon read.own_weight read.width (length names) (greatest_monitor read.logs)
 
     abbrev from_names : ReadWords → List (List ℕ) → Result Input Fault
-    from_names read names = after (settings_in read.k read.epsilon read.own_weight (length names) (greatest_monitor read.logs)) (from_settings read names)
+    from_names read names = after (limits_at read names) (from_settings read names)
+
+    not_width : (width : Option ℕ) → Unreads (width_in width) → ⊥
+    not_width None is = cc (is)
+    not_width (Some width) is = go (nat_lt 0 width && nat_le width 1000000) is
+      where
+        go : (b : Bool) → Unreads (if b then Ok (Some width) else Err (bad_whole k.BadWidth)) → ⊥
+        go true is = cc (is)
+        go false is = cc (is)
+
+    abbrev limited : Setup → Option ℕ → Result Limits Fault
+    limited settings tested = Ok (record { settings = settings; width = tested })
+
+    not_limits : (settings : Setup) (width : Option ℕ) → Unreads (after (width_in width) (limited settings)) → ⊥
+    not_limits settings width is = elim (either (width_in width) (limited settings) is) [
+      | inl lost ↦ not_width width lost
+      | inr next ↦ let ok = next.2 in cc (ok)
+    ]
+
+    abbrev joined_with : Option ℕ → Sources → LogSet → Result Together Fault
+    joined_with width logs all = Ok (record { logs = all; ends = ends_with width logs })
+
+    not_together : (width : Option ℕ) (logs : Sources) (objects : ℕ) → Unreads (together width logs objects) → ⊥
+    not_together width logs objects is = elim (either (joined (parts_in logs) objects) (joined_with width logs) is) [
+      | inl lost ↦ not_telling logs_fault (logs_of (parts_in logs) objects) logs_other lost
+      | inr next ↦ let ok = next.2 in cc (ok)
+    ]
 
     abbrev logs_and_order : ReadWords → List (List ℕ)
     logs_and_order read = map (λ log. log.1) (map log_of read.logs) ++ only (option_map (λ f. f.name) read.order)
 
     module _ (read : ReadWords) (are : AreRead told old new (words_of read) read) where
-      all_lost : (names : List (List ℕ)) (s : Setup) (all : LogSet) → Unreads (from_all read names s all) → Found (logs_and_order read)
-      all_lost names s all is = elim (either (order_in s read.order) (λ order. Ok (record { names = names; settings = s; logs = all; order = order })) is) [
-        | inl lost ↦ let found = order_lost s read.order lost are.order in (Contains-append_right (map (λ (l : ℕ × List ℕ). l.1) (map log_of read.logs)) (only (option_map (λ (f : File). f.name) read.order)) n found.0, found.1)
+      all_lost : (names : List (List ℕ)) (limits : Limits) (all : Together) → Unreads (from_all read names limits all) → Found (logs_and_order read)
+      all_lost names limits all is = elim (either (order_in limits.settings read.order) (λ order. Ok (record { names = names; settings = limits.settings; logs = all.logs; ends = all.ends; order = order })) is) [
+        | inl lost ↦ let found = order_lost limits.settings read.order lost are.order in (Contains-append_right (map (λ (l : ℕ × List ℕ). l.1) (map log_of read.logs)) (only (option_map (λ (f : File). f.name) read.order)) n found.0, found.1)
         | inr next ↦ let ok = next.2 in absurd (cc (ok))
       ]
 
-      joined_lost : (names : List (List ℕ)) (s : Setup) (logs : Assigned) → Unreads (from_logs read names s logs) → Found (logs_and_order read)
-      joined_lost names s logs is = elim (either (joined logs (length names)) (from_all read names s) is) [
-        | inl lost ↦ absurd (not_telling logs_fault (logs_of logs (length names)) logs_other lost)
+      joined_lost : (names : List (List ℕ)) (s : Limits) (logs : Sources) → Unreads (from_logs read names s logs) → Found (logs_and_order read)
+      joined_lost names s logs is = elim (either (together s.width logs (length names)) (from_all read names s) is) [
+        | inl lost ↦ absurd (not_together s.width logs (length names) lost)
         | inr next ↦ all_lost names s next.0 next.2
       ]
 
-      parts_lost : (names : List (List ℕ)) (s : Setup) → Unreads (from_settings read names s) → Found (logs_and_order read)
-      parts_lost names s is = elim (either (logs_in names read.logs) (from_logs read names s) is) [
-        | inl lost ↦ let found = logs_lost names [] read.logs lost are.logs in (Contains-append_left (map (λ (l : ℕ × List ℕ). l.1) (map log_of read.logs)) (only (option_map (λ (f : File). f.name) read.order)) n found.0, found.1)
+      parts_lost : (names : List (List ℕ)) (s : Limits) → Unreads (from_settings read names s) → Found (logs_and_order read)
+      parts_lost names s is = elim (either (logs_in s.width names read.logs) (from_logs read names s) is) [
+        | inl lost ↦ let found = logs_lost s.width names [] read.logs lost are.logs in (Contains-append_left (map (λ (l : ℕ × List ℕ). l.1) (map log_of read.logs)) (only (option_map (λ (f : File). f.name) read.order)) n found.0, found.1)
         | inr next ↦ joined_lost names s next.0 next.2
       ]
 
+      limits_lost : (names : List (List ℕ)) → Unreads (limits_at read names) → ⊥
+      limits_lost names is = elim (either (settings_in read.k read.epsilon read.own_weight (length names) (greatest_monitor read.logs)) (λ settings. after (width_in read.width) (limited settings)) is) [
+        | inl lost ↦ not_telling setting_fault (settings_of read.k read.epsilon read.own_weight (length names) (greatest_monitor read.logs)) (λ e same. cc (same)) lost
+        | inr next ↦ not_limits next.0 read.width next.2
+      ]
+
       settings_lost : (names : List (List ℕ)) → Unreads (from_names read names) → Found (logs_and_order read)
-      settings_lost names is = elim (either (settings_in read.k read.epsilon read.own_weight (length names) (greatest_monitor read.logs)) (from_settings read names) is) [
-        | inl lost ↦ absurd (not_telling setting_fault (settings_of read.k read.epsilon read.own_weight (length names) (greatest_monitor read.logs)) (λ e same. cc (same)) lost)
+      settings_lost names is = elim (either (limits_at read names) (from_settings read names) is) [
+        | inl lost ↦ absurd (limits_lost names lost)
         | inr next ↦ parts_lost names next.0 next.2
       ]
 

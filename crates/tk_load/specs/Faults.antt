@@ -13,6 +13,8 @@ use Rattle.tk_input.specs.declared.order.OrderFault.{OrderFault}
 use Rattle.tk_input.specs.declared.order.OrderFault.TheVariants as o
 use Rattle.tk_input.specs.declared.part.PartFault.{PartFault}
 use Rattle.tk_input.specs.declared.part.PartFault.TheVariants as p
+use Rattle.tk_window.specs.declared.fault.ExpandFault.{ExpandFault}
+use Rattle.tk_window.specs.declared.fault.ExpandFault.TheVariants as e
 use Rattle.tk_load.specs.declared.status.InputKind.{InputKind}
 use Rattle.tk_load.specs.declared.status.InputKind.TheVariants as k
 
@@ -47,6 +49,10 @@ log_fault file (p.UnknownName n) = Bad file n k.UnknownName
 log_fault file (p.BadNumber n) = Bad file n k.BadNumber
 log_fault file p.NoMemory = NoRoom
 
+abbrev pub expand_fault : List ℕ → ExpandFault → Fault
+expand_fault file (e.TooLong n) = bad_file file k.TooMany
+expand_fault file e.NoMemory = NoRoom
+
 abbrev pub order_fault : List ℕ → OrderFault → Fault
 order_fault file (o.BadOrder n) = Bad file n k.BadOrder
 order_fault file o.NoMemory = NoRoom
@@ -70,7 +76,7 @@ logs_fault l.NoMemory = NoRoom
 -- the same result, with its fault as one of the input
 abbrev pub telling : {A E : Type 0} → (E → Fault) → Result A E → Result A Fault
 telling fault (Ok x) = Ok x
-telling fault (Err e) = Err (fault e)
+telling fault (Err other) = Err (fault other)
 
 -- a rule that comes after another
 abbrev pub after : {A B : Type 0} → Result A Fault → (A → Result B Fault) → Result B Fault

@@ -82,4 +82,4 @@ generated_of words =
     after (settings_in words.k words.epsilon 1 words.objects words.monitors) (λ settings.
     after (few_updates words.updates) (λ few.
     after (joined (logs_made words.monitors (made words.monitors words.objects words.updates words.seed)) words.objects) (λ all.
-    Ok (record { names = names_made words.objects; settings = settings; logs = all; order = None }))))
+    Ok (record { names = names_made words.objects; settings = settings; logs = all; ends = None; order = None }))))

@@ -1,5 +1,5 @@
 -- The input of a replay: what its words and its files give, or the first rule that fails in the order of work.
-use Rattle.std.specs.Prelude.{ℕ, ℤ, ◌+◌, max, ◌++◌, nat_lt, if◌then◌else◌, List, [], ◌∷◌, length, fold, sum_by, Option, Some, None, Result, Ok, Err}
+use Rattle.std.specs.Prelude.{ℕ, ◌+◌, max, ◌++◌, ◌&&◌, nat_le, nat_lt, if◌then◌else◌, List, [], ◌∷◌, length, fold, sum_by, Option, Some, None, Result, Ok, Err}
 use Rattle.std.specs.List.{zip}
 use Rattle.tk_base.specs.Settings.{Setup, settings_of}
 use Rattle.tk_base.specs.declared.settings.SettingFault.{SettingFault}
@@ -11,11 +11,16 @@ use Rattle.tk_input.specs.Order.{Ordered, order_of}
 use Rattle.tk_input.specs.Records.{through}
 use Rattle.tk_input.specs.declared.event.Event.{Event}
 use Rattle.tk_input.specs.declared.event.Event.TheVariants.{Raise, Check, Up, Down, Retune}
-use Rattle.tk_load.specs.Faults.{Fault, after, bad_file, catalog_fault, log_fault, logs_fault, order_fault, setting_fault, setting_kind, telling}
+use Rattle.tk_load.specs.Faults.{Fault, after, bad_file, bad_whole, catalog_fault, expand_fault, log_fault, logs_fault, order_fault, setting_fault, setting_kind, telling}
 use Rattle.tk_load.specs.Faults.Fault.{Bad, Unread}
+use Rattle.tk_window.specs.TickEnds.{Sources, ends_by_monitor, parts_in}
+use Rattle.tk_window.specs.Ticks.{ticked_of}
+use Rattle.tk_window.specs.Window.{Expansion, expanded_of}
+use Rattle.tk_load.specs.declared.changes.Together.{Together}
 use Rattle.tk_load.specs.declared.input.Input.{Input}
+use Rattle.tk_load.specs.declared.settings.Limits.{Limits}
 use Rattle.tk_load.specs.declared.status.InputKind.{InputKind}
-use Rattle.tk_load.specs.declared.status.InputKind.TheVariants.{TooLong, TooManyUpdates}
+use Rattle.tk_load.specs.declared.status.InputKind.TheVariants.{BadWidth, TooLong, TooManyUpdates}
 
 -- a file of the words, and its content, unless it could not be read
 pub record File : Type 0 where
@@ -29,6 +34,7 @@ pub record ReadWords : Type 0 where
   pub own_weight : ℕ
   pub objects : File
   pub order : Option File
+  pub width : Option ℕ
   pub logs : List (ℕ × File)
 
 -- the bytes of a file, at most 64 MiB
@@ -51,32 +57,58 @@ greatest_monitor logs = fold (λ last log. max last log.0) 0 logs
 abbrev pub settings_in : ℕ → ℕ → ℕ → ℕ → ℕ → Result Setup Fault
 settings_in k epsilon own_weight objects monitors = telling setting_fault (settings_of k epsilon own_weight objects monitors)
 
+-- the width of a window, 1 to 1,000,000 ticks, where there is one
+abbrev pub width_in : Option ℕ → Result (Option ℕ) Fault
+width_in None = Ok None
+width_in (Some width) = if nat_lt 0 width && nat_le width 1000000 then Ok (Some width) else Err (bad_whole BadWidth)
+
+-- the settings and the width, tested in this order
+abbrev pub limits_in : ℕ → ℕ → ℕ → Option ℕ → ℕ → ℕ → Result Limits Fault
+limits_in k epsilon own_weight width objects monitors =
+    after (settings_in k epsilon own_weight objects monitors) (λ settings.
+    after (width_in width) (λ tested.
+    Ok (record { settings = settings; width = tested })))
+
+-- a log that no window goes over, and one that a window of this width does: its changes, and where its ticks end
+abbrev pub log_from : Option ℕ → List (List ℕ) → List ℕ → List ℕ → Result Expansion Fault
+log_from None names name bytes = after (telling (log_fault name) (log_of names bytes)) (λ changes. Ok (record { part = changes; ends = [] }))
+log_from (Some width) names name bytes = after (telling (log_fault name) (ticked_of names bytes)) (λ ticks. telling (expand_fault name) (expanded_of width ticks))
+
 -- the changes of a log over these names
-abbrev pub changes_in : List (List ℕ) → File → Result (List (ℕ × ℤ)) Fault
-changes_in names file = after (bytes_in file) (λ bytes. telling (log_fault file.name) (log_of names bytes))
+abbrev pub changes_in : Option ℕ → List (List ℕ) → File → Result Expansion Fault
+changes_in width names file = after (bytes_in file) (log_from width names file.name)
 
 -- how many changes some logs have
-abbrev pub count_of : Assigned → ℕ
-count_of logs = sum_by (λ log. length log.1) logs
+abbrev pub count_of : Sources → ℕ
+count_of logs = sum_by (λ log. length log.1.part) logs
 
 -- the changes of a log, unless there are over 4,000,000 with those before it
-abbrev pub counted : ℕ → List ℕ → List (ℕ × ℤ) → Result (List (ℕ × ℤ)) Fault
-counted before name changes = if nat_lt 4000000 (before + length changes) then Err (bad_file name TooManyUpdates) else Ok changes
+abbrev pub counted : ℕ → List ℕ → Expansion → Result Expansion Fault
+counted before name log = if nat_lt 4000000 (before + length log.part) then Err (bad_file name TooManyUpdates) else Ok log
 
-abbrev pub changes_after : ℕ → List (List ℕ) → File → Result (List (ℕ × ℤ)) Fault
-changes_after before names file = after (changes_in names file) (counted before file.name)
+abbrev pub changes_after : ℕ → Option ℕ → List (List ℕ) → File → Result Expansion Fault
+changes_after before width names file = after (changes_in width names file) (counted before file.name)
 
 -- the logs before with a further one
-abbrev pub log_added : List (List ℕ) → Assigned → ℕ × File → Result Assigned Fault
-log_added names before log = after (changes_after (count_of before) names log.1) (λ changes. Ok (before ++ (record { 0 = log.0 }, changes) ∷ []))
+abbrev pub log_added : Option ℕ → List (List ℕ) → Sources → ℕ × File → Result Sources Fault
+log_added width names before log = after (changes_after (count_of before) width names log.1) (λ changes. Ok (before ++ (record { 0 = log.0 }, changes) ∷ []))
 
 -- the logs in the order of the words
-abbrev pub logs_in : List (List ℕ) → List (ℕ × File) → Result Assigned Fault
-logs_in names logs = through (log_added names) [] logs
+abbrev pub logs_in : Option ℕ → List (List ℕ) → List (ℕ × File) → Result Sources Fault
+logs_in width names logs = through (log_added width names) [] logs
 
 -- the logs of all monitors together
 abbrev pub joined : Assigned → ℕ → Result LogSet Fault
 joined logs objects = telling logs_fault (logs_of logs objects)
+
+-- where the ticks of all logs end, where a window goes over them
+abbrev pub ends_with : Option ℕ → Sources → Option (List (List (List ℕ)))
+ends_with None logs = None
+ends_with (Some width) logs = Some (ends_by_monitor logs)
+
+-- the logs of all monitors together, and where their ticks end
+abbrev pub together : Option ℕ → Sources → ℕ → Result Together Fault
+together width logs objects = after (joined (parts_in logs) objects) (λ all. Ok (record { logs = all; ends = ends_with width logs }))
 
 -- what is wrong with the k and epsilon that an event asks for, under the settings
 abbrev pub kind_in : {A : Type 0} → Result A SettingFault → Option InputKind
@@ -116,13 +148,13 @@ abbrev pub order_in : Setup → Option File → Result (Option Ordered) Fault
 order_in s None = Ok None
 order_in s (Some file) = after (order_from s file) (λ order. Ok (Some order))
 
--- the input of words whose files are read, or the first rule that fails: the objects, the settings, each log, the logs
--- together, the order
+-- the input of words whose files are read, or the first rule that fails: the objects, the settings, the width, each log,
+-- the logs together, the order
 abbrev pub input_of : ReadWords → Result Input Fault
 input_of words =
     after (names_in words.objects) (λ names.
-    after (settings_in words.k words.epsilon words.own_weight (length names) (greatest_monitor words.logs)) (λ settings.
-    after (logs_in names words.logs) (λ logs.
-    after (joined logs (length names)) (λ all.
-    after (order_in settings words.order) (λ order.
-    Ok (record { names = names; settings = settings; logs = all; order = order }))))))
+    after (limits_in words.k words.epsilon words.own_weight words.width (length names) (greatest_monitor words.logs)) (λ limits.
+    after (logs_in limits.width names words.logs) (λ logs.
+    after (together limits.width logs (length names)) (λ all.
+    after (order_in limits.settings words.order) (λ order.
+    Ok (record { names = names; settings = limits.settings; logs = all.logs; ends = all.ends; order = order }))))))

@@ -20,6 +20,7 @@ words_of read = record {
   own_weight = read.own_weight;
   objects = read.objects.name;
   order = option_map (λ file. file.name) read.order;
+  width = read.width;
   logs = map log_of read.logs;
 }
 

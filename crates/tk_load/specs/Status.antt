@@ -38,6 +38,7 @@ kind_text k.BadCount = codes "bad number of objects or monitors"
 kind_text k.BadK = codes "bad k"
 kind_text k.BadEpsilon = codes "bad epsilon"
 kind_text k.BadWeight = codes "bad own weight"
+kind_text k.BadWidth = codes "bad width"
 
 -- the file at fault, or the settings where it is none
 abbrev pub place_text : List ℕ → List ℕ

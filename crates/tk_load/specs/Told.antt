@@ -18,6 +18,7 @@ read_by contents words = record {
   own_weight = words.own_weight;
   objects = file_by contents words.objects;
   order = option_map (file_by contents) words.order;
+  width = words.width;
   logs = map (λ log. (log.0, file_by contents log.1)) words.logs;
 }
 

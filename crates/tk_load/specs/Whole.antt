@@ -1,5 +1,5 @@
 -- An input whose parts belong together.
-use Rattle.std.specs.Prelude.{◌≡◌, ℕ, List, length}
+use Rattle.std.specs.Prelude.{◌≡◌, ◌≤◌, ℕ, List, length, Option, Some, None}
 use Rattle.tk_base.specs.Settings.{Setup}
 use Rattle.tk_input.specs.Logs.{LogSet}
 
@@ -8,3 +8,8 @@ pub record AreAgreed (catalogue : List (List ℕ)) (setup : Setup) (all : LogSet
   pub names : length catalogue ≡ setup.objects
   pub objects : setup.objects ≡ all.objects
   pub monitors : setup.monitors ≡ length all.logs
+
+-- a window has 1 to 1,000,000 ticks
+abbrev pub IsWidth : Option ℕ → Type 0
+IsWidth None = Unit
+IsWidth (Some width) = (1 ≤ width) × (width ≤ 1000000)

@@ -1,33 +1,47 @@
 ghost use Rattle.std.specs.Prelude.{◌≡◌, ◌+◌, ◌≤◌, IfOk, All, length};
 ghost use Rattle.tk_input.specs.Judged.{last_monitor};
 ghost use Rattle.tk_input.specs.Logs.{IsObject};
-ghost use Rattle.tk_load.specs.Input.{changes_after, changes_in, greatest_monitor, joined, logs_in};
+ghost use Rattle.tk_load.specs.Input.{changes_after, changes_in, ends_with, greatest_monitor, joined, logs_in, together};
 ghost use Rattle.tk_load.specs.Reads.{AreKept, Meets, Reads, ReadsLogs};
+ghost use Rattle.tk_load.specs.Whole.{IsWidth};
+ghost use Rattle.tk_window.specs.Expanded.{expansion_of, sources_of};
+ghost use Rattle.tk_window.specs.TickEnds.{last_source, parts_in};
+ghost use Rattle.tk_window.specs.Ticks.{AreOver};
 ghost use Rattle.tk_words.specs.Asked.{AreOfMonitors, asked_logs};
 
-use crate::reading::{bad_file, bad_whole, part_of, read};
+use crate::reading::{bad_file, bad_whole, log_by, read};
 use crate::status::{InputKind, Status};
 use std::alloc::Global;
-use tk_base::Mon;
+use tk_base::{Mon, NoMemory};
 use tk_input::{Catalog, Files, Logs, LogsFault, Part};
+use tk_window::{Expanded, TickEnds};
 
 const MAX_UPDATES: usize = 4_000_000;
 
-/// One log, read and parsed.
+/// The logs of all monitors, and where their ticks end, of a window over them.
+#[derive(Drop)]
+pub struct Together {
+    pub logs: Logs,
+    pub ends: Option<TickEnds>,
+}
+
+/// One log, read, parsed, and expanded where a window goes over it.
 fn read_part<F: Files>(
     alloc: Global,
     names: &Catalog,
+    width: Option<u32>,
     files: &mut F,
     file: &str,
-) -> Result<Part, Status>
-    ensures objects { IfOk result (λ p. All (λ c. IsObject (length names.now) c.0) p) }
-    ensures most { IfOk result (λ p. length p ≤ 1000000) }
+) -> Result<Expanded, Status>
+    requires { IsWidth width }
+    ensures objects { IfOk result (λ e. AreOver (length names.now) e.part) }
+    ensures most { IfOk result (λ e. length e.part ≤ 1000000) }
     ensures read { Reads (F.content files.old) (F.fault_count files.old) (F.fault_count files.new)
-        file.now (λ p. p) (changes_in names.now) result }
+        file.now expansion_of (changes_in width names.now) result }
     ensures kept { AreKept (F.content files.old) (F.content files.new) (F.fault_count files.old) (F.fault_count files.new) }
 {
     match read(alloc, files, file) {
-        Ok(bytes) => part_of(alloc, bytes.as_slice(), names, file),
+        Ok(bytes) => log_by(alloc, bytes.as_slice(), names, width, file),
         Err(status) => Err(status),
     }
 }
@@ -36,26 +50,28 @@ fn read_part<F: Files>(
 fn next_part<F: Files>(
     alloc: Global,
     names: &Catalog,
+    width: Option<u32>,
     files: &mut F,
     file: &str,
     before: usize,
-) -> Result<Part, Status>
-    requires { before ≤ 4000000 }
-    ensures objects { IfOk result (λ p. All (λ c. IsObject (length names.now) c.0) p) }
-    ensures most { IfOk result (λ p. length p ≤ 1000000) }
-    ensures few { IfOk result (λ p. before + length p ≤ 4000000) }
+) -> Result<Expanded, Status>
+    requires width { IsWidth width }
+    requires before { before ≤ 4000000 }
+    ensures objects { IfOk result (λ e. AreOver (length names.now) e.part) }
+    ensures most { IfOk result (λ e. length e.part ≤ 1000000) }
+    ensures few { IfOk result (λ e. before + length e.part ≤ 4000000) }
     ensures read { Reads (F.content files.old) (F.fault_count files.old) (F.fault_count files.new)
-        file.now (λ p. p) (changes_after before names.now) result }
+        file.now expansion_of (changes_after before width names.now) result }
     ensures kept { AreKept (F.content files.old) (F.content files.new) (F.fault_count files.old) (F.fault_count files.new) }
 {
-    let part = match read_part(alloc, names, files, file) {
-        Ok(part) => part,
+    let log = match read_part(alloc, names, width, files, file) {
+        Ok(log) => log,
         Err(status) => return Err(status),
     };
-    if before + part.len() > MAX_UPDATES {
+    if before + log.part.len() > MAX_UPDATES {
         return Err(bad_file(alloc, file, 0, InputKind::TooManyUpdates));
     }
-    Ok(part)
+    Ok(log)
 }
 
 /// Each log in the order of the words.
@@ -63,26 +79,28 @@ pub fn parts_of<F: Files>(
     alloc: Global,
     words: &[(Mon, &str)],
     names: &Catalog,
+    width: Option<u32>,
     files: &mut F,
-) -> Result<Vec<(Mon, Part)>, Status>
-    requires { AreOfMonitors words.now }
-    ensures monitors { IfOk result (λ parts. All (λ p. (1 ≤ p.0.0) × (p.0.0 ≤ 64)) parts.items) }
-    ensures last { IfOk result (λ parts. last_monitor parts.items ≡ greatest_monitor (asked_logs words.now)) }
-    ensures objects { IfOk result (λ parts. All (λ p. All (λ c. IsObject (length names.now) c.0) p.1) parts.items) }
-    ensures lengths { IfOk result (λ parts. All (λ p. length p.1 ≤ 1000000) parts.items) }
+) -> Result<Vec<(Mon, Expanded)>, Status>
+    requires width { IsWidth width }
+    requires monitors { AreOfMonitors words.now }
+    ensures monitors { IfOk result (λ logs. All (λ l. (1 ≤ l.0.0) × (l.0.0 ≤ 64)) logs.items) }
+    ensures last { IfOk result (λ logs. last_source (sources_of logs.items) ≡ greatest_monitor (asked_logs words.now)) }
+    ensures objects { IfOk result (λ logs. All (λ l. AreOver (length names.now) l.1.part) logs.items) }
+    ensures lengths { IfOk result (λ logs. All (λ l. length l.1.part ≤ 1000000) logs.items) }
     ensures read { ReadsLogs (F.content files.old) (F.fault_count files.old) (F.fault_count files.new)
-        (asked_logs words.now) (λ parts. parts.items) (logs_in names.now) result }
+        (asked_logs words.now) (λ logs. sources_of logs.items) (logs_in width names.now) result }
     ensures kept { AreKept (F.content files.old) (F.content files.new) (F.fault_count files.old) (F.fault_count files.new) }
 {
     let mut parts = Vec::new(alloc);
     let mut updates = 0;
     for (mon, file) in words {
-        let part = match next_part(alloc, names, files, file, updates) {
-            Ok(part) => part,
+        let log = match next_part(alloc, names, width, files, file, updates) {
+            Ok(log) => log,
             Err(status) => return Err(status),
         };
-        updates += part.len();
-        parts.push((*mon, part))?;
+        updates += log.part.len();
+        parts.push((*mon, log))?;
     }
     Ok(parts)
 }
@@ -106,4 +124,52 @@ pub fn logs_of(alloc: Global, parts: Vec<(Mon, Part)>, objects: u32) -> Result<L
         }
         Err(LogsFault::TooManyUpdates) => Err(bad_whole(alloc, InputKind::TooManyUpdates)),
     }
+}
+
+/// The changes of some logs, each part with the list that it shares.
+fn parts_from(alloc: Global, logs: &[(Mon, Expanded)]) -> Result<Vec<(Mon, Part)>, NoMemory>
+    ensures { IfOk result (λ parts. parts.items ≡ parts_in (sources_of logs.now)) }
+{
+    let mut parts = Vec::with_capacity(alloc, logs.len())?;
+    for (mon, log) in logs {
+        parts.push((*mon, log.part.try_clone()?))?;
+    }
+    Ok(parts)
+}
+
+/// Where the ticks of some logs end, where a window goes over them.
+fn ends_of(
+    alloc: Global,
+    logs: &[(Mon, Expanded)],
+    width: Option<u32>,
+) -> Result<Option<TickEnds>, NoMemory>
+    ensures { IfOk result (λ ends. ends ≡ ends_with width (sources_of logs.now)) }
+{
+    match width {
+        None => Ok(None),
+        Some(_) => Ok(Some(TickEnds::new(alloc, logs)?)),
+    }
+}
+
+/// The logs of all monitors, and where their ticks end.
+pub fn join(
+    alloc: Global,
+    logs: &[(Mon, Expanded)],
+    width: Option<u32>,
+    objects: u32,
+) -> Result<Together, Status>
+    requires monitors { All (λ l. (1 ≤ l.0.0) × (l.0.0 ≤ 64)) logs.now }
+    requires objects { All (λ l. AreOver objects l.1.part) logs.now }
+    requires lengths { All (λ l. length l.1.part ≤ 1000000) logs.now }
+    ensures objects { IfOk result (λ t. t.logs.objects ≡ objects) }
+    ensures monitors { IfOk result (λ t. length t.logs.logs ≡ last_source (sources_of logs.now)) }
+    ensures meets { Meets (λ t. t) (together width (sources_of logs.now) objects) result }
+{
+    let parts = parts_from(alloc, logs)?;
+    let all = match logs_of(alloc, parts, objects) {
+        Ok(all) => all,
+        Err(status) => return Err(status),
+    };
+    let ends = ends_of(alloc, logs, width)?;
+    Ok(Together { logs: all, ends })
 }

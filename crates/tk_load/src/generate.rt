@@ -101,6 +101,7 @@ pub fn make(alloc: Global, words: &Generate) -> Result<Input, Status>
             names,
             settings,
             logs,
+            ends: None,
             order: None,
         }),
         Err(status) => Err(status),

@@ -1,17 +1,18 @@
 ghost use Rattle.std.specs.Prelude.{◌≡◌, IfOk, length};
-ghost use Rattle.tk_load.specs.Input.{greatest_monitor, names_in, settings_in};
+ghost use Rattle.tk_load.specs.Input.{greatest_monitor, limits_in, names_in};
 ghost use Rattle.tk_load.specs.Reads.{AreKept, Loads, Meets, Reads};
-ghost use Rattle.tk_load.specs.Whole.{AreAgreed};
+ghost use Rattle.tk_load.specs.Whole.{AreAgreed, IsWidth};
 ghost use Rattle.tk_words.specs.Asked.{AreOfMonitors, asked_logs, asked_sources};
 
-use crate::changes::{logs_of, parts_of};
+use crate::changes::{Together, join, parts_of};
 use crate::reading::{names_of, read};
 use crate::retunes::read_order;
-use crate::settings::settings_by;
+use crate::settings::{Limits, settings_by, width_by};
 use crate::status::Status;
 use std::alloc::Global;
 use tk_base::{Mon, Settings};
 use tk_input::{Catalog, Files, Logs, Order};
+use tk_window::TickEnds;
 use tk_words::Sources;
 
 /// What the words of a run and its files give.
@@ -20,6 +21,8 @@ pub struct Input {
     pub names: Catalog,
     pub settings: Settings,
     pub logs: Logs,
+    /// Where the ticks of the logs end, of a window over them.
+    pub ends: Option<TickEnds>,
     pub order: Option<Order>,
 }
 
@@ -41,25 +44,33 @@ fn read_names<F: Files>(alloc: Global, files: &mut F, file: &str) -> Result<Cata
     }
 }
 
-fn settings_of(alloc: Global, words: &Sources<'_>, names: &Catalog) -> Result<Settings, Status>
-    ensures objects { IfOk result (λ s. s.objects ≡ length names.now) }
-    ensures monitors { IfOk result (λ s. s.monitors ≡ greatest_monitor (asked_logs words.now.logs.items)) }
-    ensures meets { Meets (λ s. s)
-        (settings_in words.now.k words.now.epsilon words.now.own_weight (length names.now) (greatest_monitor (asked_logs words.now.logs.items))) result }
+fn limits_of(alloc: Global, words: &Sources<'_>, names: &Catalog) -> Result<Limits, Status>
+    ensures objects { IfOk result (λ l. l.settings.objects ≡ length names.now) }
+    ensures monitors { IfOk result (λ l. l.settings.monitors ≡ greatest_monitor (asked_logs words.now.logs.items)) }
+    ensures width { IfOk result (λ l. IsWidth l.width) }
+    ensures meets { Meets (λ l. l)
+        (limits_in words.now.k words.now.epsilon words.now.own_weight words.now.width (length names.now) (greatest_monitor (asked_logs words.now.logs.items))) result }
 {
     let monitors = u64::from(monitors_of(words.logs.as_slice()));
     let objects = names.len() as u64;
-    settings_by(
+    let settings = match settings_by(
         alloc,
         words.k,
         words.epsilon,
         words.own_weight,
         objects,
         monitors,
-    )
+    ) {
+        Ok(settings) => settings,
+        Err(status) => return Err(status),
+    };
+    match width_by(alloc, words.width) {
+        Ok(width) => Ok(Limits { settings, width }),
+        Err(status) => Err(status),
+    }
 }
 
-/// Reads all that the words name, in the order of work: the objects, the settings, the logs, the order.
+/// Reads all that the words name, in the order of work: the objects, the settings and the width, the logs, the order.
 pub fn load<F: Files>(alloc: Global, words: &Sources<'_>, files: &mut F) -> Result<Input, Status>
     requires { AreOfMonitors words.now.logs.items }
     ensures agreed { IfOk result (λ input. AreAgreed input.names input.settings input.logs) }
@@ -71,16 +82,16 @@ pub fn load<F: Files>(alloc: Global, words: &Sources<'_>, files: &mut F) -> Resu
         Ok(names) => names,
         Err(status) => return Err(status),
     };
-    let settings = match settings_of(alloc, words, &names) {
-        Ok(settings) => settings,
+    let Limits { settings, width } = match limits_of(alloc, words, &names) {
+        Ok(limits) => limits,
         Err(status) => return Err(status),
     };
-    let parts = match parts_of(alloc, words.logs.as_slice(), &names, files) {
+    let parts = match parts_of(alloc, words.logs.as_slice(), &names, width, files) {
         Ok(parts) => parts,
         Err(status) => return Err(status),
     };
-    let logs = match logs_of(alloc, parts, names.len() as u32) {
-        Ok(logs) => logs,
+    let Together { logs, ends } = match join(alloc, parts.as_slice(), width, names.len() as u32) {
+        Ok(together) => together,
         Err(status) => return Err(status),
     };
     match read_order(alloc, &settings, files, words.order) {
@@ -88,6 +99,7 @@ pub fn load<F: Files>(alloc: Global, words: &Sources<'_>, files: &mut F) -> Resu
             names,
             settings,
             logs,
+            ends,
             order,
         }),
         Err(status) => Err(status),

@@ -1,16 +1,20 @@
-ghost use Rattle.std.specs.Prelude.{◌≤◌, IfOk, All, length};
+ghost use Rattle.std.specs.Prelude.{◌≤◌, IfOk, All, None, Some, length};
 ghost use Rattle.tk_input.specs.Catalog.{catalog_of};
 ghost use Rattle.tk_input.specs.Log.{log_of};
 ghost use Rattle.tk_input.specs.Logs.{IsObject};
 ghost use Rattle.tk_input.specs.Order.{order_of as order_of_bytes};
 ghost use Rattle.tk_load.specs.Faults.{bad_whole as whole_fault, catalog_fault, log_fault, order_fault, telling};
 ghost use Rattle.tk_load.specs.Faults.Fault.{Bad};
-ghost use Rattle.tk_load.specs.Input.{bytes_in};
+ghost use Rattle.tk_load.specs.Input.{bytes_in, log_from};
 ghost use Rattle.tk_load.specs.Reads.{AreKept, Meets, Reads, Says};
+ghost use Rattle.tk_load.specs.Whole.{IsWidth};
+ghost use Rattle.tk_window.specs.Expanded.{expansion_of};
+ghost use Rattle.tk_window.specs.Ticks.{AreOver, ticked_of};
 
 use crate::status::{InputKind, Status};
 use std::alloc::Global;
 use tk_input::{Catalog, CatalogFault, FileFault, Files, Order, OrderFault, Part, PartFault};
+use tk_window::{ExpandFault, Expanded, Ticked, expand};
 
 /// A refused file. Where even its name finds no memory, that is the answer.
 pub fn bad_file(alloc: Global, file: &str, line: u32, kind: InputKind) -> Status
@@ -65,21 +69,98 @@ pub fn names_of(alloc: Global, bytes: &[u8], file: &str) -> Result<Catalog, Stat
     }
 }
 
+/// A log that is refused.
+fn bad_log(alloc: Global, file: &str, fault: PartFault) -> Status
+    ensures { Says result (log_fault file.now fault) }
+{
+    match fault {
+        PartFault::NoMemory => Status::NoMemory,
+        PartFault::TooMany => bad_file(alloc, file, 0, InputKind::TooMany),
+        PartFault::BadRow(line) => bad_file(alloc, file, line, InputKind::BadRow),
+        PartFault::UnknownName(line) => bad_file(alloc, file, line, InputKind::UnknownName),
+        PartFault::BadNumber(line) => bad_file(alloc, file, line, InputKind::BadNumber),
+    }
+}
+
 /// The changes of a log.
-pub fn part_of(alloc: Global, bytes: &[u8], names: &Catalog, file: &str) -> Result<Part, Status>
+fn part_of(alloc: Global, bytes: &[u8], names: &Catalog, file: &str) -> Result<Part, Status>
     ensures objects { IfOk result (λ p. All (λ c. IsObject (length names.now) c.0) p) }
     ensures most { IfOk result (λ p. length p ≤ 1000000) }
     ensures meets { Meets (λ p. p) (telling (log_fault file.now) (log_of names.now bytes.now)) result }
 {
     match Part::read(alloc, bytes, names) {
         Ok(part) => Ok(part),
-        Err(PartFault::NoMemory) => Err(Status::NoMemory),
-        Err(PartFault::TooMany) => Err(bad_file(alloc, file, 0, InputKind::TooMany)),
-        Err(PartFault::BadRow(line)) => Err(bad_file(alloc, file, line, InputKind::BadRow)),
-        Err(PartFault::UnknownName(line)) => {
-            Err(bad_file(alloc, file, line, InputKind::UnknownName))
-        }
-        Err(PartFault::BadNumber(line)) => Err(bad_file(alloc, file, line, InputKind::BadNumber)),
+        Err(fault) => Err(bad_log(alloc, file, fault)),
+    }
+}
+
+/// A log as it is.
+fn whole_log(alloc: Global, bytes: &[u8], names: &Catalog, file: &str) -> Result<Expanded, Status>
+    ensures objects { IfOk result (λ e. AreOver (length names.now) e.part) }
+    ensures most { IfOk result (λ e. length e.part ≤ 1000000) }
+    ensures meets { Meets expansion_of (log_from None names.now file.now bytes.now) result }
+{
+    let part = match part_of(alloc, bytes, names, file) {
+        Ok(part) => part,
+        Err(status) => return Err(status),
+    };
+    let part = part.share(alloc)?;
+    let ends = Vec::new(alloc);
+    Ok(Expanded { part, ends })
+}
+
+/// The ticks of a log.
+fn ticks_of(alloc: Global, bytes: &[u8], names: &Catalog, file: &str) -> Result<Ticked, Status>
+    ensures objects { IfOk result (All (AreOver (length names.now))) }
+    ensures meets { Meets (λ ticks. ticks) (telling (log_fault file.now) (ticked_of names.now bytes.now)) result }
+{
+    match Ticked::read(alloc, bytes, names) {
+        Ok(ticks) => Ok(ticks),
+        Err(fault) => Err(bad_log(alloc, file, fault)),
+    }
+}
+
+/// A log that a window of this width goes over.
+fn window_log(
+    alloc: Global,
+    bytes: &[u8],
+    names: &Catalog,
+    width: u32,
+    file: &str,
+) -> Result<Expanded, Status>
+    requires some { 1 ≤ width }
+    requires width { width ≤ 1000000 }
+    ensures objects { IfOk result (λ e. AreOver (length names.now) e.part) }
+    ensures most { IfOk result (λ e. length e.part ≤ 1000000) }
+    ensures meets { Meets expansion_of (log_from (Some width) names.now file.now bytes.now) result }
+{
+    let ticks = match ticks_of(alloc, bytes, names, file) {
+        Ok(ticks) => ticks,
+        Err(status) => return Err(status),
+    };
+    match expand(alloc, &ticks, width) {
+        Ok(log) => Ok(log),
+        Err(ExpandFault::TooLong { .. }) => Err(bad_file(alloc, file, 0, InputKind::TooMany)),
+        Err(ExpandFault::NoMemory) => Err(Status::NoMemory),
+    }
+}
+
+/// The log of a file, which a window of this width goes over, if there is one.
+pub fn log_by(
+    alloc: Global,
+    bytes: &[u8],
+    names: &Catalog,
+    width: Option<u32>,
+    file: &str,
+) -> Result<Expanded, Status>
+    requires { IsWidth width }
+    ensures objects { IfOk result (λ e. AreOver (length names.now) e.part) }
+    ensures most { IfOk result (λ e. length e.part ≤ 1000000) }
+    ensures meets { Meets expansion_of (log_from width names.now file.now bytes.now) result }
+{
+    match width {
+        None => whole_log(alloc, bytes, names, file),
+        Some(width) => window_log(alloc, bytes, names, width, file),
     }
 }
 

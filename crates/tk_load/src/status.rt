@@ -93,6 +93,7 @@ pub enum InputKind {
     BadK,
     BadEpsilon,
     BadWeight,
+    BadWidth,
 }
 
 impl Status {

@@ -43,6 +43,7 @@ fn push_kind(line: &mut Vec<u8>, kind: InputKind) -> Result<(), AllocError>
         InputKind::BadK => line.extend_from_slice(b"bad k"),
         InputKind::BadEpsilon => line.extend_from_slice(b"bad epsilon"),
         InputKind::BadWeight => line.extend_from_slice(b"bad own weight"),
+        InputKind::BadWidth => line.extend_from_slice(b"bad width"),
     }
 }
 
