@@ -6,6 +6,7 @@ use Rattle.tk_journal.specs.Links.{frames_from, frames_to}
 use Rattle.tk_journal.specs.Readings.{monitors}
 use Rattle.tk_journal.specs.declared.noted.Noted.{Noted}
 use Rattle.tk_story.specs.Story.{StoryView}
+use Rattle.tk_wire.specs.Net.{NetState}
 use Rattle.tk_wire.specs.Parse.{spellings}
 
 -- the bytes of frames in a version
@@ -22,3 +23,7 @@ pub record IsCarried (version : ℕ) (s : StoryView) (old new : ℕ) : Type 0 wh
   pub said : ℕ → ℕ
   pub versions : (mon : ℕ) → IsVersion (said mon)
   pub taken : min (old + sum_by (carried_at version said s.journal) (monitors s.settings)) (2 ^ 64 - 1) ≤ new
+
+-- no fewer bytes than these were taken from a net's links, unless the count stands still
+abbrev pub HasTaken : NetState → NetState → ℕ → Type 0
+HasTaken old new bytes = min (old.taken + bytes) (2 ^ 64 - 1) ≤ new.taken

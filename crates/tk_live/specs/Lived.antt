@@ -11,6 +11,7 @@ use Rattle.tk_story.specs.Ends.{AreOfOneRun, IsFirstOfAll, kept_by}
 use Rattle.tk_story.specs.Kept.{KeptStory}
 use Rattle.tk_story.specs.Story.{StoryView}
 use Rattle.tk_story.specs.declared.ends.Ends.{Ends}
+use Rattle.tk_wire.specs.Net.{NetState}
 use Rattle.tk_live.specs.Carried.{IsCarried}
 use Rattle.tk_live.specs.declared.verdict.Lived.{Lived}
 use Rattle.tk_live.specs.declared.verdict.Verdict.{Verdict}
@@ -66,3 +67,7 @@ pub record Concludes (input : Input) (version : ℕ) (before after : Option (Lis
   pub one : IsSome result.story → result.ends ≡ None
   pub written : Leaves input.names before after result.story result.ends
   pub differs : TellsEnds result.verdict result.ends
+
+-- the same over a net, which counts the bytes that were taken from its links
+abbrev pub EndsOver : Input → ℕ → Option (List ℕ) → Option (List ℕ) → NetState → NetState → Lived → Type 0
+EndsOver input version before after net net' result = Concludes input version before after net.taken net'.taken result

@@ -102,7 +102,8 @@ impl<'h, N: Net, O: Sink> Host<'h, N, O> {
         requires { CanHost self.hub (N.state self.net.now) names.now }
         ensures same_net { result.0.net.ghost_name ≡ self.entry.net.ghost_name }
         ensures same_out { result.0.out.ghost_name ≡ self.entry.out.ghost_name }
-        ensures hosts { Hosts result.1 names.now self.entry.hub result.0.hub (N.state self.entry.net.now) (N.state result.0.net.now)
+        ensures hosts { Hosts result.1 names.now self.entry.hub result.0.hub
+            (N.state self.entry.net.now) (N.state result.0.net.now)
             (O.written self.entry.out.now) (O.written result.0.out.now) }
     {
         let Host { mut hub, net, out } = self;

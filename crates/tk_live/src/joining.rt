@@ -45,7 +45,8 @@ fn verdict_of<O: Sink>(printed: Result<(), PrintFault>, faults: u64, out: &O) ->
 /// Gives a story that is over its events, and writes the lines of its ledger.
 fn finish<O: Sink>(alloc: Global, story: Story, faults: u64, out: &mut O) -> Lived
     ensures concludes { (input : InputOf) (version : ℕ) (was : Option (List ℕ)) (taken taken' : ℕ) → IsOfInput input story.story
-        → IsComplete input.names version story.story was (O.written out.old) taken taken' → Concludes input version was (O.written out.new) taken taken' result }
+        → IsComplete input.names version story.story was (O.written out.old) taken taken'
+        → Concludes input version was (O.written out.new) taken taken' result }
     ensures unlinked { result.verdict ≡ Unlinked → ⊥ }
     ensures risen { result.verdict ≡ Unwritten → HasRisen faults (O.fault_count out.new) }
 {

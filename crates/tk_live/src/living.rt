@@ -11,7 +11,7 @@ ghost use Rattle.tk_run.specs.Ends.{beginnings};
 ghost use Rattle.tk_live.specs.Crew.{made_in};
 ghost use Rattle.tk_live.specs.Hosting.{CanHost};
 ghost use Rattle.tk_live.specs.Left.{IsCompleteLeft};
-ghost use Rattle.tk_live.specs.Lived.{AreOfInput, Concludes};
+ghost use Rattle.tk_live.specs.Lived.{AreOfInput, Concludes, EndsOver};
 ghost use Rattle.tk_live.specs.Made.{all_made};
 ghost use Rattle.tk_live.specs.declared.verdict.Verdict.TheVariants.{LinkFault as Unlinked, WriteFault as Unwritten};
 
@@ -99,7 +99,7 @@ fn run_stage<R: Threads + Wait + Sync, N: Net, G: Gate + Sync, O: Sink>(
     requires made { map (λ b. made_in b.port.monitor b.version) stage.crew.berths.items ≡ all_made input from version }
     requires empty { stage.ends.items ≡ [] }
     requires room { length stage.crew.berths.items ≤ vec_capacity stage.ends }
-    ensures concludes { Concludes input version (O.written out.old) (O.written out.new) (N.state net.old).taken (N.state net.new).taken result }
+    ensures ends { EndsOver input version (O.written out.old) (O.written out.new) (N.state net.old) (N.state net.new) result }
     ensures failed { result.verdict ≡ Unlinked → HasRisen faults.net (N.state net.new).faults }
     ensures unwritten { result.verdict ≡ Unwritten → HasRisen faults.out (O.fault_count out.new) }
 {
@@ -138,7 +138,7 @@ pub fn live_over<R: Threads + Wait + Sync, N: Net, G: Gate + Sync, O: Sink>(
     requires links { (N.state net.old).links ≡ 0 }
     // Done tells a story that is sound, of this input, whose events it runs; its text is written, and its bytes came over
     // the links. Any other verdict leaves the story or the ends, and a front of what is written of them.
-    ensures concludes { Concludes input version (O.written out.old) (O.written out.new) (N.state net.old).taken (N.state net.new).taken result }
+    ensures ends { EndsOver input version (O.written out.old) (O.written out.new) (N.state net.old) (N.state net.new) result }
     // Each fault has its cause.
     ensures failed { result.verdict ≡ Unlinked → HasRisen (N.state net.old).faults (N.state net.new).faults }
     ensures unwritten { result.verdict ≡ Unwritten → HasRisen (O.fault_count out.old) (O.fault_count out.new) }

@@ -69,7 +69,8 @@ fn play_in<'a, 'h, R: Threads + Wait + Sync, N: Net + 'a, G: Gate + Sync, O: Sin
             requires { CanHost host.hub (N.state host.net.now) names.now }
             ensures same_net { result.0.net.ghost_name ≡ host.entry.net.ghost_name }
             ensures same_out { result.0.out.ghost_name ≡ host.entry.out.ghost_name }
-            ensures hosts { Hosts result.1 names.entry.now host.entry.hub result.0.hub (N.state host.entry.net.now) (N.state result.0.net.now)
+            ensures hosts { Hosts result.1 names.entry.now host.entry.hub result.0.hub
+                (N.state host.entry.net.now) (N.state result.0.net.now)
                 (O.written host.entry.out.now) (O.written result.0.out.now) }
             ensures made { map (λ w. made_in w.served.end.monitor w.version) result.2.items
                 ≡ map (λ b. made_in b.port.monitor b.version) crew.berths.items }
@@ -97,7 +98,8 @@ pub fn play<R: Threads + Wait + Sync, N: Net, G: Gate + Sync, O: Sink>(
     out: &mut O,
 ) -> (Hub<N::Link>, Parting, Vec<Worked<N::Link, N::Rest>>)
     requires { CanHost hub (N.state net.old) names.now }
-    ensures hosts { Hosts result.1 names.now hub result.0 (N.state net.old) (N.state net.new) (O.written out.old) (O.written out.new) }
+    ensures hosts { Hosts result.1 names.now hub result.0 (N.state net.old) (N.state net.new)
+        (O.written out.old) (O.written out.new) }
     ensures made { map (λ w. made_in w.served.end.monitor w.version) result.2.items
         ≡ map (λ b. made_in b.port.monitor b.version) crew.berths.items }
 {

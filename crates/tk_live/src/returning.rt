@@ -1,6 +1,6 @@
-ghost use Rattle.std.specs.Prelude.{◌≡◌, ◌≤◌, ◌+◌, ◌-◌, ◌^◌, min, true, All, [], length, map, sum_by, vec_capacity};
+ghost use Rattle.std.specs.Prelude.{◌≡◌, ◌≤◌, true, All, [], length, map, sum_by, vec_capacity};
 ghost use Rattle.tk_trail.specs.Readings.{is_stopped, taken_by};
-ghost use Rattle.tk_live.specs.Carried.{bytes_of};
+ghost use Rattle.tk_live.specs.Carried.{HasTaken, bytes_of};
 ghost use Rattle.tk_live.specs.Crew.{graver as graver_of, gravest};
 
 use crate::worked::Worked;
@@ -27,7 +27,7 @@ fn graver(cause: Why, next: Why) -> Why
 
 /// Gives links back to the net.
 pub fn give_back<N: Net>(net: &mut N, wires: Vec<N::Link>)
-    ensures { min ((N.state net.old).taken + sum_by (λ wire. (N.Link.counts wire).taken) wires.items) (2 ^ 64 - 1) ≤ (N.state net.new).taken }
+    ensures { HasTaken (N.state net.old) (N.state net.new) (sum_by (λ wire. (N.Link.counts wire).taken) wires.items) }
 {
     for wire in wires {
         net.back(wire);
@@ -46,7 +46,7 @@ pub fn part<N: Net>(
     ensures cause { result.1 ≡ gravest (map (λ w. w.served.why) workers.items) }
     ensures stopped { result.1 ≡ Why.Stopped → All (λ w. is_stopped w.served.end.monitor.trail ≡ true) workers.items }
     ensures taken { let heard = sum_by (λ w. bytes_of w.version (taken_by w.served.end.monitor.trail)) workers.items in
-        min ((N.state net.old).taken + heard) (2 ^ 64 - 1) ≤ (N.state net.new).taken }
+        HasTaken (N.state net.old) (N.state net.new) heard }
 {
     let mut ends = room;
     let mut cause = Why::Stopped;

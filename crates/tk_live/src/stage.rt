@@ -9,7 +9,7 @@ ghost use Rattle.tk_journal.specs.Readings.{is_stopped};
 ghost use Rattle.tk_load.specs.Whole.{AreAgreed};
 ghost use Rattle.tk_live.specs.Crew.{made_in};
 ghost use Rattle.tk_live.specs.Hosting.{HasGone};
-ghost use Rattle.tk_live.specs.Made.{all_made, made_of};
+ghost use Rattle.tk_live.specs.Made.{all_planned, planned};
 
 use crate::berths::Crew;
 use crate::worked::Berth;
@@ -53,7 +53,7 @@ fn make_berth<N: Net>(
     requires monitor { IsMonitor plan.now.input.now.settings mon.0 }
     requires listens { (N.state net.old).listens ≡ true }
     requires links { (N.state net.old).links < 64 }
-    ensures made { IfOk result (λ b. made_in b.port.monitor b.version ≡ made_of plan.now.input.now plan.now.from.now plan.now.version mon.0) }
+    ensures made { IfOk result (λ b. made_in b.port.monitor b.version ≡ planned plan.now mon.0) }
     ensures links { IfOk result (λ b. (N.state net.new).links ≡ (N.state net.old).links + 1) }
     ensures gone { HasGone (N.state net.old) (N.state net.new) }
 {
@@ -96,8 +96,7 @@ fn make_berths<N: Net>(
     requires version { IsVersion plan.now.version }
     requires listens { (N.state net.old).listens ≡ true }
     requires links { (N.state net.old).links ≡ 0 }
-    ensures made { IfOk result (λ all. map (λ b. made_in b.port.monitor b.version) all.items
-        ≡ all_made plan.now.input.now plan.now.from.now plan.now.version) }
+    ensures made { IfOk result (λ all. map (λ b. made_in b.port.monitor b.version) all.items ≡ all_planned plan.now) }
     ensures gone { HasGone (N.state net.old) (N.state net.new) }
 {
     let mut berths = Vec::new(alloc);
@@ -146,8 +145,7 @@ pub fn make_stage<N: Net>(
     ensures course { IfOk result (λ s. s.hub.course ≡ Open) }
     ensures unwritten { IfOk result (λ s. publications s.hub.coordinator.journal ≡ []) }
     ensures unstopped { IfOk result (λ s. is_stopped s.hub.coordinator.journal ≡ false) }
-    ensures made { IfOk result (λ s. map (λ b. made_in b.port.monitor b.version) s.crew.berths.items
-        ≡ all_made plan.now.input.now plan.now.from.now plan.now.version) }
+    ensures made { IfOk result (λ s. map (λ b. made_in b.port.monitor b.version) s.crew.berths.items ≡ all_planned plan.now) }
     ensures empty { IfOk result (λ s. s.ends.items ≡ []) }
     ensures ends { IfOk result (λ s. length s.crew.berths.items ≤ vec_capacity s.ends) }
     ensures gone { HasGone (N.state net.old) (N.state net.new) }

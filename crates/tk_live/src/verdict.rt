@@ -1,7 +1,8 @@
 ghost use Rattle.std.specs.Prelude.{◌≡◌, ◌⊎◌, true, None, Some};
 ghost use Rattle.tk_live.specs.Joined.{joined_as};
 ghost use Rattle.tk_input.specs.Files.{HasRisen};
-ghost use Rattle.tk_live.specs.declared.verdict.Verdict.TheVariants.{LinkFault as Unlinked, NoMemory as OutOfMemory, WriteFault as Unwritten};
+ghost use Rattle.tk_live.specs.declared.verdict.Verdict.TheVariants.{LinkFault as Unlinked};
+ghost use Rattle.tk_live.specs.declared.verdict.Verdict.TheVariants.{NoMemory as OutOfMemory, WriteFault as Unwritten};
 
 use tk_base::Mon;
 use tk_frames::Frame;

@@ -41,8 +41,8 @@ conclude-requires-clause-run g c κs within =
     ∙ ends_made (λ w. w.served.end) (λ w. w.version) c.args.version (made_for input.settings input.logs c.args.from) (numbers input.settings) c.play-hub.result.2.items whole in
     subst (λ f. AreOfOneRun coordinator monitors input.logs input.settings f) c.requires.from (made_run input c.args.from coordinator monitors c.requires.agreed c.requires.cut settings begins made)
 
-pub returns-clause-concludes : goal.returns-clause-concludes
-returns-clause-concludes g c =
+pub returns-clause-ends : goal.returns-clause-ends
+returns-clause-ends g c =
     let input = c.args.input in
     let whole = c.play-hub.ensures.made ∙ c.requires.made in
     let hosts = c.play-hub.ensures.hosts in

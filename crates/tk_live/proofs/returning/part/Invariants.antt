@@ -1,7 +1,7 @@
-use Rattle.std.proofs.Common.{◌≡◌, ◌≤◌, ◌+◌, ◌-◌, ◌^◌, length, map, min, sum_by, vec_capacity, All, true}
+use Rattle.std.proofs.Common.{◌≡◌, ◌≤◌, length, map, sum_by, vec_capacity, All, true}
 use Rattle.tk_trail.specs.Readings.{is_stopped, taken_by}
 use Rattle.tk_serve.specs.declared.served.Why.TheVariants.{Stopped}
-use Rattle.tk_live.specs.Carried.{bytes_of}
+use Rattle.tk_live.specs.Carried.{HasTaken, bytes_of}
 use Rattle.tk_live.specs.Crew.{gravest}
 use Rattle.tk_live.proofs.returning.part.Given as goal
 
@@ -11,7 +11,7 @@ invariant-loop-worked g l = record {
   ends : l.ends.items ≡ map (λ w. w.served.end) l.yielded;
   cause : l.cause ≡ gravest (map (λ w. w.served.why) l.yielded);
   stopped : l.cause ≡ Stopped → All (λ w. is_stopped w.served.end.monitor.trail ≡ true) l.yielded;
-  taken : min ((g.N.Net.state l.fn.net).taken + sum_by (λ w. bytes_of w.version (taken_by w.served.end.monitor.trail)) l.yielded) (2 ^ 64 - 1) ≤ (g.N.Net.state l.net).taken;
+  taken : HasTaken (g.N.Net.state l.fn.net) (g.N.Net.state l.net) (sum_by (λ w. bytes_of w.version (taken_by w.served.end.monitor.trail)) l.yielded);
   count : length l.ends.items ≡ length l.yielded;
   room : length l.fn.workers.items ≤ vec_capacity l.ends;
 }
