@@ -17,7 +17,7 @@ not_done status meant tells is = subst (λ (status : Status). Tells status meant
 pub not_written : {V : Type 0} (status : Status) (meant : Result V Fault) → Tells status meant → status ≡ s.WriteFault → ⊥
 not_written status meant tells is = subst (λ (status : Status). Tells status meant) is tells
 
-module _ (gives : Result Input Status → Type 0) (text : List (List ℕ) → StoryView → List ℕ) where
+module _ (gives : Result Input Status → Type 0) (text : Input → StoryView → List ℕ) where
   -- where there is no input, nothing is written
   pub refused : {V : Type 0} (old : Option (List ℕ)) (status : Status) (meant : Result V Fault) → Tells status meant → gives (Err status) → Ends gives text old old status
   refused old (s.ReadFault file) meant tells given = (given, refl)
@@ -30,9 +30,9 @@ module _ (gives : Result Input Status → Type 0) (text : List (List ℕ) → St
   refused old s.LinkFault meant tells given = absurd tells
   refused old (s.LinkDiffers mon direction place sent received) meant tells given = absurd tells
 
-  module _ (old new : Option (List ℕ)) (input : Input) (given : gives (Ok input)) (kept : KeptStory) (story : IsStoryOf input kept) (names : List (List ℕ)) (same : names ≡ input.names) where
-    pub has_run : Grows old new (text names kept.story) → HasRun gives text old new kept
-    has_run grows = record { input = input; given = given; story = story; written = subst (λ (n : List (List ℕ)). Grows old new (text n kept.story)) same grows }
+  module _ (old new : Option (List ℕ)) (input : Input) (given : gives (Ok input)) (kept : KeptStory) (story : IsStoryOf input kept) (bytes : List ℕ) (same : bytes ≡ text input kept.story) where
+    pub has_run : Grows old new bytes → HasRun gives text old new kept
+    has_run grows = record { input = input; given = given; story = story; written = subst (λ (b : List ℕ). Grows old new b) same grows }
 
-    pub cut_short : GrowsByFront old new (text names kept.story) → IsCutShort gives text old new
-    cut_short grows = record { input = input; given = given; kept = kept; story = story; written = subst (λ (n : List (List ℕ)). GrowsByFront old new (text n kept.story)) same grows }
+    pub cut_short : GrowsByFront old new bytes → IsCutShort gives text old new
+    cut_short grows = record { input = input; given = given; kept = kept; story = story; written = subst (λ (b : List ℕ). GrowsByFront old new b) same grows }

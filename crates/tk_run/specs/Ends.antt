@@ -16,7 +16,7 @@ use Rattle.tk_story.specs.Story.{StoryView}
 use Rattle.tk_world.specs.Events.{begin}
 use Rattle.tk_drain.specs.Drive.{Drives}
 use Rattle.tk_drain.specs.Resting.{RunsFrom}
-use Rattle.tk_ledger.specs.Text.{summary_of, text_of}
+use Rattle.tk_ledger.specs.Text.{summary_of, text_of, ticked_text_of}
 
 -- ---- the story of an input
 
@@ -39,26 +39,40 @@ pub record IsStoryOf (input : Input) (kept : KeptStory) : Type 0 where
   pub runs : RunsFrom input.settings input.logs (beginnings input.logs) kept
   pub driven : Drives (events_in input.order) (begun_by input) kept
 
+-- ---- its text
+
+-- the whole text, with the ticks at which the sets stand, where a window goes over the logs
+abbrev pub text_with : Option (List (List (List ℕ))) → List (List ℕ) → StoryView → List ℕ
+text_with None = text_of
+text_with (Some ends) = ticked_text_of ends
+
+abbrev pub replay_text : Input → StoryView → List ℕ
+replay_text input = text_with input.ends input.names
+
+-- the summary of it
+abbrev pub summary_text : Input → StoryView → List ℕ
+summary_text input = summary_of input.names
+
 -- ---- how a run ends, by what gives its input and what its text is
 
 -- a run that is done: there is an input, the story is that of the input, and its text was written, where that is told
-pub record HasRun (gives : Result Input Status → Type 0) (text : List (List ℕ) → StoryView → List ℕ) (before after : Option (List ℕ)) (kept : KeptStory) : Type 0 where
+pub record HasRun (gives : Result Input Status → Type 0) (text : Input → StoryView → List ℕ) (before after : Option (List ℕ)) (kept : KeptStory) : Type 0 where
   pub input : Input
   pub given : gives (Ok input)
   pub story : IsStoryOf input kept
-  pub written : Grows before after (text input.names kept.story)
+  pub written : Grows before after (text input kept.story)
 
 -- a run that was cut short in writing: a front of the text of the input's story was written
-pub record IsCutShort (gives : Result Input Status → Type 0) (text : List (List ℕ) → StoryView → List ℕ) (before after : Option (List ℕ)) : Type 0 where
+pub record IsCutShort (gives : Result Input Status → Type 0) (text : Input → StoryView → List ℕ) (before after : Option (List ℕ)) : Type 0 where
   pub input : Input
   pub given : gives (Ok input)
   pub kept : KeptStory
   pub story : IsStoryOf input kept
-  pub written : GrowsByFront before after (text input.names kept.story)
+  pub written : GrowsByFront before after (text input kept.story)
 
 -- what a status tells: of a run that is done see above; where there is no input it is the fault that there is, and
 -- nothing was written; where writing failed the run was cut short; want of memory is free, but nothing else was written
-abbrev pub Ends : (Result Input Status → Type 0) → (List (List ℕ) → StoryView → List ℕ) → Option (List ℕ) → Option (List ℕ) → Status → Type 0
+abbrev pub Ends : (Result Input Status → Type 0) → (Input → StoryView → List ℕ) → Option (List ℕ) → Option (List ℕ) → Status → Type 0
 Ends gives text before after s.Done = Unit
 Ends gives text before after s.Usage = ⊥
 Ends gives text before after (s.ReadFault file) = gives (Err (s.ReadFault file)) × (after ≡ before)
@@ -85,10 +99,10 @@ Gives (Generates words) told old new answer = Meets (λ input. input) (generated
 Gives (Lives words) told old new answer = ⊥
 
 -- a replay prints the whole text, as a live run does, a generated run its summary
-abbrev pub text_by : Asked → List (List ℕ) → StoryView → List ℕ
-text_by (Replays words) = text_of
-text_by (Generates words) = summary_of
-text_by (Lives words) = text_of
+abbrev pub text_by : Asked → Input → StoryView → List ℕ
+text_by (Replays words) = replay_text
+text_by (Generates words) = summary_text
+text_by (Lives words) = replay_text
 
 -- the words are understood, and what they ask for has run
 pub record RunsWords (words : List (List ℕ)) (told : List ℕ → Option (List ℕ)) (old new : List ℕ → ℕ) (before after : Option (List ℕ)) (kept : KeptStory) : Type 0 where

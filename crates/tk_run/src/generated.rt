@@ -1,15 +1,14 @@
 ghost use Rattle.std.specs.Prelude.{◌≡◌, ◌↔◌, IfSome, IsSome};
 ghost use Rattle.tk_input.specs.Files.{HasRisen};
-ghost use Rattle.tk_ledger.specs.Text.{summary_of};
 ghost use Rattle.tk_load.specs.Generated.{generated_of};
 ghost use Rattle.tk_load.specs.Reads.{Meets};
 ghost use Rattle.tk_load.specs.declared.status.Status.TheVariants.{Done, WriteFault as NotWritten};
-ghost use Rattle.tk_run.specs.Ends.{Ends, HasRun};
+ghost use Rattle.tk_run.specs.Ends.{Ends, HasRun, summary_text};
 ghost use Rattle.tk_run.specs.Headline.{IsSound};
 ghost use Rattle.tk_words.specs.Asked.{asked_generate};
 
 use crate::outcome::Outcome;
-use crate::playing::story_of;
+use crate::playing::{Played, story_of};
 use std::alloc::Global;
 use tk_input::Sink;
 use tk_ledger::{PrintFault, print_summary};
@@ -21,16 +20,16 @@ pub fn serve<O: Sink>(alloc: Global, words: &Generate, out: &mut O) -> Outcome
     ensures done { IsSome result.story ↔ (result.status ≡ Done) }
     ensures sound { IfSome result.story (λ s. IsSound s.story) }
     ensures ran { let gives = Meets (λ input. input) (generated_of (asked_generate words.now)) in
-        IfSome result.story (HasRun gives summary_of (O.written out.old) (O.written out.new)) }
+        IfSome result.story (HasRun gives summary_text (O.written out.old) (O.written out.new)) }
     ensures ends { let gives = Meets (λ input. input) (generated_of (asked_generate words.now)) in
-        Ends gives summary_of (O.written out.old) (O.written out.new) result.status }
+        Ends gives summary_text (O.written out.old) (O.written out.new) result.status }
     ensures unwritten { result.status ≡ NotWritten → HasRisen (O.fault_count out.old) (O.fault_count out.new) }
 {
     let input = match make(alloc, words) {
         Ok(input) => input,
         Err(status) => return Outcome::ended(status),
     };
-    let Ok((story, names)) = story_of(alloc, input, Carriage::USUAL) else {
+    let Ok(Played { story, names, .. }) = story_of(alloc, input, Carriage::USUAL) else {
         return Outcome::ended(Status::NoMemory);
     };
     match print_summary(alloc, &story, &names, out) {

@@ -16,6 +16,7 @@ use tk_drain::{a_drive_is_reached, drive, finish, what_is_reached_runs};
 use tk_input::{Catalog, Order};
 use tk_load::Input;
 use tk_story::Story;
+use tk_window::TickEnds;
 use tk_words::Carriage;
 
 /// Lets the events of an order happen, if there is one, and then finishes.
@@ -30,19 +31,29 @@ fn play(alloc: Global, world: &mut ByteWorld, order: &Option<Order>) -> Result<(
     }
 }
 
+/// The story of an input, and what its text needs beside it.
+#[derive(Drop)]
+pub struct Played {
+    pub story: Story,
+    pub names: Catalog,
+    pub ends: Option<TickEnds>,
+}
+
 /// The story of an input, whichever way its frames go: the events of its order, then the drive to the ends of the logs.
-pub fn story_of(alloc: Global, input: Input, carriage: Carriage) -> Result<(Story, Catalog), NoMemory>
+pub fn story_of(alloc: Global, input: Input, carriage: Carriage) -> Result<Played, NoMemory>
     requires carriage { IsCarriage carriage }
     requires agreed { AreAgreed input.names input.settings input.logs }
-    ensures names { IfOk result (λ r. length r.1 ≡ r.0.story.settings.objects) }
-    ensures same { IfOk result (λ r. r.1 ≡ input.names) }
-    ensures sound { IfOk result (λ r. IsSound r.0.story) }
-    ensures story { IfOk result (λ r. IsStoryOf input r.0) }
+    ensures names { IfOk result (λ p. length p.names ≡ p.story.story.settings.objects) }
+    ensures same { IfOk result (λ p. p.names ≡ input.names) }
+    ensures ends { IfOk result (λ p. p.ends ≡ input.ends) }
+    ensures sound { IfOk result (λ p. IsSound p.story.story) }
+    ensures story { IfOk result (λ p. IsStoryOf input p.story) }
 {
     let Input {
         names,
         settings,
         logs,
+        ends,
         order,
     } = input;
     let from = start_of(alloc, &logs)?;
@@ -52,5 +63,6 @@ pub fn story_of(alloc: Global, input: Input, carriage: Carriage) -> Result<(Stor
     a_finished_run_is_sound();
     a_drive_is_reached();
     what_is_reached_runs();
-    Ok((world.into_story()?, names))
+    let story = world.into_story()?;
+    Ok(Played { story, names, ends })
 }

@@ -1,21 +1,42 @@
-ghost use Rattle.std.specs.Prelude.{◌≡◌, ◌↔◌, IfSome, IsSome};
+ghost use Rattle.std.specs.Prelude.{◌≡◌, ◌↔◌, IfSome, IsErrOf, IsSome, OnErr, OnOk, length};
 ghost use Rattle.tk_input.specs.Files.{HasRisen};
-ghost use Rattle.tk_ledger.specs.Text.{text_of};
+ghost use Rattle.tk_input.specs.Sink.{Grows, GrowsByFront};
 ghost use Rattle.tk_load.specs.Reads.{Loads};
 ghost use Rattle.tk_load.specs.declared.status.Status.TheVariants.{Done, WriteFault as NotWritten};
-ghost use Rattle.tk_run.specs.Ends.{Ends, HasRun};
+ghost use Rattle.tk_run.specs.Ends.{Ends, HasRun, replay_text, text_with};
 ghost use Rattle.tk_run.specs.Headline.{IsSound};
 ghost use Rattle.tk_words.specs.Asked.{AreOfMonitors, IsCarriage, asked_sources};
 
 use crate::outcome::Outcome;
-use crate::playing::story_of;
+use crate::playing::{Played, story_of};
 use std::alloc::Global;
-use tk_input::{Files, Sink};
-use tk_ledger::{PrintFault, print};
+use tk_input::{Catalog, Files, Sink};
+use tk_ledger::{PrintFault, print, print_ticked};
 use tk_load::{Status, load};
+use tk_story::Story;
+use tk_window::TickEnds;
 use tk_words::Replay;
 
-/// Serves `replay`. Nothing is written before the input stands and its story is over.
+/// Writes the text of a story, with its ticks where a window goes over the logs.
+fn print_with<O: Sink>(
+    alloc: Global,
+    story: &Story,
+    names: &Catalog,
+    ends: &Option<TickEnds>,
+    out: &mut O,
+) -> Result<(), PrintFault>
+    requires { length names.now ≡ story.now.story.settings.objects }
+    ensures ok { OnOk result (Grows (O.written out.old) (O.written out.new) (text_with ends.now names.now story.now.story)) }
+    ensures err { OnErr result (GrowsByFront (O.written out.old) (O.written out.new) (text_with ends.now names.now story.now.story)) }
+    ensures failed { IsErrOf result PrintFault.WriteFailed → HasRisen (O.fault_count out.old) (O.fault_count out.new) }
+{
+    match ends {
+        None => print(alloc, story, names, out),
+        Some(ends) => print_ticked(alloc, story, names, ends, out),
+    }
+}
+
+/// Serves `replay`, and `window`, whose logs are expanded when they are read. Nothing is written before the input stands and its story is over.
 pub fn replay<F: Files, O: Sink>(
     alloc: Global,
     words: &Replay<'_>,
@@ -27,19 +48,19 @@ pub fn replay<F: Files, O: Sink>(
     ensures done { IsSome result.story ↔ (result.status ≡ Done) }
     ensures sound { IfSome result.story (λ s. IsSound s.story) }
     ensures ran { let gives = Loads (F.content files.old) (F.fault_count files.old) (F.fault_count files.new) (asked_sources words.now.sources) in
-        IfSome result.story (HasRun gives text_of (O.written out.old) (O.written out.new)) }
+        IfSome result.story (HasRun gives replay_text (O.written out.old) (O.written out.new)) }
     ensures ends { let gives = Loads (F.content files.old) (F.fault_count files.old) (F.fault_count files.new) (asked_sources words.now.sources) in
-        Ends gives text_of (O.written out.old) (O.written out.new) result.status }
+        Ends gives replay_text (O.written out.old) (O.written out.new) result.status }
     ensures unwritten { result.status ≡ NotWritten → HasRisen (O.fault_count out.old) (O.fault_count out.new) }
 {
     let input = match load(alloc, &words.sources, files) {
         Ok(input) => input,
         Err(status) => return Outcome::ended(status),
     };
-    let Ok((story, names)) = story_of(alloc, input, words.carriage) else {
+    let Ok(Played { story, names, ends }) = story_of(alloc, input, words.carriage) else {
         return Outcome::ended(Status::NoMemory);
     };
-    match print(alloc, &story, &names, out) {
+    match print_with(alloc, &story, &names, &ends, out) {
         Ok(()) => Outcome {
             status: Status::Done,
             story: Some(story),
