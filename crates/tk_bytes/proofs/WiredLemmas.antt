@@ -1,10 +1,10 @@
 -- What a step of a node leaves of the lines.
 use Rattle.tk_journal.specs.declared.noted.Noted.TheVariants as n
-use Rattle.std.proofs.Common.{◌≡◌, ◌≤◌, ◌<◌, ◌==◌, ℕ, suc, zero, ◌+◌, ◌-◌, Bool, true, false, List, [], ◌∷◌, ◌++◌, length, length-append, map, set, get_or, Option, Some, None, refl, ap, ap₂, sym, ◌∙◌, arith, subst, inl, inr}
+use Rattle.std.proofs.Common.{◌≡◌, ◌≤◌, ◌<◌, ◌==◌, ℕ, suc, zero, ◌+◌, ◌-◌, Bool, true, false, List, [], ◌∷◌, ◌++◌, length, length-append, map, set, get_or, Some, None, refl, ap, ap₂, sym, ◌∙◌, arith, subst, inl, inr}
 use Rattle.std.specs.Prelude.{if◌then◌else◌, pos, slice_get, Result, Ok, Err, IfErr, OnOk}
 use Rattle.std.specs.List.{cons_option}
 use Rattle.std.proofs.lemmas.Bool.{cases_eq, ne_eqb}
-use Rattle.std.proofs.lemmas.List.{append-nil, get_or-map, get_or-set_other, get_or-set_same, get_or_default, length-map, length-set, map-set, set-get_or}
+use Rattle.std.proofs.lemmas.List.{append-nil, get_or-map, get_or-set_other, get_or-set_same, length-map, length-set, map-set, set-get_or}
 use Rattle.tk_base.specs.Settings.{Setup}
 use Rattle.tk_base.specs.declared.ids.Feeder.{Feeder}
 use Rattle.tk_base.specs.declared.ids.Mon.{Mon}
@@ -12,14 +12,13 @@ use Rattle.tk_coord.specs.Coordinator.{CoordinatorView}
 use Rattle.tk_frames.specs.declared.frame.Frame.{Frame}
 use Rattle.tk_journal.specs.Laws.{IsMonitor}
 use Rattle.tk_journal.specs.Legal.{turn_of}
-use Rattle.tk_journal.specs.Links.{frames_from, frames_to, got_from}
+use Rattle.tk_journal.specs.Links.{frames_from, frames_to}
 use Rattle.tk_journal.specs.Refusal.{refusal_of, retune_refusal_of}
 use Rattle.tk_journal.specs.declared.noted.Noted.{Noted}
 use Rattle.tk_journal.specs.declared.refusal.RetuneRefusal.{RetuneRefusal}
 use Rattle.tk_monitor.specs.Monitored.{MonitorView, Raises}
 use Rattle.tk_trail.specs.Readings.{sent_by, taken_by}
 use Rattle.tk_trail.specs.Setup.{MonitorSetup}
-use Rattle.tk_trail.specs.declared.entry.Entry.{Entry}
 use Rattle.tk_wire.specs.SureWire.{SureView}
 use Rattle.tk_end.specs.Link.{LinkView}
 use Rattle.tk_port.specs.Port.{IsPort, PortView}
@@ -37,7 +36,7 @@ use Rattle.tk_bytes.specs.Way.{AreJoined}
 use Rattle.tk_hub.specs.Desk.{getting}
 use Rattle.tk_hub.specs.Hub.{HubView, IsHub}
 use Rattle.tk_hub.specs.Seats.{link_at}
-use Rattle.tk_world.specs.Nodes.{AtSeat, CanGoDown, CanGoUp, GoesDown, GoesUp, HasSeat, NodesView, RaisesAt, checked, having_taken, retuned, with_input, with_seat}
+use Rattle.tk_world.specs.Nodes.{AtSeat, CanGoDown, CanGoUp, GoesDown, GoesUp, HasSeat, RaisesAt, checked, having_taken, with_input, with_seat}
 use Rattle.tk_world.specs.declared.seat.Seat.{Seat}
 use Rattle.tk_bytes.specs.Line.{ComesDown, ComesUp, IsLine, KeepsOthers}
 use Rattle.tk_bytes.specs.Wired.{AreWired, IsWalked, seat_of, seen_of}

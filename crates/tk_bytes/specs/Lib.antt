@@ -1,3 +1,4 @@
+pub mod Greeting
 pub mod Line
 pub mod Wired
 pub mod Way

@@ -6,10 +6,13 @@
 #![tactic(auto)]
 
 mod downward;
+mod greeting;
 mod line;
 mod upward;
 mod walked;
 mod wired;
+mod world;
 
 pub use line::Line;
 pub use wired::Wired;
+pub use world::{ByteWorld, byte_world};

@@ -17,7 +17,7 @@ use tk_port::Port;
 use tk_wire::{Pushed, SureWire};
 
 /// Writes what was sent and is not written, and gives until nothing is left or the wire is full.
-fn say(port: &mut Port<SureWire>) -> Result<(), NoMemory>
+pub fn say(port: &mut Port<SureWire>) -> Result<(), NoMemory>
     requires { port.old.course ≡ c.Open }
     ensures says { Says (sent_by port.old.monitor.trail) port.old.link port.new.link }
     ensures said { OnOk result (IsSaid (sent_by port.old.monitor.trail) port.new.link) }

@@ -1,5 +1,7 @@
 ghost use Rattle.std.specs.Prelude.{◌≡◌, IfOk, map};
 
+mod making;
+
 use crate::downward::carry_down;
 use crate::line::Line;
 use crate::upward::carry_up;

@@ -1,9 +1,8 @@
-use Rattle.std.proofs.Common.{◌≡◌, ◌-◌, ◌<◌, set, ap, sym, subst, ◌∙◌}
-use Rattle.tk_monitor.specs.Monitored.{IsFeederOf}
+use Rattle.std.proofs.Common.{◌≡◌, ◌-◌, set, sym, subst, ◌∙◌}
 use Rattle.tk_world.specs.Nodes.{AtSeat, HasSeat, NodesView, checked, with_seat}
 use Rattle.tk_world.proofs.EnabledLemmas.{on_err}
 use Rattle.tk_bytes.specs.Wired.{seen_of}
-use Rattle.tk_bytes.proofs.WiredLemmas.{checked_on, checked_seen, of_walked, port_wired, same_on, same_seen, walked_at}
+use Rattle.tk_bytes.proofs.WiredLemmas.{checked_on, checked_seen, port_wired, same_on, same_seen, walked_at}
 use Rattle.tk_world.specs.declared.seat.Seat.{Seat}
 use Rattle.tk_bytes.proofs.wired.WiredNodes.check.Goals as goal
 

@@ -1,8 +1,6 @@
-use Rattle.std.proofs.Common.{◌≡◌, ◌-◌, ◌+◌, ◌<◌, ℕ, set, length, ap, sym, subst, arith, ◌∙◌}
+use Rattle.std.proofs.Common.{◌≡◌, ◌-◌, ◌+◌, set, length, ap, sym, subst, arith, ◌∙◌}
 use Rattle.tk_coord.specs.Coordinator.{CoordinatorView}
 use Rattle.tk_journal.specs.Links.{frames_to}
-use Rattle.tk_monitor.specs.Monitored.{MonitorView}
-use Rattle.tk_trail.specs.Readings.{sent_by}
 use Rattle.tk_world.specs.Nodes.{AtSeat, CanGoDown, GoesDown, HasSeat, NodesView}
 use Rattle.tk_world.proofs.EnabledLemmas.{on_err}
 use Rattle.tk_bytes.specs.Wired.{seen_of}

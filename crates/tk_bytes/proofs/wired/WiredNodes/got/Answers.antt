@@ -1,4 +1,4 @@
-use Rattle.std.proofs.Common.{◌≡◌, ◌-◌, refl, ap, sym, subst}
+use Rattle.std.proofs.Common.{◌≡◌, refl, sym, subst}
 use Rattle.tk_world.specs.Nodes.{AtSeat, HasSeat, NodesView}
 use Rattle.tk_bytes.proofs.WiredLemmas.{at_walked}
 use Rattle.tk_bytes.proofs.wired.WiredNodes.got.Goals as goal

@@ -1,4 +1,4 @@
-use Rattle.std.proofs.Common.{◌≡◌, ◌∙◌, List, map, ap}
+use Rattle.std.proofs.Common.{◌∙◌, map, ap}
 use Rattle.tk_world.specs.Nodes.{NodesView}
 use Rattle.tk_world.specs.declared.seat.Seat.{Seat}
 use Rattle.tk_bytes.proofs.WiredLemmas.{monitors_again}

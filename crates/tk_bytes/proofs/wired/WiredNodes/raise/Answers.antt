@@ -1,4 +1,4 @@
-use Rattle.std.proofs.Common.{◌≡◌, ◌-◌, ◌<◌, set, ap, sym, subst, ◌∙◌}
+use Rattle.std.proofs.Common.{◌-◌, set, sym, subst}
 use Rattle.tk_monitor.specs.Monitored.{IsFeederOf}
 use Rattle.tk_world.specs.Nodes.{AtSeat, HasSeat, NodesView, RaisesAt}
 use Rattle.tk_bytes.specs.Wired.{seen_of}
