@@ -2,13 +2,14 @@ ghost use Rattle.std.specs.Prelude.{◌≡◌, ◌≤◌, [], length, map, vec_c
 ghost use Rattle.tk_live.specs.Crew.{made_in};
 ghost use Rattle.tk_live.specs.Slots.{slot_made};
 
+use crate::signals::Signals;
 use crate::worked::{Berth, Worked};
 use std::marker::{Send, Sync};
 use std::snapshot::Snapshot;
 use std::sync::Wait;
 use std::thread::{Promise, PromisedHandle, Scope, Threads};
 use tk_monitor::Monitor;
-use tk_serve::{Alarm, Gate, serve};
+use tk_serve::{Gate, retire, serve};
 use tk_wire::{Bell, Rest, Wire};
 
 /// The promise that a worker's end is that of the monitor that was made, and keeps the version of its frames.
@@ -22,21 +23,21 @@ impl<W: Wire, Q: Rest> Promise<Worked<W, Q>> for EndOf {
     ghost kept_by = { λ p worked. made_in worked.served.end.monitor worked.version ≡ made_in p.made.value p.version };
 }
 
-/// A worker in a thread of its own, or what it left here where no thread could be made for it.
+/// A worker in a thread of its own, or what was left here where no thread could be made for it.
 #[derive(Drop)]
 pub enum Slot<W: Wire, Q: Rest> {
     There(PromisedHandle<Worked<W, Q>, EndOf>),
     Here(Worked<W, Q>),
 }
 
-/// Serves a port to its end.
+/// Serves a port to its end, unless a thread was lacking: then the hub is not there yet, or will not stay.
 fn work<
     R: Threads + Wait + Sync,
     W: Wire + Send + Drop,
     Q: Rest + Send + Drop,
     B: Bell + Send + Sync + Drop,
     G: Gate + Sync,
->(rt: &R, berth: Berth<W, Q, B>, gate: &G, alarm: &Alarm) -> Worked<W, Q>
+>(rt: &R, berth: Berth<W, Q, B>, gate: &G, signals: &Signals) -> Worked<W, Q>
     ensures { made_in result.served.end.monitor result.version ≡ made_in berth.port.monitor berth.version }
 {
     let Berth {
@@ -45,11 +46,15 @@ fn work<
         rest,
         bell,
     } = berth;
-    let served = serve(rt, port, rest, &bell, gate, alarm);
+    let served = if signals.idle.raised() {
+        retire(port, rest)
+    } else {
+        serve(rt, port, rest, &bell, gate, &signals.alarm)
+    };
     Worked { served, version }
 }
 
-/// Starts a worker. Where no thread can be made for it, the alarm is raised and it works here.
+/// Starts a worker. Where no thread can be made for it, its port is not served, and the hub is told not to wait.
 fn start_one<
     's,
     'a: 's,
@@ -63,7 +68,7 @@ fn start_one<
     rt: &'a R,
     berth: Berth<W, Q, B>,
     gate: &'a G,
-    alarm: &'a Alarm,
+    signals: &'a Signals,
 ) -> Slot<W, Q>
     ensures { slot_made result ≡ made_in berth.port.monitor berth.version }
 {
@@ -71,10 +76,11 @@ fn start_one<
         made: Snapshot::of(berth.port.monitor()),
         version: berth.version,
     };
-    match scope.spawn_with(promise, move || work(rt, berth, gate, alarm)) {
+    match scope.spawn_with(promise, move || work(rt, berth, gate, signals)) {
         Ok(handle) => Slot::There(handle),
         Err(refused) => {
-            alarm.raise();
+            signals.idle.raise();
+            signals.alarm.raise();
             Slot::Here((refused.value)())
         }
     }
@@ -95,7 +101,7 @@ pub fn start<
     berths: Vec<Berth<W, Q, B>>,
     room: Vec<Slot<W, Q>>,
     gate: &'a G,
-    alarm: &'a Alarm,
+    signals: &'a Signals,
 ) -> Vec<Slot<W, Q>>
     requires room { length berths.items ≤ vec_capacity room }
     requires empty { room.items ≡ [] }
@@ -104,7 +110,7 @@ pub fn start<
 {
     let mut slots = room;
     for berth in berths {
-        slots.push_reserved(start_one(scope, rt, berth, gate, alarm));
+        slots.push_reserved(start_one(scope, rt, berth, gate, signals));
     }
     slots
 }

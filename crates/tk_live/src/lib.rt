@@ -18,6 +18,7 @@ mod parting;
 mod playing;
 mod returning;
 mod serving;
+mod signals;
 mod stage;
 mod verdict;
 mod worked;

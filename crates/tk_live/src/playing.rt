@@ -6,6 +6,7 @@ use crate::berths::Crew;
 use crate::crew::{join_all, start};
 use crate::hosting::Host;
 use crate::parting::Parting;
+use crate::signals::Signals;
 use crate::worked::Worked;
 use std::marker::Sync;
 use std::sync::Wait;
@@ -13,7 +14,7 @@ use std::thread;
 use std::thread::{Scope, Threads};
 use tk_hub::Hub;
 use tk_input::{Catalog, Sink};
-use tk_serve::{Alarm, Gate};
+use tk_serve::Gate;
 use tk_wire::Net;
 
 /// Starts the workers in a scope, runs the host beside them, and waits for them.
@@ -24,7 +25,7 @@ fn play_beside<'s, 'a: 's, 'h, R: Threads + Wait + Sync, N: Net + 'a, G: Gate + 
     host: Host<'h, N, O>,
     names: &Catalog,
     gate: &'a G,
-    alarm: &'a Alarm,
+    signals: &'a Signals,
 ) -> (Host<'h, N, O>, Parting, Vec<Worked<N::Link, N::Rest>>)
     requires { CanHost host.hub (N.state host.net.now) names.now }
     ensures same_net { result.0.net.ghost_name ≡ host.entry.net.ghost_name }
@@ -40,8 +41,8 @@ fn play_beside<'s, 'a: 's, 'h, R: Threads + Wait + Sync, N: Net + 'a, G: Gate + 
         workers,
         ..
     } = crew;
-    let slots = start(scope, rt, berths, slots, gate, alarm);
-    let (host, parting) = host.run(rt, names, alarm);
+    let slots = start(scope, rt, berths, slots, gate, signals);
+    let (host, parting) = host.run(rt, names, &signals.alarm);
     (host, parting, join_all(rt, slots, workers))
 }
 
@@ -52,7 +53,7 @@ fn play_in<'a, 'h, R: Threads + Wait + Sync, N: Net + 'a, G: Gate + Sync, O: Sin
     host: Host<'h, N, O>,
     names: &'a Catalog,
     gate: &'a G,
-    alarm: &'a Alarm,
+    signals: &'a Signals,
 ) -> (Host<'h, N, O>, Parting, Vec<Worked<N::Link, N::Rest>>)
     requires { CanHost host.hub (N.state host.net.now) names.now }
     ensures same_net { result.0.net.ghost_name ≡ host.entry.net.ghost_name }
@@ -74,7 +75,7 @@ fn play_in<'a, 'h, R: Threads + Wait + Sync, N: Net + 'a, G: Gate + Sync, O: Sin
                 (O.written host.entry.out.now) (O.written result.0.out.now) }
             ensures made { map (λ w. made_in w.served.end.monitor w.version) result.2.items
                 ≡ map (λ b. made_in b.port.monitor b.version) crew.berths.items }
-        { play_beside(scope, rt, crew, host, names, gate, alarm) },
+        { play_beside(scope, rt, crew, host, names, gate, signals) },
     )
 }
 
@@ -103,9 +104,9 @@ pub fn play<R: Threads + Wait + Sync, N: Net, G: Gate + Sync, O: Sink>(
     ensures made { map (λ w. made_in w.served.end.monitor w.version) result.2.items
         ≡ map (λ b. made_in b.port.monitor b.version) crew.berths.items }
 {
-    let alarm = Alarm::new();
+    let signals = Signals::new();
     let host = Host { hub, net, out };
-    let (host, parting, workers) = play_in(rt, crew, host, names, gate, &alarm);
+    let (host, parting, workers) = play_in(rt, crew, host, names, gate, &signals);
     let Host { hub, net, out } = host;
     end_loans(net, out);
     (hub, parting, workers)

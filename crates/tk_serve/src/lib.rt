@@ -17,5 +17,5 @@ pub use alarm::Alarm;
 pub use cell::{PortCell, PortName, Shared};
 pub use feeding::feed;
 pub use gate::{Gate, OpenGate};
-pub use served::{Served, Why};
+pub use served::{Served, Why, retire};
 pub use serving::serve;

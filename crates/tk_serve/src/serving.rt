@@ -11,7 +11,7 @@ use crate::alarm::Alarm;
 use crate::cell::{PortCell, PortName, Shared};
 use crate::feeding::feed;
 use crate::gate::Gate;
-use crate::served::{Served, cause_of};
+use crate::served::{Served, retire};
 use std::marker::Brand;
 use std::sync::{Mutex, Wait};
 use std::thread;
@@ -133,14 +133,7 @@ fn serve_as<
         }
     };
     let Shared { port, .. } = cell.into_inner();
-    let (end, link) = port.into_end();
-    let why = cause_of(&end, &link, &rest);
-    Served {
-        end,
-        link,
-        rest,
-        why,
-    }
+    retire(port, rest)
 }
 
 /// Serves a port: its feeders raise their changes in threads of a scope of its own, and turn by turn it exchanges frames
