@@ -40,6 +40,29 @@ def changes_of(path):
         return [(name, int(by)) for name, by in csv.reader(file)]
 
 
+def ticks_of(path):
+    """The changes of each tick of a log, which a record of the single field `tick` ends."""
+    ticks = [[]]
+    with path.open(newline="") as file:
+        for row in csv.reader(file):
+            if row == ["tick"]:
+                ticks.append([])
+            else:
+                ticks[-1].append((row[0], int(row[1])))
+    return ticks
+
+
+def expanded(ticks, width):
+    """Before the changes of a tick those that leave the window are taken back."""
+    gone = [[]] * width + ticks
+    return [change for leaving, coming in zip(gone, ticks)
+            for change in [(name, -by) for name, by in leaving] + coming]
+
+
+def window_at(ticks, tick, width):
+    return [change for coming in ticks[max(0, tick - width):tick] for change in coming]
+
+
 def totals_at(names, logs, cut):
     totals = dict.fromkeys(names, 0)
     for monitor, places in cut.items():
@@ -73,27 +96,41 @@ def command_of(folder):
 
 
 def check(folder):
-    if is_refused(folder) or command_of(folder) != "replay":
+    if is_refused(folder) or command_of(folder) not in ("replay", "window"):
         return None
     return check_text(folder, (folder / "expected.txt").read_text())
+
+
+def is_right(names, totals, members, count, epsilon):
+    least = min(totals[name] for name in members)
+    greatest = max((totals[name] for name in names if name not in members), default=least)
+    return len(set(members)) == count and least + epsilon >= greatest
 
 
 def check_text(folder, text):
     options, files = words_of(folder)
     names = [row[0] for row in csv.reader((folder / options["objects"]).open(newline=""))]
-    logs = {m: [changes_of(folder / file) for file in some] for m, some in files.items()}
+    width = int(options.get("width", 0))
+    ticked = {m: [ticks_of(folder / file) for file in some] for m, some in files.items()} if width else {}
+    logs = {m: [expanded(ticks, width) for ticks in some] for m, some in ticked.items()}
+    if not width:
+        logs = {m: [changes_of(folder / file) for file in some] for m, some in files.items()}
     final = None
     for line in text.splitlines():
         fields = line.split()
+        if fields[0] == "ticks":
+            # The set of the line before is right for plain sums over the windows at these ticks.
+            windows = {m: [window_at(ticks, tick, width) for ticks, tick in zip(ticked[m], places)]
+                       for m, places in cut_of(fields[1:]).items()}
+            ends = {m: [len(changes) for changes in some] for m, some in windows.items()}
+            if not is_right(names, totals_at(names, windows, ends), members, count, epsilon):
+                return f"{folder.name}: not within epsilon in the windows: {line}"
         if fields[0] not in ("set", "final"):
             continue
         count, epsilon = asked(fields, options)
         begin, middle = fields.index("cut") + 1, fields.index("members")
         cut, members = cut_of(fields[begin:middle]), fields[middle + 1:]
-        totals = totals_at(names, logs, cut)
-        least = min(totals[name] for name in members)
-        greatest = max((totals[name] for name in names if name not in members), default=least)
-        if len(set(members)) != count or least + epsilon < greatest:
+        if not is_right(names, totals_at(names, logs, cut), members, count, epsilon):
             return f"{folder.name}: not within epsilon: {line}"
         final = cut if fields[0] == "final" else final
     ends = {m: [len(changes) for changes in some] for m, some in logs.items()}
