@@ -122,12 +122,7 @@ fn line_in(
 }
 
 /// Writes the ticks that end at the places of a cut, where one does at each.
-fn push_ticks(
-    alloc: Global,
-    line: &mut Vec<u8>,
-    ends: &TickEnds,
-    cut: &Cut,
-) -> Result<(), NoMemory>
+fn push_ticks(alloc: Global, line: &mut Vec<u8>, ends: &TickEnds, cut: &Cut) -> Result<(), NoMemory>
     ensures { OnOk result (line.new.items ≡ line.old.items ++ ticks_text (ticks_at ends.now cut.now)) }
 {
     let Some(ticks) = ends.at(alloc, cut)? else {
