@@ -1,3 +1,5 @@
+//! Monitor 1 over a log of the objects a and b, at its end of a connection of run 5 over which these bytes come.
+
 ghost use Rattle.std.specs.Prelude.{◌≡◌, ◌<◌, ◌≤◌, IfOk, length};
 ghost use Rattle.tk_frames.specs.Spelling.{IsVersion};
 ghost use Rattle.tk_port.specs.declared.course.Course.TheVariants as on;
@@ -9,7 +11,7 @@ use tk_frames::{BadFrame, Frame};
 use tk_input::{Catalog, Logs, Part};
 use tk_monitor::{Checked, Monitor, Raised};
 use tk_port::{Port, Turn};
-use tk_story::{Bytes, Received};
+use tk_story::Received;
 use tk_trail::MonitorRefusal;
 use tk_wire::{Pipe, PipeWire, Pushed, Wire};
 
@@ -51,6 +53,20 @@ const NO_KIND: [u8; 30] = [
 /// Stop.
 const STOP: [u8; 5] = [0, 0, 0, 1, 7];
 
+/// Assign 1 with no change, in version 2.
+const ASSIGN_2: [u8; 9] = [0, 0, 0, 5, 5, 1, 1, 1, 0];
+
+/// Hello of monitor 1 in run 5 and version 1, and the answer of an empty log to Assign 1: a Settled that is the last.
+const GREETED_1: [u8; 40] = [
+    0, 0, 0, 14, 1, 0, 0, 0, 0, 0, 0, 0, 5, 1, 0, 0, 0, 1, 0, 0, 0, 18, 6, 0, 0, 0, 0, 0, 0, 0, 1,
+    1, 0, 0, 0, 1, 0, 0, 0, 0,
+];
+
+/// The same in version 2.
+const GREETED_2: [u8; 27] = [
+    0, 0, 0, 14, 1, 0, 0, 0, 0, 0, 0, 0, 5, 2, 0, 0, 0, 1, 0, 0, 0, 5, 6, 1, 1, 1, 0,
+];
+
 /// A port of run 5 over a wire whose calls move so many bytes: monitor 1 over these records of the objects a and b.
 fn port(
     alloc: Global,
@@ -85,9 +101,10 @@ fn port(
     }
 }
 
-/// Puts bytes on their way to the port, as far as a wire of these pieces lets them in.
+/// Puts bytes on their way to the port, as far as its wire lets them in.
 fn send(port: &mut Port<PipeWire>, pipe: &mut Pipe, bytes: &[u8])
-    ensures { port.new.course ≡ port.old.course }
+    ensures course { port.new.course ≡ port.old.course }
+    ensures monitor { port.new.monitor ≡ port.old.monitor }
 {
     pipe.put(bytes);
     for _ in 0..bytes.len() {
@@ -95,19 +112,63 @@ fn send(port: &mut Port<PipeWire>, pipe: &mut Pipe, bytes: &[u8])
     }
 }
 
-/// What two turns answer once these bytes came, and whether the wire is shut then.
-fn played(alloc: Global, bytes: &[u8]) -> Result<(Turn, Turn, bool), Fail> {
-    let mut port = port(alloc, b"a,5\n", 1, 64, Vec::new(alloc))?;
-    let mut pipe = Pipe::new(alloc, 256)?;
-    send(&mut port, &mut pipe, bytes);
-    let first = port.turn();
-    let second = port.turn();
-    Ok((first, second, port.halted()))
+/// What a turn answers, and how many entries the trail then has.
+fn turned(port: &mut Port<PipeWire>) -> (Turn, usize)
+    requires { port.old.course ≡ on.Halted → ⊥ }
+    ensures { port.new.course ≡ on.Halted → ⊥ }
+{
+    (port.turn(), port.monitor().trail().len())
 }
 
-/// The same answer twice, and the wire is shut.
-fn closed(turn: Turn) -> (Turn, Turn, bool) {
-    (turn, turn, true)
+/// What is seen of a port: what three turns answered and how many entries the trail had behind each, whether the wire is
+/// shut, what was not taken, and how many bytes the wire took.
+#[derive(Drop)]
+struct Seen {
+    turns: [(Turn, usize); 3],
+    is_shut: bool,
+    odd: Option<Received>,
+    taken: u64,
+}
+
+/// What is seen of a port over a wire whose calls move so many bytes and of which one fails, once these bytes came.
+fn played(alloc: Global, bytes: &[u8], piece: usize, call: u64) -> Result<Seen, Fail>
+    requires { (0 < piece) × (piece ≤ 65536) }
+{
+    let mut pipe = Pipe::new(alloc, 256)?;
+    let fails = vec![in alloc; call]?;
+    let mut port = port(alloc, b"a,5\n", 1, piece, fails)?;
+    send(&mut port, &mut pipe, bytes);
+    let turns = [turned(&mut port), turned(&mut port), turned(&mut port)];
+    let is_shut = port.halted();
+    let (end, wire) = port.into_end();
+    Ok(Seen {
+        turns,
+        is_shut,
+        odd: end.odd,
+        taken: wire.taken(),
+    })
+}
+
+/// What three turns answer and how many entries the trail has behind each, once these bytes came in such pieces.
+fn turns(alloc: Global, bytes: &[u8], piece: usize) -> Result<[(Turn, usize); 3], Fail>
+    requires { (0 < piece) × (piece ≤ 65536) }
+{
+    let seen = played(alloc, bytes, piece, 0)?;
+    let turns = seen.turns;
+    Ok(turns)
+}
+
+/// What three turns answer where this call of the wire fails, and whether the wire is shut. The first gives 18 bytes and
+/// takes once, each other takes once.
+fn failing(alloc: Global, call: u64) -> Result<([(Turn, usize); 3], bool), Fail> {
+    let seen = played(alloc, b"", 1, call)?;
+    let turns = seen.turns;
+    Ok((turns, seen.is_shut))
+}
+
+/// The same answer at each turn, behind so many entries.
+fn thrice(turn: Turn, entries: usize) -> [(Turn, usize); 3] {
+    [(turn, entries); 3]
 }
 
 #[test]
@@ -119,173 +180,137 @@ fn what_a_port_does_not_take_closes_it(rt: HostRuntime) -> Result<(), Fail> {
     let stop = Turn::Refused(MonitorRefusal::EarlyStop);
     let length = Turn::Bad(BadFrame::BadLength { length: 0 });
     let kind = Turn::Bad(BadFrame::BadKind { kind: 9 });
-    assert_eq!(rt; played(alloc, &TWICE)?, closed(twice));
-    assert_eq!(rt; played(alloc, &ASSIGN_PAST_LIMIT)?, closed(change));
-    assert_eq!(rt; played(alloc, &ASKED_PAST)?, closed(collect));
-    assert_eq!(rt; played(alloc, &STOPPED)?, closed(stop));
-    assert_eq!(rt; played(alloc, &[0, 0, 0, 0])?, closed(length));
-    assert_eq!(rt; played(alloc, &NO_KIND)?, closed(kind));
+    assert_eq!(rt; turns(alloc, &TWICE, 64)?, thrice(twice, 2));
+    assert_eq!(rt; turns(alloc, &ASSIGN_PAST_LIMIT, 64)?, thrice(change, 0));
+    assert_eq!(rt; turns(alloc, &ASKED_PAST, 64)?, thrice(collect, 2));
+    assert_eq!(rt; turns(alloc, &STOPPED, 64)?, thrice(stop, 2));
+    assert_eq!(rt; turns(alloc, &[0, 0, 0, 0], 64)?, thrice(length, 0));
+    assert_eq!(rt; turns(alloc, &NO_KIND, 64)?, thrice(kind, 2));
     Ok(())
-}
-
-/// What three turns answer where this call of the wire fails. The first gives 18 bytes and takes once, each other takes once.
-fn failing(alloc: Global, call: u64) -> Result<(Turn, Turn, Turn), Fail> {
-    let mut port = port(alloc, b"a,5\n", 1, 1, vec![in alloc; call]?)?;
-    let first = port.turn();
-    let second = port.turn();
-    Ok((first, second, port.turn()))
 }
 
 #[test]
 fn a_failed_call_is_answered_at_every_turn(rt: HostRuntime) -> Result<(), Fail> {
-    let failed = Turn::Failed;
+    let failed = thrice(Turn::Failed, 0);
     for call in 1..20 {
-        assert_eq!(rt;
-            failing(rt.alloc(), call)?,
-            (failed, failed, failed),
-            "{call}"
-        );
+        assert_eq!(rt; failing(rt.alloc(), call)?, (failed, true), "{call}");
     }
-    assert_eq!(rt; failing(rt.alloc(), 20)?, (Turn::Quiet, failed, failed));
+    let [_, second, third] = failed;
+    let late = [(Turn::Quiet, 0), second, third];
+    assert_eq!(rt; failing(rt.alloc(), 20)?, (late, true));
     Ok(())
 }
 
-/// Assign 1 with no change, in version 2.
-const ASSIGN_2: [u8; 9] = [0, 0, 0, 5, 5, 1, 1, 1, 0];
-
-/// Hello of monitor 1 in run 5 and version 1, and the answer of an empty log to Assign 1: a Settled that is the last.
-const GREETED_1: [u8; 40] = [
-    0, 0, 0, 14, 1, 0, 0, 0, 0, 0, 0, 0, 5, 1, 0, 0, 0, 1, 0, 0, 0, 18, 6, 0, 0, 0, 0, 0, 0, 0, 1,
-    1, 0, 0, 0, 1, 0, 0, 0, 0,
-];
-
-/// The same in version 2.
-const GREETED_2: [u8; 27] = [
-    0, 0, 0, 14, 1, 0, 0, 0, 0, 0, 0, 0, 5, 2, 0, 0, 0, 1, 0, 0, 0, 5, 6, 1, 1, 1, 0,
-];
-
-/// An exchange over an empty log: an Assign comes, and later Stop. What the two turns answer, and whether this went out.
-fn exchanged(
-    alloc: Global,
-    version: u8,
-    assign: &[u8],
-    out: &[u8],
-) -> Result<(Turn, Turn, bool), Fail>
-    requires { IsVersion version }
-{
-    let mut port = port(alloc, b"", version, 64, Vec::new(alloc))?;
-    let mut pipe = Pipe::new(alloc, 256)?;
-    let mut bytes = [0; 64];
-    send(&mut port, &mut pipe, assign);
-    let first = port.turn();
-    port.drain(&mut pipe);
-    let count = pipe.get(&mut bytes);
-    send(&mut port, &mut pipe, &STOP);
-    Ok((first, port.turn(), &bytes[..count] == out))
+/// Whether Stop is odd at a port's end once these bytes came, and how many its wire took.
+fn leaves_stop(alloc: Global, bytes: &[u8]) -> Result<(bool, u64), Fail> {
+    let seen = played(alloc, bytes, 64, 0)?;
+    let taken = seen.taken;
+    match seen.odd {
+        Some(Received::Frame(Frame::Stop)) => Ok((true, taken)),
+        _ => Ok((false, taken)),
+    }
 }
 
-#[test]
-fn a_port_greets_and_stops_in_each_version(rt: HostRuntime) -> Result<(), Fail> {
-    let alloc = rt.alloc();
-    let answer = (Turn::Quiet, Turn::Stopped, true);
-    assert_eq!(rt; exchanged(alloc, 1, &STOPPED[..25], &GREETED_1)?, answer);
-    assert_eq!(rt; exchanged(alloc, 2, &ASSIGN_2, &GREETED_2)?, answer);
-    Ok(())
-}
-
-/// What is odd at a port's end once these bytes came, and how many bytes its wire took.
-fn left(alloc: Global, bytes: &[u8]) -> Result<(Option<Received>, u64), Fail> {
-    let mut port = port(alloc, b"a,5\n", 1, 64, Vec::new(alloc))?;
-    let mut pipe = Pipe::new(alloc, 256)?;
-    send(&mut port, &mut pipe, bytes);
-    port.turn();
-    let (end, wire) = port.into_end();
-    Ok((end.odd, wire.taken()))
-}
-
-/// Bytes that are no frame.
-fn bytes(alloc: Global, bytes: &[u8]) -> Result<Option<Received>, Fail> {
-    Ok(Some(Received::Bytes(Bytes::new(Vec::from_slice(alloc, bytes)?))))
+/// Whether these bytes, which are no frame, are odd there, and how many its wire took.
+fn leaves_bytes(alloc: Global, bytes: &[u8], wanted: &[u8]) -> Result<(bool, u64), Fail> {
+    let seen = played(alloc, bytes, 64, 0)?;
+    let taken = seen.taken;
+    match seen.odd {
+        Some(Received::Bytes(odd)) => Ok((odd.as_slice() == wanted, taken)),
+        _ => Ok((false, taken)),
+    }
 }
 
 #[test]
 fn what_was_not_taken_is_left_at_the_end(rt: HostRuntime) -> Result<(), Fail> {
     let alloc = rt.alloc();
-    let stop = Some(Received::Frame(Frame::Stop));
-    let kind = bytes(alloc, &[9])?;
-    let length = bytes(alloc, &[0; 4])?;
-    assert_eq!(rt; left(alloc, &STOPPED)?, (stop, 30));
-    assert_eq!(rt; left(alloc, &NO_KIND)?, (kind, 30));
-    assert_eq!(rt; left(alloc, &[0, 0, 0, 0, 7])?, (length, 5));
+    assert_eq!(rt; leaves_stop(alloc, &STOPPED)?, (true, 30));
+    assert_eq!(rt; leaves_bytes(alloc, &NO_KIND, &[9])?, (true, 30));
+    assert_eq!(rt; leaves_bytes(alloc, &[0, 0, 0, 0, 7], &[0; 4])?, (true, 5));
     Ok(())
-}
-
-/// What a turn answers, and how many entries the trail then has.
-fn turned(port: &mut Port<PipeWire>) -> (Turn, usize)
-    requires { port.old.course ≡ on.Halted → ⊥ }
-    ensures { port.new.course ≡ on.Halted → ⊥ }
-{
-    (port.turn(), port.monitor().trail().len())
-}
-
-/// What two turns answer over these bytes, and how many entries the trail has after each.
-fn turns(alloc: Global, bytes: &[u8], piece: usize) -> Result<((Turn, usize), (Turn, usize)), Fail>
-    requires { (0 < piece) × (piece ≤ 65536) }
-{
-    let mut port = port(alloc, b"a,5\n", 1, piece, Vec::new(alloc))?;
-    let mut pipe = Pipe::new(alloc, 256)?;
-    send(&mut port, &mut pipe, bytes);
-    let first = turned(&mut port);
-    Ok((first, turned(&mut port)))
 }
 
 #[test]
 fn a_turn_takes_64_pieces(rt: HostRuntime) -> Result<(), Fail> {
     let alloc = rt.alloc();
-    let (more, quiet) = (Turn::More, Turn::Quiet);
-    assert_eq!(rt; turns(alloc, &THREE, 1)?, ((more, 4), (quiet, 6)));
-    assert_eq!(rt; turns(alloc, &THREE, 64)?, ((quiet, 6), (quiet, 6)));
+    let (more, quiet) = ((Turn::More, 4), (Turn::Quiet, 6));
+    assert_eq!(rt; turns(alloc, &THREE, 1)?, [more, quiet, quiet]);
+    assert_eq!(rt; turns(alloc, &THREE, 64)?, [quiet, quiet, quiet]);
     Ok(())
 }
 
-/// What the calls beside a turn answer: a check, a push and, once the port is halted, two raises.
-fn by_hand(port: &mut Port<PipeWire>) -> Result<(Checked, Pushed, Raised, Raised), Fail>
+/// An exchange over an empty log: an Assign comes, and later Stop. What the two turns answer, and whether this went out.
+fn exchanged(
+    port: &mut Port<PipeWire>,
+    pipe: &mut Pipe,
+    assign: &[u8],
+    out: &[u8],
+) -> (Turn, Turn, bool)
+    requires { port.old.course ≡ on.Open }
+{
+    let mut bytes = [0; 64];
+    send(port, pipe, assign);
+    let first = port.turn();
+    port.drain(pipe);
+    let count = pipe.get(&mut bytes);
+    send(port, pipe, &STOP);
+    (first, port.turn(), &bytes[..count] == out)
+}
+
+#[test]
+fn a_port_greets_and_stops_in_each_version(rt: HostRuntime) -> Result<(), Fail> {
+    let alloc = rt.alloc();
+    let mut pipe = Pipe::new(alloc, 256)?;
+    let first = exchanged(
+        &mut port(alloc, b"", 1, 64, Vec::new(alloc))?,
+        &mut pipe,
+        &STOPPED[..25],
+        &GREETED_1,
+    );
+    let second = exchanged(
+        &mut port(alloc, b"", 2, 64, Vec::new(alloc))?,
+        &mut pipe,
+        &ASSIGN_2,
+        &GREETED_2,
+    );
+    let answer = (Turn::Quiet, Turn::Stopped, true);
+    assert_eq!(rt; (first, second), (answer, answer));
+    Ok(())
+}
+
+/// What the calls beside a turn answer: a check, a push, a turn of one frame and, once the port is halted, two raises.
+fn by_hand(port: &mut Port<PipeWire>) -> Option<(Checked, Pushed, Option<Turn>, Raised, Raised)>
     requires course { port.old.course ≡ on.Open }
     requires feeder { length port.old.monitor.setup.parts ≡ 1 }
 {
-    let checked = port.check()?;
-    let pushed = port.push()?;
+    let checked = port.check().ok()?;
+    let pushed = port.push().ok()?;
+    let taken = if port.monitor().stopped() {
+        None
+    } else {
+        Some(port.take_one())
+    };
     port.halt();
     let first = port.raise(Feeder(1));
-    Ok((checked, pushed, first, port.raise(Feeder(1))))
+    Some((checked, pushed, taken, first, port.raise(Feeder(1))))
 }
 
 #[test]
 fn a_raise_is_counted_whatever_the_wire_does(rt: HostRuntime) -> Result<(), Fail> {
     let alloc = rt.alloc();
-    let mut port = port(alloc, b"b,5\n", 1, 64, Vec::new(alloc))?;
-    let done = Raised::Done { broken: false };
-    let answers = (Checked::Nothing, Pushed::Empty, done, Raised::Ended);
-    assert_eq!(rt; by_hand(&mut port)?, answers);
-    Ok(())
-}
-
-/// A turn of one frame, and how many entries the trail then has.
-fn one(port: &mut Port<PipeWire>) -> Result<(Turn, usize), Fail>
-    requires { port.old.course ≡ on.Open }
-{
-    if port.monitor().stopped() {
-        Err("stop was taken")?;
-    }
-    Ok((port.take_one(), port.monitor().trail().len()))
-}
-
-#[test]
-fn a_frame_is_taken_at_a_time(rt: HostRuntime) -> Result<(), Fail> {
-    let alloc = rt.alloc();
-    let mut port = port(alloc, b"b,5\n", 1, 64, Vec::new(alloc))?;
     let mut pipe = Pipe::new(alloc, 256)?;
+    let mut port = port(alloc, b"b,5\n", 1, 64, Vec::new(alloc))?;
     send(&mut port, &mut pipe, &TWICE);
-    assert_eq!(rt; one(&mut port)?, (Turn::More, 2));
+    let seen = by_hand(&mut port);
+    let entries = port.monitor().trail().len();
+    let done = Raised::Done { broken: true };
+    let answers = (
+        Checked::Nothing,
+        Pushed::Empty,
+        Some(Turn::More),
+        done,
+        Raised::Ended,
+    );
+    assert_eq!(rt; (seen, entries), (Some(answers), 3));
     Ok(())
 }
