@@ -1,4 +1,6 @@
-ghost use Rattle.std.specs.Prelude.{◌≡◌, ◌<◌, ◌≤◌, IfOk, true};
+//! Connections in plain bytes, and what a hub of run 5 makes of them, over two monitors and the objects a and b, with k 1.
+
+ghost use Rattle.std.specs.Prelude.{◌≡◌, ◌≤◌, IfOk, IfSome, true};
 ghost use Rattle.tk_hub.specs.declared.course.Course.TheVariants as on;
 ghost use Rattle.tk_hub.specs.Visitor.{IsUnused};
 
@@ -9,7 +11,7 @@ use tk_coord::{CoordRefusal, Coordinator};
 use tk_frames::{BadFrame, Frame, Kind};
 use tk_hub::{Admitted, Hub, HubTurn, an_opening_has_no_input};
 use tk_input::{Catalog, VecSink};
-use tk_story::{Bytes, Received};
+use tk_story::Received;
 use tk_wire::{Pipe, PipeWire, Piped, Pushed, Wire};
 
 /// A length that no Hello has.
@@ -49,179 +51,6 @@ const BORDER_1: [u8; 99] = [
     0, 0, 0, 3,
 ];
 
-/// A hub of run 5: two monitors over the objects a and b, with k 1.
-fn hub(alloc: Global) -> Result<Hub<PipeWire>, Fail>
-    ensures course { IfOk result (λ hub. hub.course ≡ on.Open) }
-    ensures objects { IfOk result (λ hub. hub.coordinator.settings.objects ≤ 2) }
-{
-    let settings = Settings::new(1, 0, 1, 2, 2)?;
-    if settings.objects() > 2 {
-        return Err("other settings")?;
-    }
-    let coordinator = Coordinator::new(alloc, settings)?;
-    an_opening_has_no_input();
-    let hub = Hub::new(alloc, coordinator, 5)?;
-    Ok(hub)
-}
-
-/// A wire whose calls move so many bytes, on which these wait.
-fn wire(alloc: Global, bytes: &[u8], piece: usize, fails: Vec<u64>) -> Result<PipeWire, Fail>
-    requires { (0 < piece) × (piece ≤ 65536) }
-    ensures { IfOk result (λ wire. IsUnused true wire.traffic) }
-{
-    let mut pipe = Pipe::new(alloc, 256)?;
-    pipe.put(bytes);
-    let mut wire = PipeWire::new(alloc, 256, piece, fails)?;
-    for _ in 0..bytes.len() {
-        wire.fill(&mut pipe);
-    }
-    Ok(wire)
-}
-
-/// Lets a connection in on which these bytes wait, whose calls move so many, and which may have ended behind them.
-fn let_in(
-    hub: &mut Hub<PipeWire>,
-    alloc: Global,
-    bytes: &[u8],
-    piece: usize,
-    fails: Vec<u64>,
-    ended: bool,
-) -> Result<Admitted, Fail>
-    requires course { hub.old.course ≡ on.Open }
-    requires objects { hub.old.coordinator.settings.objects ≤ 2 }
-    requires piece { (0 < piece) × (piece ≤ 65536) }
-    ensures course { hub.new.course ≡ on.Open }
-    ensures objects { hub.new.coordinator.settings.objects ≤ 2 }
-{
-    let mut wire = wire(alloc, bytes, piece, fails)?;
-    if ended {
-        wire.close();
-    }
-    let admitted = hub.admit(wire)?;
-    Ok(admitted)
-}
-
-/// What two turns answer, and whether they wrote this.
-fn two_turns(
-    hub: &mut Hub<PipeWire>,
-    alloc: Global,
-    text: &[u8],
-) -> Result<(HubTurn, HubTurn, bool), Fail>
-    requires course { hub.old.course ≡ on.Open }
-    requires objects { hub.old.coordinator.settings.objects ≤ 2 }
-{
-    let names = Catalog::read(alloc, b"a\nb\n")?;
-    let mut out = VecSink::new(alloc, 64, Vec::new(alloc))?;
-    if names.len() < 2 {
-        return Err("other names")?;
-    }
-    let first = hub.turn(&names, &mut out);
-    if first == HubTurn::WriteFailed {
-        return Err("a line was not written")?;
-    }
-    let second = hub.turn(&names, &mut out);
-    Ok((first, second, out.written() == text))
-}
-
-/// What two turns answer where these bytes came over one connection, which may have ended, and how many were strangers.
-fn played(alloc: Global, bytes: &[u8], ended: bool) -> Result<(HubTurn, HubTurn, u64), Fail> {
-    let mut hub = hub(alloc)?;
-    let_in(&mut hub, alloc, bytes, 64, Vec::new(alloc), ended)?;
-    let (first, second, _) = two_turns(&mut hub, alloc, b"")?;
-    Ok((first, second, hub.strangers()))
-}
-
-#[test]
-fn strangers_are_closed_and_counted(rt: HostRuntime) -> Result<(), Fail> {
-    let alloc = rt.alloc();
-    let closed = (HubTurn::Quiet, HubTurn::Quiet, 1);
-    assert_eq!(rt; played(alloc, &LONG, false)?, closed);
-    assert_eq!(rt; played(alloc, &HELLO_OF_3, false)?, closed);
-    assert_eq!(rt; played(alloc, &HELLO_IN_3, false)?, closed);
-    assert_eq!(rt; played(alloc, &HELLO_TO_6, false)?, closed);
-    Ok(())
-}
-
-#[test]
-fn what_is_wrong_behind_a_hello_closes_the_hub(rt: HostRuntime) -> Result<(), Fail> {
-    let alloc = rt.alloc();
-    let hello = HubTurn::Refused(Mon(2), CoordRefusal::NotForCoordinator(Kind::Hello));
-    let kind = HubTurn::Bad(Mon(2), BadFrame::BadKind { kind: 9 });
-    let why = CoordRefusal::BadBorder {
-        border: 1,
-        least: 0,
-    };
-    let border = HubTurn::Refused(Mon(2), why);
-    let failed = HubTurn::Failed;
-    assert_eq!(rt; played(alloc, &TWICE, false)?, (hello, hello, 0));
-    assert_eq!(rt; played(alloc, &NO_KIND, false)?, (kind, kind, 0));
-    assert_eq!(rt; played(alloc, &SETTLED[..28], true)?, (failed, failed, 0));
-    assert_eq!(rt; played(alloc, &BORDER_1, false)?, (border, border, 0));
-    Ok(())
-}
-
-/// What two turns answer where this call of the wire fails, counted behind those that bring its Hello.
-fn failing(alloc: Global, call: u64) -> Result<(HubTurn, HubTurn, bool), Fail>
-    requires { call ≤ 20 }
-{
-    let mut hub = hub(alloc)?;
-    let fails = vec![in alloc; 18 + call]?;
-    let_in(&mut hub, alloc, &TWICE[..18], 1, fails, false)?;
-    two_turns(&mut hub, alloc, b"")
-}
-
-#[test]
-fn a_failed_call_is_answered_at_every_turn(rt: HostRuntime) -> Result<(), Fail> {
-    for call in 1..21 {
-        assert_eq!(rt;
-            failing(rt.alloc(), call)?,
-            (HubTurn::Failed, HubTurn::Failed, true),
-            "{call}"
-        );
-    }
-    Ok(())
-}
-
-/// How many are strangers once one more connection is greeted, on which these bytes wait, and whether monitor 2 is there.
-fn greeted(hub: &mut Hub<PipeWire>, alloc: Global, bytes: &[u8]) -> Result<(u64, bool), Fail>
-    requires course { hub.old.course ≡ on.Open }
-    requires objects { hub.old.coordinator.settings.objects ≤ 2 }
-    ensures course { hub.new.course ≡ on.Open }
-    ensures objects { hub.new.coordinator.settings.objects ≤ 2 }
-{
-    let_in(hub, alloc, bytes, 64, Vec::new(alloc), false)?;
-    hub.greet()?;
-    Ok((hub.strangers(), hub.is_admitted(Mon(2))))
-}
-
-#[test]
-fn a_monitor_is_admitted_once(rt: HostRuntime) -> Result<(), Fail> {
-    let alloc = rt.alloc();
-    let mut hub = hub(alloc)?;
-    let other = greeted(&mut hub, alloc, &HELLO_TO_6)?;
-    let first = greeted(&mut hub, alloc, &TWICE[..18])?;
-    let second = greeted(&mut hub, alloc, &TWICE[..18])?;
-    assert_eq!(rt; (other, first, second), ((1, false), (1, true), (2, true)));
-    Ok(())
-}
-
-/// What a hub does with the last two of 65 connections that say nothing.
-fn crowded(alloc: Global) -> Result<(Admitted, Admitted), Fail> {
-    let mut hub = hub(alloc)?;
-    for _ in 0..63 {
-        let_in(&mut hub, alloc, b"", 1, Vec::new(alloc), false)?;
-    }
-    let first = let_in(&mut hub, alloc, b"", 1, Vec::new(alloc), false)?;
-    let second = let_in(&mut hub, alloc, b"", 1, Vec::new(alloc), false)?;
-    Ok((first, second))
-}
-
-#[test]
-fn one_connection_too_many_is_closed(rt: HostRuntime) -> Result<(), Fail> {
-    assert_eq!(rt; crowded(rt.alloc())?, (Admitted::Kept, Admitted::Closed));
-    Ok(())
-}
-
 /// Hello of monitor 1 in run 5 and version 1, and Settled 1 of an empty log of one feeder, which is the last.
 const FIRST: [u8; 40] = [
     0, 0, 0, 14, 1, 0, 0, 0, 0, 0, 0, 0, 5, 1, 0, 0, 0, 1, 0, 0, 0, 18, 6, 0, 0, 0, 0, 0, 0, 0, 1,
@@ -241,88 +70,348 @@ const TO_FIRST: [u8; 30] = [
 /// The same in version 2.
 const TO_SECOND: [u8; 14] = [0, 0, 0, 5, 5, 1, 1, 1, 0, 0, 0, 0, 1, 7];
 
-/// Whether these bytes go out to a monitor.
-fn gives(hub: &mut Hub<PipeWire>, alloc: Global, mon: u32, bytes: &[u8]) -> Result<bool, Fail> {
-    if mon == 0 || mon > hub.coordinator().settings().monitors() {
-        return Err("no such monitor")?;
-    }
-    let mut pipe = Pipe::new(alloc, 256)?;
-    let mut given = [0; 64];
-    hub.drain(Mon(mon), &mut pipe);
-    let count = pipe.get(&mut given);
-    Ok(&given[..count] == bytes)
+/// A connection: the bytes that wait on it, which call of its wire fails, if one does, whether a call moves one byte alone,
+/// and whether it has ended behind its bytes.
+#[derive(Clone, Copy)]
+struct Connection<'a> {
+    bytes: &'a [u8],
+    fails: u64,
+    is_slow: bool,
+    has_ended: bool,
 }
 
-/// What two turns answer over one connection of each version, and whether all that is due was written and goes out.
-fn finished(alloc: Global) -> Result<((HubTurn, HubTurn, bool), bool, bool), Fail> {
+/// A connection that goes on, on which these bytes wait.
+fn came(bytes: &[u8]) -> Connection<'_> {
+    Connection {
+        bytes,
+        fails: 0,
+        is_slow: false,
+        has_ended: false,
+    }
+}
+
+/// A wire of such a connection.
+fn wire(alloc: Global, came: Connection<'_>) -> Option<PipeWire>
+    ensures { IfSome result (λ wire. IsUnused true wire.traffic) }
+{
+    let mut pipe = Pipe::new(alloc, 256).ok()?;
+    let fails = vec![in alloc; came.fails].ok()?;
+    let piece = if came.is_slow { 1 } else { 64 };
+    let mut wire = PipeWire::new(alloc, 256, piece, fails).ok()?;
+    pipe.put(came.bytes);
+    for _ in 0..came.bytes.len() {
+        wire.fill(&mut pipe);
+    }
+    if came.has_ended {
+        wire.close();
+    }
+    Some(wire)
+}
+
+/// A hub of run 5: two monitors over the objects a and b, with k 1.
+fn hub(alloc: Global) -> Result<Hub<PipeWire>, Fail>
+    ensures course { IfOk result (λ hub. hub.course ≡ on.Open) }
+    ensures objects { IfOk result (λ hub. hub.coordinator.settings.objects ≤ 2) }
+{
+    let settings = Settings::new(1, 0, 1, 2, 2)?;
+    let coordinator = Coordinator::new(alloc, settings)?;
+    an_opening_has_no_input();
+    let hub = Hub::new(alloc, coordinator, 5)?;
+    Ok(hub)
+}
+
+/// Lets a connection in.
+fn let_in(hub: &mut Hub<PipeWire>, alloc: Global, came: Connection<'_>) -> Option<Admitted>
+    requires { hub.old.course ≡ on.Open }
+    ensures course { hub.new.course ≡ on.Open }
+    ensures settings { hub.new.coordinator.settings ≡ hub.old.coordinator.settings }
+{
+    let wire = wire(alloc, came)?;
+    hub.admit(wire).ok()
+}
+
+/// What two turns answer, and whether they wrote this.
+fn two_turns(
+    hub: &mut Hub<PipeWire>,
+    alloc: Global,
+    text: &[u8],
+) -> Option<(HubTurn, HubTurn, bool)>
+    requires course { hub.old.course ≡ on.Open }
+    requires objects { hub.old.coordinator.settings.objects ≤ 2 }
+{
+    let names = Catalog::read(alloc, b"a\nb\n").ok()?;
+    let mut out = VecSink::new(alloc, 64, Vec::new(alloc)).ok()?;
+    if names.len() < 2 {
+        return None;
+    }
+    let first = hub.turn(&names, &mut out);
+    if first == HubTurn::WriteFailed {
+        return None;
+    }
+    let second = hub.turn(&names, &mut out);
+    Some((first, second, out.written() == text))
+}
+
+/// Lets one connection in, and answers what two turns do over it.
+fn over_one(
+    hub: &mut Hub<PipeWire>,
+    alloc: Global,
+    came: Connection<'_>,
+) -> Option<(HubTurn, HubTurn, bool)>
+    requires course { hub.old.course ≡ on.Open }
+    requires objects { hub.old.coordinator.settings.objects ≤ 2 }
+{
+    let_in(hub, alloc, came)?;
+    two_turns(hub, alloc, b"")
+}
+
+/// How many bytes the only wire took.
+fn taken(wires: &[PipeWire]) -> Option<u64> {
+    match wires {
+        [wire] => Some(wire.taken()),
+        _ => None,
+    }
+}
+
+/// What is seen of a hub: what two turns answered and whether they wrote nothing, how many were strangers, what was not
+/// taken, and how many bytes the only wire that was admitted took.
+#[derive(Drop)]
+struct Seen {
+    turns: Option<(HubTurn, HubTurn, bool)>,
+    strangers: u64,
+    odd: Option<(Mon, Received)>,
+    taken: Option<u64>,
+}
+
+/// What is seen of a hub to which one connection came.
+fn seen_of(alloc: Global, came: Connection<'_>) -> Result<Seen, Fail> {
     let mut hub = hub(alloc)?;
-    let_in(&mut hub, alloc, &SECOND, 64, Vec::new(alloc), false)?;
-    let_in(&mut hub, alloc, &FIRST, 64, Vec::new(alloc), false)?;
-    let turns = two_turns(&mut hub, alloc, b"final 1 cut 1:0 2:0 members a\n")?;
-    let first = gives(&mut hub, alloc, 1, &TO_FIRST)?;
-    Ok((turns, first, gives(&mut hub, alloc, 2, &TO_SECOND)?))
+    let turns = over_one(&mut hub, alloc, came);
+    let strangers = hub.strangers();
+    hub.halt();
+    let (end, wires) = hub.into_end();
+    Ok(Seen {
+        turns,
+        strangers,
+        odd: end.odd,
+        taken: taken(&wires),
+    })
+}
+
+/// What two turns answer that write nothing, how many were strangers, and how many bytes the only wire took.
+fn played(
+    alloc: Global,
+    came: Connection<'_>,
+) -> Result<(HubTurn, HubTurn, u64, Option<u64>), Fail> {
+    let seen = seen_of(alloc, came)?;
+    match seen.turns {
+        Some((first, second, true)) => Ok((first, second, seen.strangers, seen.taken)),
+        _ => Err("no two turns that write nothing")?,
+    }
 }
 
 #[test]
-fn a_hub_speaks_each_version_to_its_end(rt: HostRuntime) -> Result<(), Fail> {
-    let turns = (HubTurn::Finished, HubTurn::Finished, true);
-    assert_eq!(rt; finished(rt.alloc())?, (turns, true, true));
+fn strangers_are_closed_and_counted(rt: HostRuntime) -> Result<(), Fail> {
+    let alloc = rt.alloc();
+    let turned_away = (HubTurn::Quiet, HubTurn::Quiet, 1, None);
+    assert_eq!(rt; played(alloc, came(&LONG))?, turned_away);
+    assert_eq!(rt; played(alloc, came(&HELLO_OF_3))?, turned_away);
+    assert_eq!(rt; played(alloc, came(&HELLO_IN_3))?, turned_away);
+    assert_eq!(rt; played(alloc, came(&HELLO_TO_6))?, turned_away);
     Ok(())
 }
 
-/// What is left at the end of a hub to which these bytes came: what was not taken, how many wires, and the bytes they took.
-fn left(alloc: Global, bytes: &[u8]) -> Result<(Option<(Mon, Received)>, usize, u64), Fail> {
-    let mut hub = hub(alloc)?;
-    let_in(&mut hub, alloc, bytes, 64, Vec::new(alloc), false)?;
-    two_turns(&mut hub, alloc, b"")?;
-    hub.halt();
-    let (end, wires) = hub.into_end();
-    match wires.first() {
-        Some(wire) => Ok((end.odd, wires.len(), wire.taken())),
-        None => Err("no wire")?,
+/// A hub that monitor 2 closed, by so many bytes.
+fn closed(turn: HubTurn, taken: u64) -> (HubTurn, HubTurn, u64, Option<u64>) {
+    (turn, turn, 0, Some(taken))
+}
+
+#[test]
+fn what_is_wrong_behind_a_hello_closes_the_hub(rt: HostRuntime) -> Result<(), Fail> {
+    let alloc = rt.alloc();
+    let hello = HubTurn::Refused(Mon(2), CoordRefusal::NotForCoordinator(Kind::Hello));
+    let kind = HubTurn::Bad(Mon(2), BadFrame::BadKind { kind: 9 });
+    let why = CoordRefusal::BadBorder {
+        border: 1,
+        least: 0,
+    };
+    let border = HubTurn::Refused(Mon(2), why);
+    let cut_off = Connection {
+        has_ended: true,
+        ..came(&SETTLED[..28])
+    };
+    assert_eq!(rt; played(alloc, came(&TWICE))?, closed(hello, 36));
+    assert_eq!(rt; played(alloc, came(&NO_KIND))?, closed(kind, 23));
+    assert_eq!(rt; played(alloc, came(&BORDER_1))?, closed(border, 99));
+    assert_eq!(rt; played(alloc, cut_off)?, closed(HubTurn::Failed, 28));
+    Ok(())
+}
+
+/// Whether this frame of monitor 2 was not taken, where these bytes came.
+fn leaves_frame(alloc: Global, bytes: &[u8], wanted: &Frame) -> Result<bool, Fail> {
+    match seen_of(alloc, came(bytes))?.odd {
+        Some((Mon(2), Received::Frame(frame))) => Ok(frame == *wanted),
+        _ => Ok(false),
+    }
+}
+
+/// Whether these bytes of monitor 2, which are no frame, were not taken.
+fn leaves_bytes(alloc: Global, bytes: &[u8], wanted: &[u8]) -> Result<bool, Fail> {
+    match seen_of(alloc, came(bytes))?.odd {
+        Some((Mon(2), Received::Bytes(odd))) => Ok(odd.as_slice() == wanted),
+        _ => Ok(false),
     }
 }
 
 #[test]
 fn what_was_not_taken_is_left_at_the_end(rt: HostRuntime) -> Result<(), Fail> {
-    let alloc = rt.alloc();
     let hello = Frame::Hello {
         run: 5,
         version: 1,
         mon: Mon(2),
     };
-    let kind = Bytes::new(vec![in alloc; 9]?);
-    let frame = Some((Mon(2), Received::Frame(hello)));
-    let bytes = Some((Mon(2), Received::Bytes(kind)));
-    assert_eq!(rt; left(alloc, &TWICE)?, (frame, 1, 36));
-    assert_eq!(rt; left(alloc, &NO_KIND)?, (bytes, 1, 23));
+    let is_left = leaves_frame(rt.alloc(), &TWICE, &hello)?;
+    assert!(rt; is_left);
+    let is_left = leaves_bytes(rt.alloc(), &NO_KIND, &[9])?;
+    assert!(rt; is_left);
     Ok(())
 }
 
-/// What a push to monitor 2 answers, and then two turns of one frame of it; none where it is not admitted.
-fn by_hand(hub: &mut Hub<PipeWire>) -> Result<Option<(Pushed, HubTurn, HubTurn)>, Fail>
+/// The Hello of monitor 2 over a slow wire, of which a call behind those that bring it fails.
+fn failing(call: u64) -> Connection<'static>
+    requires { call ≤ 20 }
+{
+    Connection {
+        bytes: &TWICE[..18],
+        fails: 18 + call,
+        is_slow: true,
+        has_ended: false,
+    }
+}
+
+#[test]
+fn a_failed_call_is_answered_at_every_turn(rt: HostRuntime) -> Result<(), Fail> {
+    for call in 1..21 {
+        assert_eq!(rt;
+            played(rt.alloc(), failing(call))?,
+            closed(HubTurn::Failed, 18),
+            "{call}"
+        );
+    }
+    Ok(())
+}
+
+/// How many are strangers once one more connection is greeted, and whether monitor 2 is there.
+fn greeted(hub: &mut Hub<PipeWire>, alloc: Global, bytes: &[u8]) -> Option<(u64, bool)>
+    requires { hub.old.course ≡ on.Open }
+    ensures { hub.new.course ≡ on.Open }
+{
+    let_in(hub, alloc, came(bytes))?;
+    hub.greet().ok()?;
+    Some((hub.strangers(), hub.is_admitted(Mon(2))))
+}
+
+#[test]
+fn a_monitor_is_admitted_once(rt: HostRuntime) -> Result<(), Fail> {
+    let alloc = rt.alloc();
+    let mut hub = hub(alloc)?;
+    let other = greeted(&mut hub, alloc, &HELLO_TO_6);
+    let first = greeted(&mut hub, alloc, &TWICE[..18]);
+    let second = greeted(&mut hub, alloc, &TWICE[..18]);
+    assert_eq!(rt;
+        (other, first, second),
+        (Some((1, false)), Some((1, true)), Some((2, true)))
+    );
+    Ok(())
+}
+
+/// What a hub does with the last two of 65 connections that say nothing.
+fn crowded(hub: &mut Hub<PipeWire>, alloc: Global) -> Option<(Admitted, Admitted)>
     requires { hub.old.course ≡ on.Open }
 {
-    if !hub.is_admitted(Mon(2)) {
-        return Ok(None);
+    for _ in 0..63 {
+        let_in(hub, alloc, came(b""))?;
     }
-    let pushed = hub.push(Mon(2))?;
+    Some((
+        let_in(hub, alloc, came(b""))?,
+        let_in(hub, alloc, came(b""))?,
+    ))
+}
+
+#[test]
+fn one_connection_too_many_is_closed(rt: HostRuntime) -> Result<(), Fail> {
+    let mut hub = hub(rt.alloc())?;
+    let last = crowded(&mut hub, rt.alloc());
+    assert_eq!(rt; last, Some((Admitted::Kept, Admitted::Closed)));
+    Ok(())
+}
+
+/// Whether these bytes go out to a monitor.
+fn gives(hub: &mut Hub<PipeWire>, pipe: &mut Pipe, mon: Mon, bytes: &[u8]) -> bool {
+    if mon.0 == 0 || mon.0 > hub.coordinator().settings().monitors() {
+        return false;
+    }
+    let mut given = [0; 64];
+    hub.drain(mon, pipe);
+    let count = pipe.get(&mut given);
+    &given[..count] == bytes
+}
+
+/// What two turns answer over one connection of each version and whether they write the final line, and whether all that
+/// is due goes out to each.
+fn finished(
+    hub: &mut Hub<PipeWire>,
+    alloc: Global,
+) -> Option<((HubTurn, HubTurn, bool), bool, bool)>
+    requires course { hub.old.course ≡ on.Open }
+    requires objects { hub.old.coordinator.settings.objects ≤ 2 }
+{
+    let mut pipe = Pipe::new(alloc, 256).ok()?;
+    let_in(hub, alloc, came(&SECOND))?;
+    let_in(hub, alloc, came(&FIRST))?;
+    let turns = two_turns(hub, alloc, b"final 1 cut 1:0 2:0 members a\n")?;
+    let first = gives(hub, &mut pipe, Mon(1), &TO_FIRST);
+    Some((turns, first, gives(hub, &mut pipe, Mon(2), &TO_SECOND)))
+}
+
+#[test]
+fn a_hub_speaks_each_version_to_its_end(rt: HostRuntime) -> Result<(), Fail> {
+    let mut hub = hub(rt.alloc())?;
+    let seen = finished(&mut hub, rt.alloc());
+    let turns = (HubTurn::Finished, HubTurn::Finished, true);
+    assert_eq!(rt; seen, Some((turns, true, true)));
+    Ok(())
+}
+
+/// What a push to monitor 2 answers behind a retune, and then two turns of one frame of it; none where it is not admitted.
+fn by_hand(hub: &mut Hub<PipeWire>) -> Option<(Pushed, HubTurn, HubTurn)>
+    requires { hub.old.course ≡ on.Open }
+{
+    hub.retune(1, 1).ok()?;
     if !hub.is_admitted(Mon(2)) {
-        return Ok(None);
+        return None;
+    }
+    let pushed = hub.push(Mon(2)).ok()?;
+    if !hub.is_admitted(Mon(2)) {
+        return None;
     }
     let first = hub.take_one(Mon(2));
     if first != HubTurn::More || !hub.is_admitted(Mon(2)) {
-        return Ok(None);
+        return None;
     }
-    Ok(Some((pushed, first, hub.take_one(Mon(2)))))
+    Some((pushed, first, hub.take_one(Mon(2))))
 }
 
 #[test]
 fn a_frame_is_taken_at_a_time(rt: HostRuntime) -> Result<(), Fail> {
     let alloc = rt.alloc();
     let mut hub = hub(alloc)?;
-    greeted(&mut hub, alloc, &SETTLED)?;
-    let answers = (Pushed::Empty, HubTurn::More, HubTurn::Quiet);
-    assert_eq!(rt; by_hand(&mut hub)?, Some(answers));
+    let greeted = greeted(&mut hub, alloc, &SETTLED);
+    let answers = by_hand(&mut hub);
+    assert_eq!(rt; greeted, Some((0, true)));
+    assert_eq!(rt;
+        answers,
+        Some((Pushed::Empty, HubTurn::More, HubTurn::Quiet))
+    );
     Ok(())
 }
