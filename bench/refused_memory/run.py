@@ -6,7 +6,7 @@
 For the examples below it asks how many allocations a run makes, and runs it again with the first, the second, .. refused.
 Each run must end with status 7 or 0 within ten seconds, what it wrote must be a front of the whole text, and its
 line, if there is one, must be that of want of memory. Of a live run, whose text and whose allocations depend on how its
-threads meet, what it wrote must be whole lines of sets. With --every N it tries each Nth allocation alone. It wants a C
+threads meet, what it wrote must be whole lines. With --every N it tries each Nth allocation alone. It wants a C
 compiler and the program as `rt run` or the gate leaves it; it is no part of the gate.
 """
 import argparse
@@ -18,10 +18,11 @@ import tempfile
 
 HERE = pathlib.Path(__file__).resolve().parent
 ROOT = HERE.parent.parent
-PROGRAM = pathlib.Path(os.environ.get("TOPK", ROOT / "crates" / "topk" / "out" / "topk"))
+PROGRAM = ROOT / "crates" / "topk" / "out" / "topk"
 EXAMPLES = ("two_monitors", "ninth_report", "pages", "live_two_monitors")
 GENERATED = "gen --seed 7 --monitors 8 --objects 256 --updates 2000 --k 10 --epsilon 50".split()
 LINE = b"topk: out of memory\n"
+STARTS = (b"set ", b"final ", b"frames ", b"rounds ", b"bytes ", b"monitor ")
 
 
 def words_of(name):
@@ -41,10 +42,10 @@ def is_live(name):
     return words_of(name)[1][0] == "live"
 
 
-def is_of_sets(text):
-    """Whether a text is whole lines of published sets, the last of them final or none."""
+def is_of_lines(text):
+    """Whether a text is whole lines of published sets and of a ledger."""
     lines = text.split(b"\n")
-    return lines.pop() == b"" and all(line.startswith((b"set ", b"final ")) for line in lines)
+    return lines.pop() == b"" and all(line.startswith(STARTS) for line in lines)
 
 
 def fault_of(name, done, whole):
@@ -52,7 +53,7 @@ def fault_of(name, done, whole):
     if done.returncode not in (0, 7):
         return f"status {done.returncode}"
     if is_live(name):
-        if done.returncode == 7 and not is_of_sets(done.stdout):
+        if done.returncode == 7 and not is_of_lines(done.stdout):
             return "another text"
     elif not whole.startswith(done.stdout) or (done.returncode == 0 and done.stdout != whole):
         return "another text"
