@@ -1,0 +1,106 @@
+//! The words and the files of live runs.
+
+ghost use Rattle.std.specs.Prelude.{◌<◌};
+
+use std::alloc::Global;
+use tk_input::MapFiles;
+
+/// The words of a live run, and its files.
+#[derive(Drop)]
+pub struct Case {
+    pub words: Vec<String>,
+    pub files: MapFiles,
+}
+
+/// The words of a text, which spaces part.
+fn words_of(alloc: Global, text: &str) -> Option<Vec<String>> {
+    let mut words = Vec::new(alloc);
+    for word in text.split_whitespace() {
+        words.push(String::from_str(alloc, word).ok()?).ok()?;
+    }
+    Some(words)
+}
+
+fn file(alloc: Global, name: &str, text: &str) -> Option<(String, Vec<u8>)> {
+    let name = String::from_str(alloc, name).ok()?;
+    let bytes = Vec::from_slice(alloc, text.as_bytes()).ok()?;
+    Some((name, bytes))
+}
+
+/// The objects a and b, and a change or two in each of two logs.
+fn of_two_logs(alloc: Global, words: &str, one: &str, two: &str) -> Option<Case> {
+    let mut files = Vec::new(alloc);
+    files.push(file(alloc, "objects.csv", "a\nb\n")?).ok()?;
+    files.push(file(alloc, "one.csv", one)?).ok()?;
+    files.push(file(alloc, "two.csv", two)?).ok()?;
+    Some(Case {
+        words: words_of(alloc, words)?,
+        files: MapFiles::new(alloc, files, Vec::new(alloc)),
+    })
+}
+
+/// At the first monitor a rises by 5, at the second b by 3.
+pub fn two_monitors(alloc: Global) -> Option<Case> {
+    let words = "live --k 1 --epsilon 0 --objects objects.csv 1=one.csv 2=two.csv";
+    of_two_logs(alloc, words, "a,5\n", "b,3\n")
+}
+
+/// The same in the shorter frames.
+pub fn two_monitors_in_version_2(alloc: Global) -> Option<Case> {
+    let words = "live --k 1 --epsilon 0 --frames 2 --objects objects.csv 1=one.csv 2=two.csv";
+    of_two_logs(alloc, words, "a,5\n", "b,3\n")
+}
+
+/// One monitor, at which a rises by 5.
+pub fn one_monitor(alloc: Global) -> Option<Case> {
+    let words = "live --k 1 --epsilon 0 --objects objects.csv 1=one.csv";
+    of_two_logs(alloc, words, "a,5\n", "")
+}
+
+/// One monitor with two feeders.
+pub fn two_feeders(alloc: Global) -> Option<Case> {
+    let words = "live --k 1 --epsilon 0 --objects objects.csv 1=one.csv 1=two.csv";
+    of_two_logs(alloc, words, "a,1\n", "a,2\nb,1\n")
+}
+
+/// The names of 40 pages, a line each.
+fn names(alloc: Global) -> Option<String> {
+    let mut text = String::new(alloc);
+    for page in 1..41 {
+        let line = format!(in alloc; "/page/{}.html\n", page).ok()?;
+        text.push_str(line.as_str()).ok()?;
+    }
+    Some(text)
+}
+
+/// The changes of a feeder: of 5,000 that are numbered from 0, each eighth from this one on.
+fn hits(alloc: Global, first: u32) -> Option<String>
+    requires { first < 8 }
+{
+    let mut text = String::new(alloc);
+    for round in 0..625u32 {
+        let hit = 8 * round + first;
+        let page = 1 + (hit * hit + 7 * hit) % 40;
+        let line = format!(in alloc; "/page/{}.html,{}\n", page, 1 + hit % 5).ok()?;
+        text.push_str(line.as_str()).ok()?;
+    }
+    Some(text)
+}
+
+/// 40 pages at 4 servers with 2 workers each, and 5,000 hits.
+pub fn pages(alloc: Global) -> Option<Case> {
+    let words = "live --k 10 --epsilon 20 --objects pages 1=0 2=1 3=2 4=3 1=4 2=5 3=6 4=7";
+    let mut files = Vec::new(alloc);
+    files
+        .push(file(alloc, "pages", names(alloc)?.as_str())?)
+        .ok()?;
+    for first in 0..8u32 {
+        let name = format!(in alloc; "{}", first).ok()?;
+        let text = hits(alloc, first)?;
+        files.push(file(alloc, name.as_str(), text.as_str())?).ok()?;
+    }
+    Some(Case {
+        words: words_of(alloc, words)?,
+        files: MapFiles::new(alloc, files, Vec::new(alloc)),
+    })
+}

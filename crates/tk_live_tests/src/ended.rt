@@ -1,0 +1,84 @@
+//! A live run from its words to its end, told in plain numbers.
+
+ghost use Rattle.std.specs.Prelude.{◌≡◌, false};
+ghost use Rattle.tk_frames.specs.Spelling.{IsVersion};
+
+use crate::again::comes_again;
+use crate::cases::Case;
+use crate::sums::are_right;
+use std::alloc::Global;
+use std::marker::Sync;
+use std::sync::Wait;
+use std::thread::Threads;
+use tk_frames::encode;
+use tk_input::VecSink;
+use tk_journal::Noted;
+use tk_live::{Outcome, live};
+use tk_serve::Gate;
+use tk_story::Story;
+use tk_wire::Net;
+
+/// What a live run left. Without a story all but the status is false or 0.
+#[derive(Clone, Copy, Debug, PartialEq, Eq)]
+pub struct Told {
+    /// The exit status.
+    pub status: u8,
+    /// Whether each published set is right, by plain sums.
+    pub right: bool,
+    /// Whether a new world that steps its events has the same journal and trails.
+    pub again: bool,
+    /// How many bytes the frames of its journal take in version 1, and in version 2.
+    pub bytes: [u64; 2],
+}
+
+/// How many bytes the frames of a journal take in a version.
+fn bytes_of(alloc: Global, journal: &[Noted], version: u8) -> Option<u64>
+    requires { IsVersion version }
+{
+    let mut bytes = Vec::new(alloc);
+    for noted in journal {
+        match noted {
+            Noted::Got(_, frame) => encode(alloc, frame.get(), version, &mut bytes).ok()?,
+            Noted::Sent(_, frame) => encode(alloc, frame.get(), version, &mut bytes).ok()?,
+            Noted::Published(_) => {}
+            Noted::Tuned(_, _) => {}
+        }
+    }
+    Some(bytes.len() as u64)
+}
+
+/// What is seen of a story.
+fn seen(alloc: Global, case: &mut Case, story: &Story) -> Option<(bool, bool, [u64; 2])> {
+    let right = are_right(alloc, story)?;
+    let again = comes_again(alloc, case, story)?;
+    let long = bytes_of(alloc, story.journal(), 1)?;
+    let short = bytes_of(alloc, story.journal(), 2)?;
+    Some((right, again, [long, short]))
+}
+
+/// Runs a case over a net. None where there was no memory to see what it left.
+pub fn ended<R: Threads + Wait + Sync, N: Net, G: Gate + Sync>(
+    rt: &R,
+    alloc: Global,
+    mut case: Case,
+    net: &mut N,
+    gate: &G,
+    out: &mut VecSink,
+) -> Option<Told>
+    requires listens { (N.state net.old).listens ≡ false }
+    requires links { (N.state net.old).links ≡ 0 }
+{
+    let words = case.words.as_slice();
+    let outcome = live(rt, alloc, words, &mut case.files, net, 5, gate, out);
+    let (right, again, bytes) = match &outcome.story {
+        Some(story) => seen(alloc, &mut case, story)?,
+        None => (false, false, [0, 0]),
+    };
+    let status = outcome.into_status().number();
+    Some(Told {
+        status,
+        right,
+        again,
+        bytes,
+    })
+}
