@@ -16,7 +16,7 @@ fn stepped(alloc: Global, case: &mut Case, story: &Story) -> Option<Story> {
     let Ok(Command::Live(words)) = read(alloc, case.words.as_slice()) else {
         return None;
     };
-    let Ok(input) = load(alloc, &words.input, &mut case.files) else {
+    let Ok(input) = load(alloc, &words.sources, &mut case.files) else {
         return None;
     };
     let Input { settings, logs, .. } = input;
