@@ -14,6 +14,7 @@ pub struct Meeting {
 }
 
 impl Meeting {
+    /// Nobody has come yet.
     pub fn new() -> Meeting {
         Meeting {
             first: AtomicU64::new(0),
