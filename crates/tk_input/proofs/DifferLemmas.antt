@@ -7,13 +7,15 @@ use Rattle.std.proofs.lemmas.Bool.{lt-ltb}
 use Rattle.tk_input.specs.Catalog.{AreDifferent, names_of}
 use Rattle.tk_input.proofs.NamesLemmas.{length-names_of}
 
-other_way : (x y : List ℕ) → bytes_eq x y ≡ false → bytes_eq y x ≡ false
+-- names that differ do so either way round
+pub other_way : (x y : List ℕ) → bytes_eq x y ≡ false → bytes_eq y x ≡ false
 other_way x y differ = nat_list_eq_equiv.symm y x ∙ differ
 
 first_or_later : (p : List ℕ → Bool) (b : Bool) (name : List ℕ) (names : List (List ℕ)) → p name ≡ b → position_or_len p (name ∷ names) ≡ cond (not b) (1 + position_or_len p names) 0
 first_or_later p b name names is = ap (λ (c : Bool). cond (not c) (1 + position_or_len p names) 0) is
 
-later_differs : {A : Type 0} (name : List ℕ) (keys : List (Vec ℕ A)) (i : ℕ) → AllByRecursion (λ k. bytes_eq name k.items ≡ false) keys → i < length keys → bytes_eq name (get_or (names_of keys) i []) ≡ false
+-- a name that is none of some keys is not that of one of them
+pub later_differs : {A : Type 0} (name : List ℕ) (keys : List (Vec ℕ A)) (i : ℕ) → AllByRecursion (λ k. bytes_eq name k.items ≡ false) keys → i < length keys → bytes_eq name (get_or (names_of keys) i []) ≡ false
 later_differs name [] i all within = absurd (omega (arith, within))
 later_differs name (k ∷ keys) zero all within = all.0
 later_differs name (k ∷ keys) (suc i) all within = later_differs name keys i all.1 (omega (arith, within))

@@ -10,6 +10,7 @@ pub mod ReadingLemmas
 pub mod ThroughLemmas
 pub mod NamesLemmas
 pub mod DifferLemmas
+pub mod PrefixLemmas
 pub mod DigitsLemmas
 pub mod LinesLemmas
 pub mod LogLemmas

@@ -1,11 +1,12 @@
 -- One more name of a catalogue.
-use Rattle.std.proofs.Common.{◌≡◌, ℕ, suc, zero, ◌+◌, ◌<◌, Bool, true, false, not, ◌||◌, List, [], ◌∷◌, ◌++◌, length, map, Option, Some, Result, Ok, Err, Vec, bytes_eq, refl, sym, ap, subst, ◌∙◌, arith}
-use Rattle.std.specs.Prelude.{IsTrue, is_ok, nat_le, if◌then◌else◌}
+use Rattle.std.proofs.Common.{◌≡◌, ℕ, suc, zero, ◌+◌, ◌<◌, ◌≤◌, drop, get_or, Bool, true, false, not, ◌||◌, List, [], ◌∷◌, ◌++◌, length, map, Option, Some, Result, Ok, Err, Vec, bytes_eq, refl, sym, ap, subst, ◌∙◌, arith}
+use Rattle.std.specs.Prelude.{IsTrue, is_ok, if◌then◌else◌}
 use Rattle.std.specs.List.{list_any}
-use Rattle.std.proofs.lemmas.List.{length-map, map-append}
+use Rattle.std.proofs.lemmas.Bool.{lt-leb}
+use Rattle.std.proofs.lemmas.List.{drop_more, length-map, map-append}
 use Rattle.csv.specs.Records.{field_at}
-use Rattle.tk_input.specs.Catalog.{IsFault, IsNameFault, catalog_of, is_name, name_added, names_of, only_field, some_names, with_name}
-use Rattle.tk_input.specs.Records.{and_then, records_in, through}
+use Rattle.tk_input.specs.Catalog.{IsFault, IsNameFault, is_name, names_of, next_name, only_field, some_names, with_name}
+use Rattle.tk_input.specs.Records.{and_then, through}
 use Rattle.tk_input.proofs.ThroughLemmas.{through-none}
 use Rattle.tk_input.specs.declared.catalog.CatalogFault.{CatalogFault}
 use Rattle.tk_input.specs.declared.catalog.CatalogFault.TheVariants.{BadName, BadRow, Empty, NoMemory, Repeated, TooMany}
@@ -23,11 +24,13 @@ list_any-map f p [] = refl
 list_any-map f p (x ∷ xs) = ap (λ (b : Bool). p (f x) || b) (list_any-map f p xs)
 
 -- what a proper name adds
-pub name_added-proper : (before : List (List ℕ)) (fields : List (List ℕ)) (name : List ℕ) → nat_le 65536 (length before) ≡ false → only_field fields ≡ Some name → is_name name ≡ true → name_added before fields ≡ (if list_any (λ n. bytes_eq name n) before then Err (Repeated (length before + 1)) else Ok (before ++ name ∷ []))
-name_added-proper before fields name few one proper =
-    ap (λ (b : Bool). if b then Err TooMany else with_name before (only_field fields)) few
-    ∙ ap (λ (o : Option (List ℕ)). with_name before o) one
-    ∙ ap (λ (b : Bool). if not b then Err (BadName (length before + 1)) else (if list_any (λ n. bytes_eq name n) before then Err (Repeated (length before + 1)) else Ok (before ++ name ∷ []))) proper
+pub with_name-proper : (before : List (List ℕ)) (name : List ℕ) → is_name name ≡ true → with_name before (Some name) ≡ (if list_any (λ n. bytes_eq name n) before then Err (Repeated (length before + 1)) else Ok (before ++ name ∷ []))
+with_name-proper before name proper =
+    ap (λ (b : Bool). if not b then Err (BadName (length before + 1)) else (if list_any (λ n. bytes_eq name n) before then Err (Repeated (length before + 1)) else Ok (before ++ name ∷ []))) proper
+
+-- while there are fewer than the most, the next name is added by the rules of names
+pub next_name-few : (before : List (List ℕ)) (name : Option (List ℕ)) → length before < 65536 → next_name before name ≡ with_name before name
+next_name-few before name few = ap (λ (b : Bool). if b then Err TooMany else with_name before name) (lt-leb 65536 (length before) few)
 
 -- one more name
 pub names_of-push : {A : Type 0} (keys : List (Vec ℕ A)) (key : Vec ℕ A) → names_of (keys ++ key ∷ []) ≡ names_of keys ++ key.items ∷ []
@@ -57,16 +60,18 @@ record_fault r (BadName n) is = is
 record_fault r (Repeated n) is = is
 record_fault r NoMemory is = tt
 
--- the fault of a record is that of the file
-pub catalog_fault : (bytes : List ℕ) (before fields : List (List ℕ)) (rest rows : List (List (List ℕ))) (e : CatalogFault) → through name_added before rows ≡ through name_added [] (records_in bytes) → rows ≡ fields ∷ rest → IsNameFault e (name_added before fields) → IsFault e (catalog_of bytes)
+-- the fault of a row is that of them all
+pub catalog_fault : {R : Type 0} (step : List (List ℕ) → R → Result (List (List ℕ)) CatalogFault) (all : List R) (before : List (List ℕ)) (row : R) (rest rows : List R) (e : CatalogFault)
+    → through step before rows ≡ through step [] all → rows ≡ row ∷ rest → IsNameFault e (step before row) → IsFault e (and_then some_names (through step [] all))
 unfolding through
-catalog_fault bytes before fields rest rows e same is fault =
+catalog_fault step all before row rest rows e same is fault =
     subst (λ (r : Result (List (List ℕ)) CatalogFault). IsFault e (and_then some_names r)) same
-    (rw is (fault_ends (and_then (λ names. through name_added names rest) (name_added before fields)) e some_names (fault_ends (name_added before fields) e (λ names. through name_added names rest) (record_fault (name_added before fields) e fault))))
+    (rw is (fault_ends (and_then (λ names. through step names rest) (step before row)) e some_names (fault_ends (step before row) e (λ names. through step names rest) (record_fault (step before row) e fault))))
 
--- after the last record the names so far are all
-pub catalog_names : (bytes : List ℕ) (before : List (List ℕ)) (rows : List (List (List ℕ))) → through name_added before rows ≡ through name_added [] (records_in bytes) → rows ≡ [] → catalog_of bytes ≡ some_names before
-catalog_names bytes before rows same is = ap (and_then some_names) (sym same ∙ through-none name_added before rows is)
+-- after the last row the names so far are all
+pub catalog_names : {R : Type 0} (step : List (List ℕ) → R → Result (List (List ℕ)) CatalogFault) (all : List R) (before : List (List ℕ)) (rows : List R)
+    → through step before rows ≡ through step [] all → rows ≡ [] → and_then some_names (through step [] all) ≡ some_names before
+catalog_names step all before rows same is = ap (and_then some_names) (sym same ∙ through-none step before rows is)
 
 -- some names are a catalogue
 pub some_is : (names : List (List ℕ)) → 0 < length names → some_names names ≡ Ok names
@@ -84,8 +89,20 @@ not_none zero b told is = let true_too = told refl in absurd (cc)
 not_none (suc n) b told is = omega arith
 
 -- a proper name that did not stand before is taken
-pub fresh_is_taken : {A : Type 0} (keys : List (Vec ℕ A)) (fields : List (List ℕ)) (name : List ℕ) → nat_le 65536 (length (names_of keys)) ≡ false → only_field fields ≡ Some name → is_name name ≡ true → list_any (λ k. bytes_eq name k.items) keys ≡ false → IsTrue (is_ok (name_added (names_of keys) fields))
-fresh_is_taken {A} keys fields name few one proper fresh =
+pub fresh_is_taken : {A : Type 0} (keys : List (Vec ℕ A)) (name : List ℕ) → is_name name ≡ true → list_any (λ k. bytes_eq name k.items) keys ≡ false → IsTrue (is_ok (with_name (names_of keys) (Some name)))
+fresh_is_taken {A} keys name proper fresh =
     ap (λ (r : Result (List (List ℕ)) CatalogFault). is_ok r)
-    (name_added-proper (names_of keys) fields name few one proper
+    (with_name-proper (names_of keys) name proper
     ∙ ap (λ (b : Bool). if b then Err (Repeated (length (names_of keys) + 1)) else Ok (names_of keys ++ name ∷ [])) (any-names_of name keys ∙ fresh))
+
+-- the names from a place on are that of the key there, and the others
+pub next_key : {A : Type 0} (keys : List (Vec ℕ A)) (i : ℕ) (key : Vec ℕ A) → i < length keys → key ≡ get_or keys i key → names_of (drop i keys) ≡ key.items ∷ names_of (drop (i + 1) keys)
+next_key {A} keys i key within is =
+    ap (λ (ks : List (Vec ℕ A)). names_of ks) (drop_more keys i key within) ∙ ap (λ (k : Vec ℕ A). k.items ∷ names_of (drop (i + 1) keys)) (sym is)
+
+-- behind the last key there is no name
+pub none_left : {A : Type 0} (keys : List (Vec ℕ A)) (i : ℕ) → length keys ≤ i → names_of (drop i keys) ≡ []
+none_left [] zero past = refl
+none_left [] (suc i) past = refl
+none_left (k ∷ keys) zero past = absurd (omega (arith, past))
+none_left (k ∷ keys) (suc i) past = none_left keys i (omega (arith, past))

@@ -1,6 +1,7 @@
 -- The names of the objects, and the catalogue that a file is.
-use Rattle.std.specs.Prelude.{◌≡◌, ℕ, ◌+◌, ◌-◌, ◌≤◌, Bool, IsTrue, not, ◌&&◌, nat_lt, nat_le, if◌then◌else◌, List, [], ◌∷◌, ◌++◌, length, map, position, Option, Some, None, option_map, Result, Ok, Err, is_ok, Vec, bytes_eq, slice_index_or}
-use Rattle.std.specs.List.{list_all, list_any}
+use Rattle.std.specs.Prelude.{◌≡◌, ℕ, ◌+◌, ◌-◌, ◌≤◌, Bool, IsTrue, not, ◌&&◌, nat_lt, nat_le, ◌==◌, if◌then◌else◌, List, [], ◌∷◌, ◌++◌, length, map, filter, position, Option, Some, None, option_map, Result, Ok, Err, is_ok, Vec, bytes_eq, slice_index_or}
+use Rattle.std.specs.Borrow.{Bor}
+use Rattle.std.specs.List.{list_all, list_any, starts_with}
 use Rattle.tk_input.specs.Logs.{IsObject}
 use Rattle.tk_input.specs.Records.{and_then, records_in, through}
 use Rattle.tk_input.specs.declared.catalog.CatalogFault.{CatalogFault}
@@ -32,6 +33,10 @@ only_field [] = None
 only_field (name ∷ []) = Some name
 only_field (name ∷ more ∷ rest) = None
 
+-- a name that may be lent, as bytes
+abbrev pub lent_name : Option (Bor (List ℕ)) → Option (List ℕ)
+lent_name name = option_map (λ s. s.now) name
+
 -- the names before with one more, or what forbids it at that record
 abbrev pub with_name : List (List ℕ) → Option (List ℕ) → Result (List (List ℕ)) CatalogFault
 with_name before None = Err (BadRow (length before + 1))
@@ -40,9 +45,13 @@ with_name before (Some name) =
     else (if list_any (λ n. bytes_eq name n) before then Err (Repeated (length before + 1))
     else Ok (before ++ name ∷ []))
 
+-- the names before with the next, or its fault; a catalogue has at most 65,536
+abbrev pub next_name : List (List ℕ) → Option (List ℕ) → Result (List (List ℕ)) CatalogFault
+next_name before name = if nat_le 65536 (length before) then Err TooMany else with_name before name
+
 -- the names before with that of the next record, or its fault; each record before gave one
 abbrev pub name_added : List (List ℕ) → List (List ℕ) → Result (List (List ℕ)) CatalogFault
-name_added before fields = if nat_le 65536 (length before) then Err TooMany else with_name before (only_field fields)
+name_added before fields = next_name before (only_field fields)
 
 -- there must be a name
 abbrev pub some_names : List (List ℕ) → Result (List (List ℕ)) CatalogFault
@@ -52,6 +61,14 @@ some_names (name ∷ names) = Ok (name ∷ names)
 -- the names of a catalogue file, or its first fault
 abbrev pub catalog_of : List ℕ → Result (List (List ℕ)) CatalogFault
 catalog_of bytes = and_then some_names (through name_added [] (records_in bytes))
+
+-- a catalogue of these names in order, or the first fault in them
+abbrev pub catalog_from : List (List ℕ) → Result (List (List ℕ)) CatalogFault
+catalog_from names = and_then some_names (through (λ before name. next_name before (Some name)) [] names)
+
+-- the names that begin with a prefix, in order
+abbrev pub names_with : List ℕ → List (List ℕ) → List (List ℕ)
+names_with prefix names = filter (λ name. starts_with ◌==◌ name prefix) names
 
 -- the fault of a record is the one that is meant; memory is wanted only for a name that is taken
 abbrev pub IsNameFault : {A : Type 0} → CatalogFault → Result A CatalogFault → Type 0

@@ -76,6 +76,10 @@ numbered n (line ∷ rest) = (n, line) ∷ numbered (number_after n) rest
 abbrev pub filled : List (ℕ × List ℕ) → List (ℕ × List ℕ)
 filled lines = filter (λ line. nat_lt 0 (length line.1)) lines
 
+-- what is left behind the line of this number
+abbrev pub left_after : ℕ → List ℕ → List (ℕ × List ℕ)
+left_after number rest = filled (numbered (number_after number) (lines rest))
+
 -- events, and the number of the line of each
 pub record Ordered : Type 0 where
   pub events : List Event

@@ -1,7 +1,7 @@
-ghost use Rattle.std.specs.Prelude.{◌≡◌, ◌≤◌, ◌-◌, IfOk, IfErr, OnOk, Ok, nat_le, ◌&&◌, length, option_map, slice_get, Some};
+ghost use Rattle.std.specs.Prelude.{◌≡◌, ◌<◌, ◌≤◌, ◌-◌, IfOk, IfErr, OnOk, Ok, nat_le, ◌&&◌, length, option_map, slice_get, Some};
 ghost use Rattle.std.specs.List.{list_all};
 ghost use Rattle.csv.specs.Records.{fields_of};
-ghost use Rattle.tk_input.specs.Catalog.{AreDifferent, IsFault, IsNameFault, IsWithin, is_name as is_name_of, name_added, names_of, object_of, only_field as only_field_of};
+ghost use Rattle.tk_input.specs.Catalog.{AreDifferent, IsFault, IsNameFault, IsWithin, is_name as is_name_of, lent_name, next_name, names_of, with_name, object_of, only_field as only_field_of};
 ghost use Rattle.tk_input.specs.Logs.{IsObject};
 ghost use Rattle.tk_input.specs.declared.catalog.CatalogFault.TheVariants.{NoMemory as OutOfMemory};
 
@@ -75,14 +75,14 @@ pub struct Catalog {
 }
 
 impl Model for Catalog {
-    ghost use Rattle.std.specs.Prelude.{ℕ, List};
-    ghost use Rattle.tk_input.specs.Catalog.{IsWithin, names_of};
+    ghost use Rattle.std.specs.Prelude.{ℕ, List, ◌≤◌, length};
+    ghost use Rattle.tk_input.specs.Catalog.{names_of};
 
     ghost Value = { List (List ℕ) };
 
     ghost view = { λ c. names_of c.names.keys };
 
-    ghost invariant = { λ c. IsWithin (names_of c.names.keys) };
+    ghost invariant = { λ c. length c.names.keys ≤ 65536 };
 }
 
 fn is_visible(name: &[u8]) -> bool
@@ -103,22 +103,14 @@ fn only_field(row: &ByteRecord) -> Option<&[u8]>
     if row.len() == 1 { row.get(0) } else { None }
 }
 
-fn take_name(
-    alloc: Global,
-    names: &mut IndexSet<Vec<u8>>,
-    row: &ByteRecord,
-) -> Result<(), CatalogFault>
-    ensures ok { OnOk result (name_added (names_of names.old.keys) (fields_of row.now) ≡ Ok (names_of names.new.keys)) }
-    ensures err { IfErr result (λ e. IsNameFault e (name_added (names_of names.old.keys) (fields_of row.now))) }
+/// Adds a name behind the others, by the rules of a catalogue's names.
+fn add_name(alloc: Global, names: &mut IndexSet<Vec<u8>>, name: &[u8]) -> Result<(), CatalogFault>
+    requires { length names.old.keys < 65536 }
+    ensures ok { OnOk result (with_name (names_of names.old.keys) (Some name.now) ≡ Ok (names_of names.new.keys)) }
+    ensures err { IfErr result (λ e. IsNameFault e (with_name (names_of names.old.keys) (Some name.now))) }
     ensures few { OnOk result (length names.new.keys ≤ 65536) }
 {
-    if names.len() >= MAX_OBJECTS {
-        return Err(CatalogFault::TooMany);
-    }
     let number = names.len() as u32 + 1;
-    let Some(name) = only_field(row) else {
-        return Err(CatalogFault::BadRow(number));
-    };
     if !is_name(name) {
         return Err(CatalogFault::BadName(number));
     }
@@ -129,8 +121,27 @@ fn take_name(
     Ok(())
 }
 
+/// Adds the name of a record behind the others.
+fn take_name(
+    alloc: Global,
+    names: &mut IndexSet<Vec<u8>>,
+    name: Option<&[u8]>,
+) -> Result<(), CatalogFault>
+    ensures ok { OnOk result (next_name (names_of names.old.keys) (lent_name name.entry) ≡ Ok (names_of names.new.keys)) }
+    ensures err { IfErr result (λ e. IsNameFault e (next_name (names_of names.old.keys) (lent_name name.entry))) }
+    ensures few { OnOk result (length names.new.keys ≤ 65536) }
+{
+    if names.len() >= MAX_OBJECTS {
+        return Err(CatalogFault::TooMany);
+    }
+    match name {
+        Some(name) => add_name(alloc, names, name),
+        None => Err(CatalogFault::BadRow(names.len() as u32 + 1)),
+    }
+}
+
 impl Catalog {
-    ghost use Rattle.tk_input.specs.Catalog.{catalog_of};
+    ghost use Rattle.tk_input.specs.Catalog.{catalog_from, catalog_of, names_with};
 
     /// Reads one name a record, in one pass over the bytes.
     pub fn read(alloc: Global, bytes: &[u8]) -> Result<Catalog, CatalogFault>
@@ -142,7 +153,7 @@ impl Catalog {
         let mut row = ByteRecord::new(alloc);
         let mut names = IndexSet::new(alloc);
         while rows.next(&mut row)? {
-            take_name(alloc, &mut names, &row)?;
+            take_name(alloc, &mut names, only_field(&row))?;
         }
         if names.is_empty() {
             return Err(CatalogFault::Empty);
@@ -150,10 +161,39 @@ impl Catalog {
         Ok(Catalog { names })
     }
 
+    /// A catalogue of these names, by the same rules as a file of one name a record.
+    pub fn from_names(alloc: Global, list: &[Vec<u8>]) -> Result<Catalog, CatalogFault>
+        ensures ok { IfOk result (λ names. catalog_from (names_of list.now) ≡ Ok names) }
+        ensures err { IfErr result (λ e. IsFault e (catalog_from (names_of list.now))) }
+        ensures within { IfOk result IsWithin }
+    {
+        let mut names = IndexSet::new(alloc);
+        for name in list {
+            take_name(alloc, &mut names, Some(name.as_slice()))?;
+        }
+        if names.is_empty() {
+            return Err(CatalogFault::Empty);
+        }
+        Ok(Catalog { names })
+    }
+
+    /// The names that begin with a prefix, in order. There may be none.
+    pub fn with_prefix(&self, alloc: Global, prefix: &[u8]) -> Result<Catalog, NoMemory>
+        ensures { IfOk result (λ names. names ≡ names_with prefix.now self.now) }
+    {
+        let mut names = IndexSet::new(alloc);
+        for name in self.names.as_slice() {
+            if name.as_slice().starts_with(prefix) {
+                names.insert(Vec::from_slice(alloc, name.as_slice())?)?;
+            }
+        }
+        Ok(Catalog { names })
+    }
+
     /// How many names there are. No two are the same.
     pub fn len(&self) -> usize
         ensures value { result ≡ length self.now }
-        ensures within { IsWithin self.now }
+        ensures most { length self.now ≤ 65536 }
         ensures differ { AreDifferent self.now }
     {
         self.names.len()

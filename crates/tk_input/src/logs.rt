@@ -1,6 +1,7 @@
 ghost use Rattle.std.specs.Prelude.{◌≡◌, ◌<◌, ◌≤◌, ◌^◌, ◌*◌, IfOk, IfErr, Ok, All, length, slice_get, Some, unsigned_abs};
 ghost use Rattle.tk_input.specs.declared.logs.LogsFault.TheVariants.{NoMemory as OutOfMemory};
 ghost use Rattle.tk_input.specs.Judged.{Refuses, last_monitor, logs_by_monitor};
+ghost use Rattle.tk_input.specs.Rows.{logs_in};
 ghost use Rattle.tk_input.specs.Logs.{AreLogs, AreParts, IsCut, IsFeeder, IsMonitor, IsObject, parts_of, part_of, value as value_at, total as total_at};
 
 mod judging;
@@ -100,6 +101,16 @@ fn clones_of(alloc: Global, row: &[Part]) -> Result<Vec<Part>, NoMemory>
     Ok(parts)
 }
 
+fn rows_cloned(alloc: Global, rows: &[Vec<Part>]) -> Result<Vec<Vec<Part>>, NoMemory>
+    ensures { IfOk result (λ clones. logs_in clones.items ≡ logs_in rows.now) }
+{
+    let mut clones = Vec::with_capacity(alloc, rows.len())?;
+    for row in rows {
+        clones.push(clones_of(alloc, row.as_slice())?)?;
+    }
+    Ok(clones)
+}
+
 impl Logs {
     ghost use Rattle.tk_input.specs.Judged.{logs_of};
 
@@ -121,6 +132,16 @@ impl Logs {
         let rows = rows_of(alloc, shared.as_slice())?;
         judge(alloc, rows.as_slice(), objects)?;
         Ok(Logs { rows, objects })
+    }
+
+    /// The same logs once more. They share the lists of changes, so this costs a few words a part.
+    pub fn try_clone(&self, alloc: Global) -> Result<Logs, NoMemory>
+        ensures { IfOk result (λ logs. logs ≡ self.now) }
+    {
+        Ok(Logs {
+            rows: rows_cloned(alloc, self.rows.as_slice())?,
+            objects: self.objects,
+        })
     }
 
     /// How many objects the catalogue has.

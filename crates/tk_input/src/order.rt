@@ -1,10 +1,9 @@
-ghost use Rattle.std.specs.Prelude.{◌≡◌, ◌<◌, ◌==◌, ◌∷◌, [], IfOk, IfErr, OnOk, Ok, length, position, slice_get, Some};
-ghost use Rattle.std.specs.Option.{option_map_or};
-ghost use Rattle.std.specs.Str.Lines.{lines, strip_carriage_return};
+ghost use Rattle.std.specs.Prelude.{◌≡◌, ◌<◌, IfOk, IfErr, OnOk, Ok, length, slice_get, Some};
 ghost use Rattle.tk_input.specs.Order.{IsFault, IsLineFault, IsReadAs, event_in, event_of_one as of_one, event_of_two as of_two, is_short as is_short_word, k_in, line_added, number_in, order_of, raise_at, retune_at, words};
 ghost use Rattle.tk_input.specs.declared.order.OrderFault.TheVariants.{NoMemory as OutOfMemory};
 
 use crate::event::Event;
+use crate::lines::{Lines, split_word};
 use crate::number::digits_of;
 use std::alloc::{AllocFailed, Global};
 use std::error::Error;
@@ -76,28 +75,14 @@ fn is_short(word: &[u8]) -> bool
     }
 }
 
-fn number_of(word: &[u8]) -> Option<u32>
+/// The number that a word of 1 to 3 digits writes, without a leading zero.
+pub fn number_of(word: &[u8]) -> Option<u32>
     ensures { result ≡ number_in word.now }
 {
     if is_short(word) {
         Some(digits_of(word)? as u32)
     } else {
         None
-    }
-}
-
-fn place_of(text: &[u8], byte: u8) -> Option<usize>
-    ensures { result ≡ position (λ b. b == byte) text.now }
-{
-    text.iter().position(|b| *b == byte)
-}
-
-fn split_word(text: &[u8]) -> (&[u8], Option<&[u8]>)
-    ensures { words text.now ≡ result.0.now ∷ option_map_or (λ rest. words rest.now) result.1 [] }
-{
-    match place_of(text, b' ') {
-        Some(place) => (&text[..place], Some(&text[place + 1..])),
-        None => (text, None),
     }
 }
 
@@ -154,7 +139,8 @@ fn event_of_two(
     }
 }
 
-fn event_of(alloc: Global, line: &[u8]) -> Option<Result<Event, NoMemory>>
+/// The event that a line is, if it is one.
+pub fn event_of(alloc: Global, line: &[u8]) -> Option<Result<Event, NoMemory>>
     ensures { IsReadAs result (event_in (words line.now)) }
 {
     let (verb, rest) = split_word(line);
@@ -190,26 +176,6 @@ fn take_line(
     Ok(())
 }
 
-fn strip_return(line: &[u8]) -> &[u8]
-    ensures { result.now ≡ strip_carriage_return line.now }
-{
-    match line {
-        [front @ .., b'\r'] => front,
-        whole => whole,
-    }
-}
-
-fn split_line(text: &[u8]) -> (&[u8], &[u8])
-    requires { 0 < length text.now }
-    ensures lines { lines text.now ≡ result.0.now ∷ lines result.1.now }
-    ensures rest { length result.1.now < length text.now }
-{
-    match place_of(text, b'\n') {
-        Some(place) => (strip_return(&text[..place]), &text[place + 1..]),
-        None => (text, &text[text.len()..]),
-    }
-}
-
 impl Order {
     /// Reads one event a line, in one pass over the bytes.
     pub fn read(alloc: Global, bytes: &[u8]) -> Result<Order, OrderFault>
@@ -218,15 +184,8 @@ impl Order {
     {
         let mut events = Vec::new(alloc);
         let mut lines = Vec::new(alloc);
-        let mut number = 0u32;
-        let mut rest = bytes;
-        while !rest.is_empty() {
-            let (line, after) = split_line(rest);
-            rest = after;
-            number = number.saturating_add(1);
-            if line.is_empty() {
-                continue;
-            }
+        let mut left = Lines::new(bytes);
+        while let Some((number, line)) = left.next() {
             take_line(alloc, &mut events, &mut lines, number, line)?;
         }
         Ok(Order { events, lines })

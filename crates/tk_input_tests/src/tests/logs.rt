@@ -58,6 +58,19 @@ fn sums_at_the_limit_are_taken(rt: HostRuntime) -> Result<(), Fail> {
 }
 
 #[test]
+fn a_clone_has_the_same_changes(rt: HostRuntime) -> Result<(), Fail> {
+    let alloc = rt.alloc();
+    let part = part_of(alloc, 7, 1)?;
+    let cut = first_place(alloc)?;
+    let logs = Logs::new(alloc, vec![in alloc; (Mon(1), part)]?, 1)?;
+    assert!(rt;
+        logs.try_clone(alloc)
+            .is_ok_and(|clone| clone.total(Obj(1), &cut) == 7)
+    );
+    Ok(())
+}
+
+#[test]
 fn sums_past_the_limit_are_refused(rt: HostRuntime) -> Result<(), Fail> {
     let alloc = rt.alloc();
     for by in [1, -1] {

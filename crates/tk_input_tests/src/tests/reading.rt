@@ -37,6 +37,35 @@ fn a_catalogue_is_refused_at_its_first_fault(rt: HostRuntime) -> Result<(), Fail
 }
 
 #[test]
+fn a_catalogue_of_names_has_those_of_a_prefix(rt: HostRuntime) -> Result<(), Fail> {
+    let alloc = rt.alloc();
+    let bytes = b"/a\n/img/b\n/img\n".as_slice();
+    let names = Catalog::read(alloc, bytes)?;
+    let images = names.with_prefix(alloc, b"/img")?;
+    assert_eq!(rt; images.find(b"/img"), Some(Obj(2)));
+    assert_eq!(rt; images.find(b"/a"), None);
+    let none = names.with_prefix(alloc, b"/img/bc")?;
+    assert_eq!(rt; none.len(), 0);
+    Ok(())
+}
+
+#[test]
+fn names_are_a_catalogue_by_the_rules_of_a_file(rt: HostRuntime) -> Result<(), Fail> {
+    let alloc = rt.alloc();
+    let mut list = Vec::new(alloc);
+    assert_eq!(rt;
+        Catalog::from_names(alloc, list.as_slice()).err(),
+        Some(CatalogFault::Empty)
+    );
+    list.push(Vec::from_slice(alloc, b"a,b")?)?;
+    assert!(rt; Catalog::from_names(alloc, list.as_slice()).is_ok());
+    list.push(Vec::from_slice(alloc, b"a,b")?)?;
+    let fault = Catalog::from_names(alloc, list.as_slice()).err();
+    assert_eq!(rt; fault, Some(CatalogFault::Repeated(2)));
+    Ok(())
+}
+
+#[test]
 fn a_log_is_its_changes(rt: HostRuntime) -> Result<(), Fail> {
     let alloc = rt.alloc();
     let names = Catalog::read(alloc, b"a\nb\n")?;

@@ -1,8 +1,9 @@
-use Rattle.std.proofs.Common.{◌≡◌, ◌∷◌, [], Bool, length, sym, subst, ◌∙◌, arith}
+use Rattle.std.proofs.Common.{◌≡◌, ◌∷◌, [], ℕ, Bool, List, Ok, Option, length, sym, subst, ap, ◌∙◌, arith}
 use Rattle.std.specs.Prelude.{MatchBool}
 use Rattle.std.proofs.lemmas.Result.{err_from_is_err_and}
 use Rattle.csv.specs.Records.{fields_of}
-use Rattle.tk_input.specs.Catalog.{name_added, names_of}
+use Rattle.tk_input.specs.Catalog.{IsNameFault, name_added, names_of, next_name}
+use Rattle.tk_input.specs.Records.{records_in}
 use Rattle.tk_input.proofs.NamesLemmas.{catalog_fault, catalog_names, length-names_of, none_is, not_none, some_is}
 use Rattle.tk_input.proofs.ThroughLemmas.{through-some}
 use Rattle.tk_input.proofs.catalog.Catalog.read.Goals as goal
@@ -13,16 +14,20 @@ loop-names-preserved c =
     let new = names_of c.take_name.new.names.keys in
     let next : c.loop-names.rows ≡ fields_of c.next.new.row ∷ c.next.new.self =
     subst (λ (found : Bool). MatchBool found (c.loop-names.rows ≡ fields_of c.next.new.row ∷ c.next.new.self) (c.loop-names.rows ≡ [])) c.if-branch.true c.in_ok-next.ensures in
+    let added : name_added old (fields_of c.next.new.row) ≡ Ok new = ap (λ (name : Option (List ℕ)). next_name old name) (sym c.only_field.ensures) ∙ c.in_ok-take_name.ensures.ok in
     record {
-      same = sym (through-some name_added old new (fields_of c.next.new.row) c.next.new.self c.loop-names.rows next c.in_ok-take_name.ensures.ok) ∙ c.loop-names.invariant.same;
+      same = sym (through-some name_added old new (fields_of c.next.new.row) c.next.new.self c.loop-names.rows next added) ∙ c.loop-names.invariant.same;
       few = c.in_ok-take_name.ensures.few;
     }
 
 pub returns-in_err-take_name-clause-err : goal.returns-in_err-take_name-clause-err
 returns-in_err-take_name-clause-err c =
+    let old = names_of c.loop-names.names.keys in
     let next : c.loop-names.rows ≡ fields_of c.next.new.row ∷ c.next.new.self =
     subst (λ (found : Bool). MatchBool found (c.loop-names.rows ≡ fields_of c.next.new.row ∷ c.next.new.self) (c.loop-names.rows ≡ [])) c.if-branch.true c.in_ok-next.ensures in
-    let fault = catalog_fault c.args.bytes.now (names_of c.loop-names.names.keys) (fields_of c.next.new.row) c.next.new.self c.loop-names.rows c.in_err-take_name.field-0.0 c.loop-names.invariant.same next c.in_err-take_name.ensures.err in
+    let is : IsNameFault c.in_err-take_name.field-0.0 (name_added old (fields_of c.next.new.row)) =
+    subst (λ (name : Option (List ℕ)). IsNameFault c.in_err-take_name.field-0.0 (next_name old name)) c.only_field.ensures c.in_err-take_name.ensures.err in
+    let fault = catalog_fault name_added (records_in c.args.bytes.now) old (fields_of c.next.new.row) c.next.new.self c.loop-names.rows c.in_err-take_name.field-0.0 c.loop-names.invariant.same next is in
     let given = err_from_is_err_and c.from_residual-in_err-take_name.result c.from_residual-in_err-take_name.ensures.1 in
     rw (given.1, given.2) fault
 
@@ -31,7 +36,7 @@ returns-then-is_empty-clause-err c =
     let names = names_of c.loop-names.names.keys in
     let ended : c.loop-names.rows ≡ [] =
     subst (λ (found : Bool). MatchBool found (c.loop-names.rows ≡ fields_of c.next.new.row ∷ c.next.new.self) (c.loop-names.rows ≡ [])) c.if-branch.false c.in_ok-next.ensures in
-    catalog_names c.args.bytes.now names c.loop-names.rows c.loop-names.invariant.same ended
+    catalog_names name_added (records_in c.args.bytes.now) names c.loop-names.rows c.loop-names.invariant.same ended
     ∙ none_is names (length-names_of c.loop-names.names.keys ∙ c.is_empty.ensures.0 c.if-is_empty.true)
 
 pub returns-clause-ok : goal.returns-clause-ok
@@ -39,5 +44,5 @@ returns-clause-ok c =
     let names = names_of c.loop-names.names.keys in
     let ended : c.loop-names.rows ≡ [] =
     subst (λ (found : Bool). MatchBool found (c.loop-names.rows ≡ fields_of c.next.new.row ∷ c.next.new.self) (c.loop-names.rows ≡ [])) c.if-branch.false c.in_ok-next.ensures in
-    catalog_names c.args.bytes.now names c.loop-names.rows c.loop-names.invariant.same ended
+    catalog_names name_added (records_in c.args.bytes.now) names c.loop-names.rows c.loop-names.invariant.same ended
     ∙ some_is names (omega (arith, length-names_of c.loop-names.names.keys, not_none (length c.loop-names.names.keys) c.is_empty.result c.is_empty.ensures.1 c.if-is_empty.false))

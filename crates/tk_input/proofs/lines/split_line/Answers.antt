@@ -1,7 +1,7 @@
 use Rattle.std.proofs.Common.{ℕ, ◌+◌, ◌-◌, sym, ◌∙◌, ap, List, ◌∷◌, take, drop, length}
 use Rattle.std.specs.Str.Lines.{lines}
 use Rattle.tk_input.proofs.LinesLemmas.{lines_found, lines_missing, none_after}
-use Rattle.tk_input.proofs.order.split_line.Goals as goal
+use Rattle.tk_input.proofs.lines.split_line.Goals as goal
 
 pub returns-in-Some-clause-lines : goal.returns-in-Some-clause-lines
 returns-in-Some-clause-lines c =
