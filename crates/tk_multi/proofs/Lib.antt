@@ -1,0 +1,15 @@
+pub mod AloneLaws
+pub mod AnswerLemmas
+pub mod AssignLemmas
+pub mod FrontLemmas
+pub mod KeepLemmas
+pub mod ListLemmas
+pub mod LogsLemmas
+pub mod MultiLemmas
+pub mod OrderLemmas
+pub mod PassLemmas
+pub mod QueryLemmas
+pub mod SetLemmas
+pub mod StartLemmas
+pub mod ThroughLemmas
+pub mod WatchLemmas

@@ -1,0 +1,7 @@
+pub mod Alone
+pub mod Answers
+pub mod Front
+pub mod Multi
+pub mod Order
+pub mod Projection
+pub mod Queries

@@ -1,0 +1,100 @@
+//! The logs of a query: of each part the changes of the objects that it watches.
+
+ghost use Rattle.std.specs.Prelude.{◌≡◌, ◌≤◌, ◌++◌, IfOk, OnOk, length, map, sum_by};
+ghost use Rattle.tk_input.specs.Judged.{Assigned};
+ghost use Rattle.tk_input.specs.Logs.{AreLogs, IsCut, IsMonitor, parts_of, updates_of};
+ghost use Rattle.tk_multi.specs.Alone.{beginnings};
+ghost use Rattle.tk_multi.specs.Projection.{Numbers, assigned_from, seen_logs, under, watched_in};
+
+use crate::watch::Watch;
+use std::alloc::Global;
+use tk_base::{Cut, Feeder, Mon, NoMemory, Places};
+use tk_input::{Logs, LogsFault, Part};
+
+/// Adds the watched changes of each part of a monitor.
+fn add_parts(
+    alloc: Global,
+    logs: &Logs,
+    watch: &Watch,
+    mon: Mon,
+    list: &mut Vec<(Mon, Part)>,
+) -> Result<(), NoMemory>
+    requires { IsMonitor logs.now mon.0 }
+    ensures { OnOk result (list.new.items ≡ list.old.items ++ under mon.0 (map (watched_in watch.now) (parts_of logs.now.logs mon.0))) }
+{
+    let parts = logs.parts(alloc, mon)?;
+    for part in parts.as_slice() {
+        list.push((mon, watch.part(alloc, part)?))?;
+    }
+    Ok(())
+}
+
+fn parts_for(alloc: Global, logs: &Logs, watch: &Watch) -> Result<Vec<(Mon, Part)>, NoMemory>
+    ensures parts { IfOk result (λ parts. parts.items ≡ assigned_from 1 (seen_logs watch.now logs.now.logs)) }
+    ensures limits { OnOk result (AreLogs logs.now) }
+{
+    let mut parts = Vec::new(alloc);
+    for j in 0..logs.monitors() {
+        add_parts(alloc, logs, watch, Mon(j + 1), &mut parts)?;
+    }
+    Ok(parts)
+}
+
+/// Want of memory, the only fault of logs that pass all tests.
+fn of_logs(fault: LogsFault) -> NoMemory
+    requires { fault ≡ LogsFault.NoMemory }
+{
+    match fault {
+        LogsFault::NoMemory => NoMemory,
+        _ => unreachable!(),
+    }
+}
+
+/// The logs of the watched objects, of which there are so many. They pass all tests, since the common ones do.
+pub fn logs_for(alloc: Global, logs: &Logs, watch: &Watch, objects: u32) -> Result<Logs, NoMemory>
+    requires { Numbers objects watch.now }
+    ensures { IfOk result (λ s. s ≡ record { logs = seen_logs watch.now logs.now.logs; objects = objects }) }
+{
+    let parts = parts_for(alloc, logs, watch)?;
+    match Logs::new(alloc, parts, objects) {
+        Ok(own) => Ok(own),
+        Err(fault) => Err(of_logs(fault)),
+    }
+}
+
+fn updates_at(logs: &Logs, mon: Mon) -> u32
+    requires { IsMonitor logs.now mon.0 }
+    ensures value { result ≡ updates_of (parts_of logs.now.logs mon.0) }
+    ensures most { result ≤ 8000000 }
+{
+    let mut updates = 0;
+    for f in 0..logs.feeders(mon) {
+        updates += logs.length(mon, Feeder(f + 1));
+    }
+    updates
+}
+
+/// How many changes some logs have.
+pub fn updates_in(logs: &Logs) -> u32
+    ensures value { result ≡ sum_by updates_of logs.now.logs }
+    ensures most { result ≤ 4000000 }
+{
+    let mut updates = 0;
+    for j in 0..logs.monitors() {
+        updates += updates_at(logs, Mon(j + 1));
+    }
+    updates
+}
+
+/// The places in front of all changes.
+pub fn start_of(alloc: Global, logs: &Logs) -> Result<Cut, NoMemory>
+    ensures value { IfOk result (λ cut. cut ≡ beginnings logs.now) }
+    ensures cut { IfOk result (λ cut. IsCut logs.now.logs cut) }
+{
+    let mut list = Vec::new(alloc);
+    for j in 0..logs.monitors() {
+        let places = vec![in alloc; 0u32; logs.feeders(Mon(j + 1)) as usize]?;
+        list.push(Places::new(places))?;
+    }
+    Ok(Cut::new(list))
+}

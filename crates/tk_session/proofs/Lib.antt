@@ -1,0 +1,7 @@
+pub mod ChainLemmas
+pub mod CutLemmas
+pub mod FallLemmas
+pub mod OrderLemmas
+pub mod PlayLemmas
+pub mod SessionLemmas
+pub mod StartLemmas

@@ -1,0 +1,13 @@
+pub mod AssignedLemmas
+pub mod CheckLemmas
+pub mod ExactLemmas
+pub mod FieldLemmas
+pub mod FrameLemmas
+pub mod HistoryLemmas
+pub mod LogLemmas
+pub mod Loop
+pub mod NameLemmas
+pub mod SetupLemmas
+pub mod TraceLemmas
+pub mod StoryLemmas
+pub mod WritingLemmas

@@ -1,0 +1,18 @@
+use Rattle.std.proofs.Common.{◌≡◌, ◌++◌, ◌∷◌, []}
+use Rattle.std.proofs.lemmas.Result.{err_from_is_err_and}
+use Rattle.tk_trace.specs.Reading.{places_at, times_at}
+use Rattle.tk_trace.proofs.Loop.{ends, goes_on, is_done}
+use Rattle.tk_trace.proofs.reading.journal.places_of_each.Goals as goal
+
+pub returns-in_err-item : goal.returns-in_err-item
+returns-in_err-item c =
+    let p = err_from_is_err_and c.from_residual.result c.from_residual.ensures.1 in
+    rw (p.1, p.2) (ends c.in_err-item.field-0.0 places_at c.loop.list.items c.args.monitors c.loop.counter c.loop.rest.now (times_at places_at c.args.monitors c.args.bytes.now) c.loop-test.true c.in_err-item.ensures c.loop.invariant)
+
+pub loop-preserved : goal.loop-preserved
+loop-preserved c =
+    let more : c.push.new.self.items ≡ c.loop.list.items ++ c.in_ok-item.item ∷ [] = c.in_ok-push.ensures.items in
+    rw more (goes_on places_at c.loop.list.items c.args.monitors c.loop.counter c.loop.rest.now c.in_ok-item.item c.in_ok-item.after.now (times_at places_at c.args.monitors c.args.bytes.now) c.loop-test.true c.in_ok-item.ensures c.loop.invariant)
+
+pub returns : goal.returns
+returns c = is_done places_at c.loop.list.items c.args.monitors c.loop.counter c.loop.rest.now (times_at places_at c.args.monitors c.args.bytes.now) c.loop-test.false c.loop.invariant

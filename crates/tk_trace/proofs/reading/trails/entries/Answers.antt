@@ -1,0 +1,18 @@
+use Rattle.std.proofs.Common.{◌≡◌, ◌++◌, ◌∷◌, []}
+use Rattle.std.proofs.lemmas.Result.{err_from_is_err_and}
+use Rattle.tk_trace.specs.Reading.{entry_at, times_at}
+use Rattle.tk_trace.proofs.Loop.{ends, goes_on, is_done}
+use Rattle.tk_trace.proofs.reading.trails.entries.Goals as goal
+
+pub returns-in_err-item : goal.returns-in_err-item
+returns-in_err-item c =
+    let p = err_from_is_err_and c.from_residual.result c.from_residual.ensures.1 in
+    rw (p.1, p.2) (ends c.in_err-item.field-0.0 (entry_at c.args.feeders) c.loop.list.items c.args.count c.loop.counter c.loop.rest.now (times_at (entry_at c.args.feeders) c.args.count c.args.bytes.now) c.loop-test.true c.in_err-item.ensures c.loop.invariant)
+
+pub loop-preserved : goal.loop-preserved
+loop-preserved c =
+    let more : c.push.new.self.items ≡ c.loop.list.items ++ c.in_ok-item.item ∷ [] = c.in_ok-push.ensures.items in
+    rw more (goes_on (entry_at c.args.feeders) c.loop.list.items c.args.count c.loop.counter c.loop.rest.now c.in_ok-item.item c.in_ok-item.after.now (times_at (entry_at c.args.feeders) c.args.count c.args.bytes.now) c.loop-test.true c.in_ok-item.ensures c.loop.invariant)
+
+pub returns : goal.returns
+returns c = is_done (entry_at c.args.feeders) c.loop.list.items c.args.count c.loop.counter c.loop.rest.now (times_at (entry_at c.args.feeders) c.args.count c.args.bytes.now) c.loop-test.false c.loop.invariant

@@ -1,0 +1,6 @@
+pub mod Assigned
+pub mod Checked
+pub mod Reading
+pub mod Recorded
+pub mod Spelling
+pub mod Writing

@@ -1,0 +1,6 @@
+pub mod FrontLemmas
+pub mod JournalLemmas
+pub mod RecordLemmas
+pub mod RunLemmas
+pub mod StartLemmas
+pub mod TrailLemmas

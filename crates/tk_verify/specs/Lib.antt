@@ -1,0 +1,4 @@
+pub mod Driving
+pub mod Faults
+pub mod Recorded
+pub mod Verifying
