@@ -1,0 +1,188 @@
+//! Sessions over the objects a and b at two monitors with one feeder each, with k 1 and epsilon 0.
+
+mod orders;
+mod steps;
+
+use std::alloc::Global;
+use std::test::Fail;
+use tk_base::{Mon, Settings};
+use tk_input::{Catalog, Logs, Part};
+use tk_journal::{Noted, Publication};
+use tk_session::{SessionOrder, tell};
+use tk_story::Story;
+
+/// A published set in plain numbers.
+#[derive(Clone, Copy, Debug, PartialEq, Eq)]
+struct Set {
+    session: usize,
+    number: u64,
+    last: bool,
+    epsilon: i128,
+    member: u32,
+    places: (u32, u32),
+}
+
+fn logs_of(alloc: Global, one: &[u8], two: &[u8]) -> Result<Logs, Fail> {
+    let names = Catalog::read(alloc, b"a\nb\n")?;
+    let mut parts = Vec::new(alloc);
+    parts.push((Mon(1), Part::read(alloc, one, &names)?))?;
+    parts.push((Mon(2), Part::read(alloc, two, &names)?))?;
+    let logs = Logs::new(alloc, parts, names.len() as u32)?;
+    Ok(logs)
+}
+
+/// The stories of an order over such logs.
+fn stories_of(alloc: Global, one: &[u8], two: &[u8], order: &[u8]) -> Result<Vec<Story>, Fail> {
+    let order = SessionOrder::read(alloc, order)?;
+    let logs = logs_of(alloc, one, two)?;
+    let objects = u64::from(logs.objects());
+    let settings = Settings::new(1, 0, 1, objects, u64::from(logs.monitors()))?;
+    let stories = tell(alloc, settings, logs, &order)?;
+    Ok(stories)
+}
+
+fn set_of(session: usize, published: &Publication) -> Option<Set> {
+    let cut = &published.cut;
+    if published.members.len() != 1 || cut.len() != 2 {
+        return None;
+    }
+    if cut.at(0).len() != 1 || cut.at(1).len() != 1 {
+        return None;
+    }
+    Some(Set {
+        session,
+        number: published.number,
+        last: published.last,
+        epsilon: published.epsilon,
+        member: published.members.at(0).0,
+        places: (cut.at(0).at(0), cut.at(1).at(0)),
+    })
+}
+
+/// Appends what one session published.
+fn push_sets(sets: &mut Vec<Set>, session: usize, story: &Story) -> Option<()> {
+    for noted in story.journal() {
+        if let Noted::Published(kept) = noted {
+            sets.push(set_of(session, kept.get())?).ok()?;
+        }
+    }
+    Some(())
+}
+
+/// Whether these are the sets that the sessions published, in order.
+fn have_published(alloc: Global, stories: &[Story], wanted: &[Set]) -> Option<bool> {
+    let mut sets = Vec::new(alloc);
+    for i in 0..stories.len() {
+        push_sets(&mut sets, i + 1, &stories[i])?;
+    }
+    Some(sets.as_slice() == wanted)
+}
+
+/// How often a session was retuned.
+fn retunes_of(story: &Story) -> usize {
+    let mut count = 0usize;
+    for noted in story.journal() {
+        if let Noted::Tuned(_, _) = noted {
+            count = count.saturating_add(1);
+        }
+    }
+    count
+}
+
+/// How often each of two sessions was.
+fn retunes(stories: &[Story]) -> Option<(usize, usize)> {
+    match stories {
+        [one, two] => Some((retunes_of(one), retunes_of(two))),
+        _ => None,
+    }
+}
+
+/// The second session begins at the places where the first one ended, with the first members and factors.
+#[test]
+fn restarted(rt: HostRuntime) -> Result<(), Fail> {
+    let order = b"down 1\ndown 2\nup 1\nup 2\nraise 2 1\nrestart\n";
+    let stories = stories_of(rt.alloc(), b"a,5\n", b"b,3\n", order)?;
+    let wanted = [
+        Set {
+            session: 1,
+            number: 1,
+            last: false,
+            epsilon: 0,
+            member: 1,
+            places: (0, 0),
+        },
+        Set {
+            session: 2,
+            number: 1,
+            last: false,
+            epsilon: 0,
+            member: 2,
+            places: (0, 1),
+        },
+        Set {
+            session: 2,
+            number: 2,
+            last: true,
+            epsilon: 0,
+            member: 1,
+            places: (1, 1),
+        },
+    ];
+    let published = have_published(rt.alloc(), stories.as_slice(), &wanted);
+    assert_eq!(rt; published, Some(true));
+    Ok(())
+}
+
+/// A first session in which nothing happens publishes nothing.
+#[test]
+fn restarted_at_once(rt: HostRuntime) -> Result<(), Fail> {
+    let stories = stories_of(rt.alloc(), b"", b"", b"restart\n")?;
+    let wanted = [Set {
+        session: 2,
+        number: 1,
+        last: true,
+        epsilon: 0,
+        member: 1,
+        places: (0, 0),
+    }];
+    let published = have_published(rt.alloc(), stories.as_slice(), &wanted);
+    assert_eq!(rt; published, Some(true));
+    Ok(())
+}
+
+/// The k and epsilon of a retune are lost with the coordinator.
+#[test]
+fn a_retune_is_forgotten(rt: HostRuntime) -> Result<(), Fail> {
+    let order = b"down 1\ndown 2\nup 1\nup 2\nretune 1 7\nrestart\n";
+    let stories = stories_of(rt.alloc(), b"a,5\n", b"b,3\n", order)?;
+    let wanted = [
+        Set {
+            session: 1,
+            number: 1,
+            last: false,
+            epsilon: 0,
+            member: 1,
+            places: (0, 0),
+        },
+        Set {
+            session: 2,
+            number: 1,
+            last: false,
+            epsilon: 0,
+            member: 1,
+            places: (0, 0),
+        },
+        Set {
+            session: 2,
+            number: 2,
+            last: true,
+            epsilon: 0,
+            member: 1,
+            places: (1, 1),
+        },
+    ];
+    let published = have_published(rt.alloc(), stories.as_slice(), &wanted);
+    let counts = retunes(stories.as_slice());
+    assert_eq!(rt; (published, counts), (Some(true), Some((1, 0))));
+    Ok(())
+}
