@@ -10,6 +10,7 @@ there is an awk, the change logs of the access logs are made once more and compa
 import csv
 import os
 import pathlib
+import re
 import shutil
 import subprocess
 import sys
@@ -96,9 +97,10 @@ def command_of(folder):
 
 
 def check(folder):
-    if is_refused(folder) or command_of(folder) not in ("replay", "window"):
+    if is_refused(folder) or command_of(folder) not in ("replay", "window", "multi", "sessions"):
         return None
-    return check_text(folder, (folder / "expected.txt").read_text())
+    by_command = check_queries if command_of(folder) == "multi" else check_text
+    return by_command(folder, (folder / "expected.txt").read_text())
 
 
 def is_right(names, totals, members, count, epsilon):
@@ -107,16 +109,43 @@ def is_right(names, totals, members, count, epsilon):
     return len(set(members)) == count and least + epsilon >= greatest
 
 
+def catalogue_of(folder, options):
+    return [row[0] for row in csv.reader((folder / options["objects"]).open(newline=""))]
+
+
 def check_text(folder, text):
     options, files = words_of(folder)
-    names = [row[0] for row in csv.reader((folder / options["objects"]).open(newline=""))]
+    names = catalogue_of(folder, options)
     width = int(options.get("width", 0))
     ticked = {m: [ticks_of(folder / file) for file in some] for m, some in files.items()} if width else {}
     logs = {m: [expanded(ticks, width) for ticks in some] for m, some in ticked.items()}
     if not width:
         logs = {m: [changes_of(folder / file) for file in some] for m, some in files.items()}
+    return check_sets(folder.name, names, logs, options, text.splitlines(), ticked)
+
+
+def check_queries(folder, text):
+    """Each query is right over the changes of the objects that it watches, and the queries stand in order."""
+    options, files = words_of(folder)
+    names = catalogue_of(folder, options)
+    logs = {m: [changes_of(folder / file) for file in some] for m, some in files.items()}
+    queries = list(csv.reader((folder / options["queries"]).open(newline="")))
+    parts = re.split("^query ", text, flags=re.MULTILINE)[1:]
+    if [part.split("\n", 1)[0] for part in parts] != [query[0] for query in queries]:
+        return f"{folder.name}: other queries"
+    for (name, k, epsilon, prefix), part in zip(queries, parts):
+        watched = [object for object in names if object.startswith(prefix)]
+        own = {m: [[change for change in changes if change[0] in watched] for changes in some] for m, some in logs.items()}
+        fault = check_sets(f"{folder.name}: {name}", watched, own, {"k": k, "epsilon": epsilon}, part.splitlines()[1:], {})
+        if fault:
+            return fault
+    return None
+
+
+def check_sets(label, names, logs, options, lines, ticked):
+    width = int(options.get("width", 0))
     final = None
-    for line in text.splitlines():
+    for line in lines:
         fields = line.split()
         if fields[0] == "ticks":
             # The set of the line before is right for plain sums over the windows at these ticks.
@@ -124,17 +153,17 @@ def check_text(folder, text):
                        for m, places in cut_of(fields[1:]).items()}
             ends = {m: [len(changes) for changes in some] for m, some in windows.items()}
             if not is_right(names, totals_at(names, windows, ends), members, count, epsilon):
-                return f"{folder.name}: not within epsilon in the windows: {line}"
+                return f"{label}: not within epsilon in the windows: {line}"
         if fields[0] not in ("set", "final"):
             continue
         count, epsilon = asked(fields, options)
         begin, middle = fields.index("cut") + 1, fields.index("members")
         cut, members = cut_of(fields[begin:middle]), fields[middle + 1:]
         if not is_right(names, totals_at(names, logs, cut), members, count, epsilon):
-            return f"{folder.name}: not within epsilon: {line}"
+            return f"{label}: not within epsilon: {line}"
         final = cut if fields[0] == "final" else final
     ends = {m: [len(changes) for changes in some] for m, some in logs.items()}
-    return None if final == ends else f"{folder.name}: the final set is not over the whole logs"
+    return None if final == ends else f"{label}: the final set is not over the whole logs"
 
 
 def run(folder):

@@ -1,7 +1,7 @@
 -- How the words of a live run end.
 use Rattle.std.specs.Prelude.{ℕ, ◌≡◌, List, Option, Some, None, Ok, Err}
 use Rattle.tk_words.specs.Words.{Asked, LiveWords, words_of}
-use Rattle.tk_words.specs.Words.Asked.{Generates, Lives, Replays}
+use Rattle.tk_words.specs.Words.Asked.{Checks, Generates, Lives, Queries, Replays, Restarts, Traces}
 use Rattle.tk_load.specs.Reads.{Loads}
 use Rattle.tk_load.specs.declared.input.Input.{Input}
 use Rattle.tk_load.specs.declared.status.Status.{Status}
@@ -17,6 +17,10 @@ served None = None
 served (Some (Replays words)) = None
 served (Some (Generates words)) = None
 served (Some (Lives words)) = Some words
+served (Some (Queries words)) = None
+served (Some (Restarts words)) = None
+served (Some (Traces words)) = None
+served (Some (Checks file)) = None
 
 -- the status of a verdict
 abbrev pub status_of : Verdict → Status

@@ -41,6 +41,10 @@ pub fn live<R: Threads + Wait + Sync, F: Files, N: Net, G: Gate + Sync, O: Sink>
         Ok(Command::Live(words)) => words,
         Ok(Command::Replay(_)) => return Outcome::unstarted(Status::Usage),
         Ok(Command::Generate(_)) => return Outcome::unstarted(Status::Usage),
+        Ok(Command::Multi(_)) => return Outcome::unstarted(Status::Usage),
+        Ok(Command::Sessions(_)) => return Outcome::unstarted(Status::Usage),
+        Ok(Command::Trace(_)) => return Outcome::unstarted(Status::Usage),
+        Ok(Command::Check(_)) => return Outcome::unstarted(Status::Usage),
         Err(WordsFault::Usage) => return Outcome::unstarted(Status::Usage),
         Err(WordsFault::NoMemory) => return Outcome::unstarted(Status::NoMemory),
     };

@@ -3,8 +3,10 @@ mod FaultLemmas
 mod LoadLemmas
 mod LogsLemmas
 mod MakingLemmas
+mod MultiLemmas
 mod NumberedLemmas
 mod ReadLemmas
 mod RetuneLemmas
+mod SessionLemmas
 pub mod ToldLemmas
 mod UnreadLemmas

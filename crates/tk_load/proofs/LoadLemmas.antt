@@ -1,94 +1,90 @@
 -- The input, from what each stage of the work gave.
-use Rattle.std.proofs.Common.{◌≡◌, ℕ, max, List, [], All, Option, Some, None, IfSome, unwrap_or, option_map, Result, Ok, Err, get_or, length, map, refl, ap, sym, subst, ◌∙◌, arith}
+use Rattle.std.proofs.Common.{◌≡◌, ℕ, max, List, [], All, Option, Some, None, IfSome, unwrap_or, option_map, Result, Ok, Err, get_or, length, map, refl, ap, sym, subst, ◌∙◌}
 use Rattle.std.proofs.lemmas.List.Folds.{fold-map}
-use Rattle.tk_input.specs.Order.{Ordered}
 use Rattle.tk_input.specs.Records.{and_then}
 use Rattle.tk_words.specs.Words.{SourceWords}
 use Rattle.tk_load.specs.Faults.{Fault, after}
-use Rattle.tk_load.specs.Input.{File, ReadWords, greatest_monitor, input_of, limits_in, logs_in, names_in, order_in, together}
-use Rattle.tk_load.specs.Reads.{AreKept, AreRead, IsRead, Loads, Reads, ReadsLogs, ReadsOrder, Tells, log_of, words_of}
+use Rattle.tk_load.specs.Input.{File, ReadWords, basis_of, greatest_monitor, limits_in, logs_in, names_in, together}
+use Rattle.tk_load.specs.Reads.{AreKept, AreRead, IsRead, LoadsBasis, LoadsBy, Reads, ReadsLogs, ReadsOrder, Tells, log_of, without_order, words_of}
 use Rattle.tk_window.specs.TickEnds.{Sources}
+use Rattle.tk_load.specs.declared.basis.Basis.{Basis}
 use Rattle.tk_load.specs.declared.changes.Together.{Together}
-use Rattle.tk_load.specs.declared.input.Input.{Input}
 use Rattle.tk_load.specs.declared.settings.Limits.{Limits}
 use Rattle.tk_load.specs.declared.status.Status.{Status}
 use Rattle.tk_load.proofs.FaultLemmas.{tells_on}
 use Rattle.tk_load.proofs.LogsLemmas.{names_unread, read_unread, unread}
-use Rattle.tk_load.proofs.ReadLemmas.{gave_told, kept_on, read_after, read_before}
+use Rattle.tk_load.proofs.ReadLemmas.{gave_told, read_after, read_before}
+
+-- ---- what stands in front of the order
 
 -- what is left of the work, once the names, the settings, the logs and all of them together stand
-abbrev whole : List (List ℕ) → Limits → Together → Option Ordered → Input
-whole names limits all order = record { names = names; settings = limits.settings; logs = all.logs; ends = all.ends; order = order }
+abbrev whole : List (List ℕ) → Limits → Together → Basis
+whole names limits all = record { names = names; settings = limits.settings; logs = all.logs; ends = all.ends }
 
-abbrev from_all : ReadWords → List (List ℕ) → Limits → Together → Result Input Fault
-from_all read names limits all = after (order_in limits.settings read.order) (λ order. Ok (whole names limits all order))
+abbrev from_logs : List (List ℕ) → Limits → Sources → Result Basis Fault
+from_logs names limits logs = after (together limits.width logs (length names)) (λ all. Ok (whole names limits all))
 
-abbrev from_logs : ReadWords → List (List ℕ) → Limits → Sources → Result Input Fault
-from_logs read names limits logs = after (together limits.width logs (length names)) (from_all read names limits)
-
-abbrev from_settings : ReadWords → List (List ℕ) → Limits → Result Input Fault
-from_settings read names limits = after (logs_in limits.width names read.logs) (from_logs read names limits)
+abbrev from_settings : ReadWords → List (List ℕ) → Limits → Result Basis Fault
+from_settings read names limits = after (logs_in limits.width names read.logs) (from_logs names limits)
 
 abbrev settings_at : ReadWords → List (List ℕ) → Result Limits Fault
 settings_at read names = limits_in read.k read.epsilon read.own_weight read.width (length names) (greatest_monitor read.logs)
 
-abbrev from_names : ReadWords → List (List ℕ) → Result Input Fault
+abbrev from_names : ReadWords → List (List ℕ) → Result Basis Fault
 from_names read names = after (settings_at read names) (from_settings read names)
 
-at_names : (read : ReadWords) (names : List (List ℕ)) → names_in read.objects ≡ Ok names → input_of read ≡ from_names read names
+at_names : (read : ReadWords) (names : List (List ℕ)) → names_in read.objects ≡ Ok names → basis_of read ≡ from_names read names
 at_names read names is = ap (and_then (from_names read)) is
 
 at_settings : (read : ReadWords) (names : List (List ℕ)) (settings : Limits) → settings_at read names ≡ Ok settings → from_names read names ≡ from_settings read names settings
 at_settings read names settings is = ap (and_then (from_settings read names)) is
 
-at_logs : (read : ReadWords) (names : List (List ℕ)) (settings : Limits) (logs : Sources) → logs_in settings.width names read.logs ≡ Ok logs → from_settings read names settings ≡ from_logs read names settings logs
-at_logs read names settings logs is = ap (and_then (from_logs read names settings)) is
+at_logs : (read : ReadWords) (names : List (List ℕ)) (settings : Limits) (logs : Sources) → logs_in settings.width names read.logs ≡ Ok logs → from_settings read names settings ≡ from_logs names settings logs
+at_logs read names settings logs is = ap (and_then (from_logs names settings)) is
 
-at_all : (read : ReadWords) (names : List (List ℕ)) (settings : Limits) (logs : Sources) (all : Together) → together settings.width logs (length names) ≡ Ok all → from_logs read names settings logs ≡ from_all read names settings all
-at_all read names settings logs all is = ap (and_then (from_all read names settings)) is
+at_all : (names : List (List ℕ)) (settings : Limits) (logs : Sources) (all : Together) → together settings.width logs (length names) ≡ Ok all → from_logs names settings logs ≡ Ok (whole names settings all)
+at_all names settings logs all is = ap (and_then (λ all. Ok (whole names settings all))) is
 
 -- the greatest monitor is that of the words
 greatest_of : (logs : List (ℕ × File)) (words : List (ℕ × List ℕ)) → map log_of logs ≡ words → greatest_monitor logs ≡ greatest_monitor words
 greatest_of logs words are =
     sym (fold-map (λ (last : ℕ) (log : ℕ × List ℕ). max last log.0) log_of 0 logs) ∙ ap (λ (w : List (ℕ × List ℕ)). greatest_monitor w) are
 
--- the order's file, where it is not read
-abbrev unread_order : (List ℕ → Option (List ℕ)) → Option (List ℕ) → Option File
+-- the order's file, where it is not read, its name, and that it counts as read
+abbrev pub unread_order : (List ℕ → Option (List ℕ)) → Option (List ℕ) → Option File
 unread_order told order = option_map (λ name. record { name = name; content = Some (unwrap_or (told name) []) }) order
 
-order_unread : (told : List ℕ → Option (List ℕ)) (order : Option (List ℕ)) → option_map (λ (f : File). f.name) (unread_order told order) ≡ order
+pub order_unread : (told : List ℕ → Option (List ℕ)) (order : Option (List ℕ)) → option_map (λ (f : File). f.name) (unread_order told order) ≡ order
 order_unread told None = refl
 order_unread told (Some name) = refl
 
-read_order_unread : (told : List ℕ → Option (List ℕ)) (old new : List ℕ → ℕ) (order : Option (List ℕ)) → IfSome (unread_order told order) (IsRead told old new)
+pub read_order_unread : (told : List ℕ → Option (List ℕ)) (old new : List ℕ → ℕ) (order : Option (List ℕ)) → IfSome (unread_order told order) (IsRead told old new)
 read_order_unread told old new None = tt
 read_order_unread told old new (Some name) = gave_told (told name) (old name) (new name)
 
--- the words with these files
-abbrev with_files : SourceWords → Option (List ℕ) → Option File → List (ℕ × File) → ReadWords
-with_files words content order logs = record {
+-- the words with these files, and no order
+abbrev with_files : SourceWords → Option (List ℕ) → List (ℕ × File) → ReadWords
+with_files words content logs = record {
   k = words.k;
   epsilon = words.epsilon;
   own_weight = words.own_weight;
   objects = record { name = words.objects; content = content };
-  order = order;
+  order = None;
   width = words.width;
   logs = logs;
 }
 
-abbrev worded : SourceWords → Option (List ℕ) → List (ℕ × List ℕ) → SourceWords
-worded words order logs = record { k = words.k; epsilon = words.epsilon; own_weight = words.own_weight; objects = words.objects; order = order; width = words.width; logs = logs }
+words_with : (words : SourceWords) (content : Option (List ℕ)) (logs : List (ℕ × File)) → map log_of logs ≡ words.logs → words_of (with_files words content logs) ≡ without_order words
+words_with words content logs are = ap (λ (l : List (ℕ × List ℕ)). record (without_order words) { logs = l }) are
 
-words_with : (words : SourceWords) (content : Option (List ℕ)) (order : Option File) (logs : List (ℕ × File)) → option_map (λ (f : File). f.name) order ≡ words.order → map log_of logs ≡ words.logs → words_of (with_files words content order logs) ≡ words
-words_with words content order logs is are = ap (λ (o : Option (List ℕ)). worded words o (map log_of logs)) is ∙ ap (λ (l : List (ℕ × List ℕ)). worded words words.order l) are
-
-logs_before : (t t' : List ℕ → Option (List ℕ)) (a b c : List ℕ → ℕ) (logs : List (ℕ × File)) → All (λ (log : ℕ × File). IsRead t a b log.1) logs → AreKept t t' b c → All (λ (log : ℕ × File). IsRead t a c log.1) logs
+-- what was read before other files, after them or between them
+pub logs_before : (t t' : List ℕ → Option (List ℕ)) (a b c : List ℕ → ℕ) (logs : List (ℕ × File)) → All (λ (log : ℕ × File). IsRead t a b log.1) logs → AreKept t t' b c → All (λ (log : ℕ × File). IsRead t a c log.1) logs
 logs_before t t' a b c logs read kept = λ i d within. read_before t t' a b c (get_or logs i d).1 (read i d within) kept
 
-logs_after : (t t' t'' : List ℕ → Option (List ℕ)) (a b c : List ℕ → ℕ) (logs : List (ℕ × File)) → AreKept t t' a b → All (λ (log : ℕ × File). IsRead t' b c log.1) logs → AreKept t' t'' b c → All (λ (log : ℕ × File). IsRead t a c log.1) logs
+pub logs_after : (t t' t'' : List ℕ → Option (List ℕ)) (a b c : List ℕ → ℕ) (logs : List (ℕ × File)) → AreKept t t' a b → All (λ (log : ℕ × File). IsRead t' b c log.1) logs → AreKept t' t'' b c → All (λ (log : ℕ × File). IsRead t a c log.1) logs
 logs_after t t' t'' a b c logs first read last = λ i d within. read_after t t' t'' a b c (get_or logs i d).1 first (read i d within) last
 
-order_after : (t t' t'' : List ℕ → Option (List ℕ)) (a b c : List ℕ → ℕ) (order : Option File) → AreKept t t' a b → IfSome order (IsRead t' b c) → AreKept t' t'' b c → IfSome order (IsRead t a c)
+pub order_after : (t t' t'' : List ℕ → Option (List ℕ)) (a b c : List ℕ → ℕ) (order : Option File) → AreKept t t' a b → IfSome order (IsRead t' b c) → AreKept t' t'' b c → IfSome order (IsRead t a c)
 order_after t t' t'' a b c None first read last = tt
 order_after t t' t'' a b c (Some file) first read last = read_after t t' t'' a b c file first read last
 
@@ -96,109 +92,144 @@ module _ (t0 t1 : List ℕ → Option (List ℕ)) (f0 f1 : List ℕ → ℕ) (wo
   abbrev ReadsNames : Result (List (List ℕ)) Status → Type 0
   ReadsNames answer = Reads t0 f0 f1 words.objects (λ (names : List (List ℕ)). names) names_in answer
 
+  -- where no log was read
+  no_logs : (content : Option (List ℕ)) → IsRead t0 f0 f1 (record { name = words.objects; content = content }) → AreRead t0 f0 f1 (without_order words) (with_files words content (unread t0 words.logs))
+  no_logs content objects = record {
+    same = words_with words content (unread t0 words.logs) (names_unread t0 words.logs);
+    objects = objects;
+    logs = read_unread t0 f0 f1 words.logs;
+    order = tt;
+  }
+
   -- the objects are refused
-  pub names_refused : (status : Status) → ReadsNames (Err status) → Loads t0 f0 f1 words (Err status)
+  pub names_refused : (status : Status) → ReadsNames (Err status) → LoadsBasis t0 f0 f1 words (Err status)
   names_refused status names =
-      let read = with_files words names.content (unread_order t0 words.order) (unread t0 words.logs) in record {
+      let read = with_files words names.content (unread t0 words.logs) in record {
         read = read;
-        are_read = record {
-          same = words_with words names.content (unread_order t0 words.order) (unread t0 words.logs) (order_unread t0 words.order) (names_unread t0 words.logs);
-          objects = names.read;
-          logs = read_unread t0 f0 f1 words.logs;
-          order = read_order_unread t0 f0 f1 words.order;
-        };
+        are_read = no_logs names.content names.read;
         meets = tells_on status (names_in read.objects) (from_names read) names.meets;
       }
 
   module _ (names : List (List ℕ)) (reads : ReadsNames (Ok names)) where
     -- the settings are refused
-    pub settings_refused : (status : Status) → Tells status (limits_in words.k words.epsilon words.own_weight words.width (length names) (greatest_monitor words.logs)) → Loads t0 f0 f1 words (Err status)
+    pub settings_refused : (status : Status) → Tells status (limits_in words.k words.epsilon words.own_weight words.width (length names) (greatest_monitor words.logs)) → LoadsBasis t0 f0 f1 words (Err status)
     settings_refused status tells =
-        let read = with_files words reads.content (unread_order t0 words.order) (unread t0 words.logs) in record {
+        let read = with_files words reads.content (unread t0 words.logs) in record {
           read = read;
-          are_read = record {
-            same = words_with words reads.content (unread_order t0 words.order) (unread t0 words.logs) (order_unread t0 words.order) (names_unread t0 words.logs);
-            objects = reads.read;
-            logs = read_unread t0 f0 f1 words.logs;
-            order = read_order_unread t0 f0 f1 words.order;
-          };
-          meets = subst (λ (m : Result Input Fault). Tells status m) (sym (at_names read names reads.meets))
+          are_read = no_logs reads.content reads.read;
+          meets = subst (λ (m : Result Basis Fault). Tells status m) (sym (at_names read names reads.meets))
               (tells_on status (settings_at read names) (from_settings read names)
               (subst (λ (last : ℕ). Tells status (limits_in words.k words.epsilon words.own_weight words.width (length names) last)) (sym (greatest_of (unread t0 words.logs) words.logs (names_unread t0 words.logs))) tells));
         }
 
     module _ (settings : Limits) (set : limits_in words.k words.epsilon words.own_weight words.width (length names) (greatest_monitor words.logs) ≡ Ok settings)
         (t2 : List ℕ → Option (List ℕ)) (f2 : List ℕ → ℕ) (kept2 : AreKept t1 t2 f1 f2) where
-      -- the settings and the names, whatever files come after
-      settled : (order : Option File) (logs : List (ℕ × File)) → map log_of logs ≡ words.logs → input_of (with_files words reads.content order logs) ≡ from_settings (with_files words reads.content order logs) names settings
-      settled order logs are =
-          let read = with_files words reads.content order logs in
+      -- the settings and the names, whatever logs come after
+      settled : (logs : List (ℕ × File)) → map log_of logs ≡ words.logs → basis_of (with_files words reads.content logs) ≡ from_settings (with_files words reads.content logs) names settings
+      settled logs are =
+          let read = with_files words reads.content logs in
           at_names read names reads.meets
           ∙ at_settings read names settings (ap (λ (last : ℕ). limits_in words.k words.epsilon words.own_weight words.width (length names) last) (greatest_of logs words.logs are) ∙ set)
 
-      -- a log is refused
-      pub logs_refused : {A : Type 0} (view : A → Sources) (status : Status) → ReadsLogs t1 f1 f2 words.logs view (logs_in settings.width names) (Err status) → Loads t0 f0 f2 words (Err status)
-      logs_refused view status logs =
-          let read = with_files words reads.content (unread_order t0 words.order) logs.logs in record {
-            read = read;
-            are_read = record {
-              same = words_with words reads.content (unread_order t0 words.order) logs.logs (order_unread t0 words.order) logs.are_of;
-              objects = read_before t0 t2 f0 f1 f2 read.objects reads.read (record { same = λ n. kept2.same n ∙ kept1.same n; counts = kept2.counts });
-              logs = logs_after t0 t1 t2 f0 f1 f2 logs.logs kept1 logs.read kept2;
-              order = read_order_unread t0 f0 f2 words.order;
-            };
-            meets = subst (λ (m : Result Input Fault). Tells status m) (sym (settled read.order logs.logs logs.are_of)) (tells_on status (logs_in settings.width names logs.logs) (from_logs read names settings) logs.meets);
+      -- so are they read, with the logs
+      with_logs : (logs : List (ℕ × File)) → map log_of logs ≡ words.logs → All (λ (log : ℕ × File). IsRead t1 f1 f2 log.1) logs → AreRead t0 f0 f2 (without_order words) (with_files words reads.content logs)
+      with_logs logs are read =
+          let all = with_files words reads.content logs in record {
+            same = words_with words reads.content logs are;
+            objects = read_before t0 t2 f0 f1 f2 all.objects reads.read (record { same = λ n. kept2.same n ∙ kept1.same n; counts = kept2.counts });
+            logs = logs_after t0 t1 t2 f0 f1 f2 logs kept1 read kept2;
+            order = tt;
           }
+
+      -- a log is refused
+      pub logs_refused : {A : Type 0} (view : A → Sources) (status : Status) → ReadsLogs t1 f1 f2 words.logs view (logs_in settings.width names) (Err status) → LoadsBasis t0 f0 f2 words (Err status)
+      logs_refused view status logs = record {
+        read = with_files words reads.content logs.logs;
+        are_read = with_logs logs.logs logs.are_of logs.read;
+        meets = subst (λ (m : Result Basis Fault). Tells status m) (sym (settled logs.logs logs.are_of)) (tells_on status (logs_in settings.width names logs.logs) (from_logs names settings) logs.meets);
+      }
 
       module _ (parts : Sources) (logs : ReadsLogs t1 f1 f2 words.logs (λ (logs : Sources). logs) (logs_in settings.width names) (Ok parts)) where
-        kept_two : AreKept t0 t2 f1 f2
-        kept_two = record { same = λ n. kept2.same n ∙ kept1.same n; counts = kept2.counts }
+        to_logs : basis_of (with_files words reads.content logs.logs) ≡ from_logs names settings parts
+        to_logs = settled logs.logs logs.are_of ∙ at_logs (with_files words reads.content logs.logs) names settings parts logs.meets
 
         -- the logs together are refused
-        pub joined_refused : (status : Status) → Tells status (together settings.width parts (length names)) → Loads t0 f0 f2 words (Err status)
-        joined_refused status tells =
-            let read = with_files words reads.content (unread_order t0 words.order) logs.logs in record {
-              read = read;
-              are_read = record {
-                same = words_with words reads.content (unread_order t0 words.order) logs.logs (order_unread t0 words.order) logs.are_of;
-                objects = read_before t0 t2 f0 f1 f2 read.objects reads.read kept_two;
-                logs = logs_after t0 t1 t2 f0 f1 f2 logs.logs kept1 logs.read kept2;
-                order = read_order_unread t0 f0 f2 words.order;
-              };
-              meets = subst (λ (m : Result Input Fault). Tells status m) (sym (settled read.order logs.logs logs.are_of ∙ at_logs read names settings parts logs.meets))
-                  (tells_on status (together settings.width parts (length names)) (from_all read names settings) tells);
-            }
+        pub joined_refused : (status : Status) → Tells status (together settings.width parts (length names)) → LoadsBasis t0 f0 f2 words (Err status)
+        joined_refused status tells = record {
+          read = with_files words reads.content logs.logs;
+          are_read = with_logs logs.logs logs.are_of logs.read;
+          meets = subst (λ (m : Result Basis Fault). Tells status m) (sym to_logs) (tells_on status (together settings.width parts (length names)) (λ all. Ok (whole names settings all)) tells);
+        }
 
-        module _ (all : Together) (join : together settings.width parts (length names) ≡ Ok all) (t3 : List ℕ → Option (List ℕ)) (f3 : List ℕ → ℕ) (kept3 : AreKept t2 t3 f2 f3) where
-          are_all : (order : Option File) → option_map (λ (f : File). f.name) order ≡ words.order → IfSome order (IsRead t2 f2 f3) → AreRead t0 f0 f3 words (with_files words reads.content order logs.logs)
-          are_all order is read = record {
-            same = words_with words reads.content order logs.logs is logs.are_of;
-            objects = read_before t0 t3 f0 f1 f3 (record { name = words.objects; content = reads.content }) reads.read
-                (record { same = λ n. kept3.same n ∙ kept2.same n ∙ kept1.same n; counts = λ n. let a = kept2.counts n in let b = kept3.counts n in omega (arith, a, b) });
-            logs = logs_before t0 t3 f0 f2 f3 logs.logs (logs_after t0 t1 t2 f0 f1 f2 logs.logs kept1 logs.read kept2) (record { same = λ n. kept3.same n ∙ kept2.same n ∙ kept1.same n; counts = kept3.counts });
-            order = order_after t0 t2 t3 f0 f2 f3 order (kept_on t0 t1 t2 f0 f1 f2 kept1 kept2) read kept3;
-          }
+        -- nothing is refused
+        pub basis_loaded : (all : Together) → together settings.width parts (length names) ≡ Ok all → LoadsBasis t0 f0 f2 words (Ok (whole names settings all))
+        basis_loaded all join = record {
+          read = with_files words reads.content logs.logs;
+          are_read = with_logs logs.logs logs.are_of logs.read;
+          meets = to_logs ∙ at_all names settings parts all join;
+        }
 
-          order_then : (order : Option File) → input_of (with_files words reads.content order logs.logs) ≡ from_all (with_files words reads.content order logs.logs) names settings all
-          order_then order =
-              let read = with_files words reads.content order logs.logs in
-              settled order logs.logs logs.are_of ∙ at_logs read names settings parts logs.meets ∙ at_all read names settings parts all join
+-- ---- the order behind it, whatever an order is and whatever is made of it
 
-          -- the order is refused
-          pub order_refused : (status : Status) → ReadsOrder t2 f2 f3 words.order (order_in settings.settings) (Err status) → Loads t0 f0 f3 words (Err status)
-          order_refused status order = record {
-            read = with_files words reads.content order.file logs.logs;
-            are_read = are_all order.file order.is_of order.read;
-            meets = subst (λ (m : Result Input Fault). Tells status m) (sym (order_then order.file)) (tells_on status (order_in settings.settings order.file) (λ found. Ok (whole names settings all found)) order.meets);
-          }
+module _ {O I : Type 0} (order_at : Basis → Option File → Result (Option O) Fault) (made : Basis → Option O → I) (t0 t1 : List ℕ → Option (List ℕ)) (f0 f1 : List ℕ → ℕ) (words : SourceWords) where
+  abbrev with_order : ReadWords → Option File → ReadWords
+  with_order read order = record read { order = order }
 
-          -- nothing is refused
-          pub loaded : (found : Option Ordered) → ReadsOrder t2 f2 f3 words.order (order_in settings.settings) (Ok found) → Loads t0 f0 f3 words (Ok (whole names settings all found))
-          loaded found order = record {
-            read = with_files words reads.content order.file logs.logs;
-            are_read = are_all order.file order.is_of order.read;
-            meets = order_then order.file ∙ ap (and_then (λ o. Ok (whole names settings all o))) order.meets;
-          }
+  abbrev from_basis : Option File → Basis → Result I Fault
+  from_basis order basis = after (order_at basis order) (λ found. Ok (made basis found))
+
+  abbrev meant : ReadWords → Result I Fault
+  meant read = after (basis_of read) (from_basis read.order)
+
+  same_words : (read : ReadWords) (order : Option File) → words_of read ≡ without_order words → option_map (λ (f : File). f.name) order ≡ words.order → words_of (with_order read order) ≡ words
+  same_words read order same is =
+      ap (λ (w : SourceWords). record w { order = option_map (λ (f : File). f.name) order }) same
+      ∙ ap (λ (name : Option (List ℕ)). record words { order = name }) is
+
+  -- what stands in front is refused
+  pub basis_refused : (status : Status) → LoadsBasis t0 f0 f1 words (Err status) → LoadsBy meant t0 f0 f1 words (Err status)
+  basis_refused status basis =
+      let order = unread_order t0 words.order in record {
+        read = with_order basis.read order;
+        are_read = record {
+          same = same_words basis.read order basis.are_read.same (order_unread t0 words.order);
+          objects = basis.are_read.objects;
+          logs = basis.are_read.logs;
+          order = read_order_unread t0 f0 f1 words.order;
+        };
+        meets = tells_on status (basis_of basis.read) (from_basis order) basis.meets;
+      }
+
+  module _ (basis : Basis) (given : LoadsBasis t0 f0 f1 words (Ok basis)) (t2 : List ℕ → Option (List ℕ)) (f2 : List ℕ → ℕ) (kept1 : AreKept t0 t1 f0 f1) (kept2 : AreKept t1 t2 f1 f2) where
+    kept_two : AreKept t0 t2 f1 f2
+    kept_two = record { same = λ n. kept2.same n ∙ kept1.same n; counts = kept2.counts }
+
+    are_all : (order : Option File) → option_map (λ (f : File). f.name) order ≡ words.order → IfSome order (IsRead t1 f1 f2) → AreRead t0 f0 f2 words (with_order given.read order)
+    are_all order is read = record {
+      same = same_words given.read order given.are_read.same is;
+      objects = read_before t0 t2 f0 f1 f2 given.read.objects given.are_read.objects kept_two;
+      logs = logs_before t0 t2 f0 f1 f2 given.read.logs given.are_read.logs kept_two;
+      order = order_after t0 t1 t2 f0 f1 f2 order kept1 read kept2;
+    }
+
+    order_then : (order : Option File) → meant (with_order given.read order) ≡ from_basis order basis
+    order_then order = ap (and_then (from_basis order)) given.meets
+
+    -- the order is refused
+    pub order_refused : (status : Status) → ReadsOrder t1 f1 f2 words.order (order_at basis) (Err status) → LoadsBy meant t0 f0 f2 words (Err status)
+    order_refused status order = record {
+      read = with_order given.read order.file;
+      are_read = are_all order.file order.is_of order.read;
+      meets = subst (λ (m : Result I Fault). Tells status m) (sym (order_then order.file)) (tells_on status (order_at basis order.file) (λ found. Ok (made basis found)) order.meets);
+    }
+
+    -- nothing is refused
+    pub loaded : (found : Option O) → ReadsOrder t1 f1 f2 words.order (order_at basis) (Ok found) → LoadsBy meant t0 f0 f2 words (Ok (made basis found))
+    loaded found order = record {
+      read = with_order given.read order.file;
+      are_read = are_all order.file order.is_of order.read;
+      meets = order_then order.file ∙ ap (and_then (λ found. Ok (made basis found))) order.meets;
+    }
 
 -- logs that were read, as the words have them
 pub seen_logs : {A : Type 0} (view : A → Sources) (told : List ℕ → Option (List ℕ)) (old new : List ℕ → ℕ) (width : Option ℕ) (names : List (List ℕ)) (words words' : List (ℕ × List ℕ)) (parts : A) → words' ≡ words

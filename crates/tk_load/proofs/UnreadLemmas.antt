@@ -23,7 +23,7 @@ use Rattle.tk_input.specs.declared.part.PartFault.TheVariants as p
 use Rattle.tk_words.specs.Words.{SourceWords}
 use Rattle.tk_load.specs.Faults.{Fault, after, bad_file, bad_whole, catalog_fault, expand_fault, log_fault, logs_fault, order_fault, setting_fault, telling}
 use Rattle.tk_load.specs.Faults.Fault.{Unread}
-use Rattle.tk_load.specs.Input.{File, ReadWords, bad_line, bytes_from, bytes_in, changes_after, changes_in, count_of, counted, ends_with, greatest_monitor, input_of, joined, limits_in, log_added, log_from, logs_in, names_in, order_from, order_in, order_of_bytes, retune_kind, retune_tested, retunes_tested, settings_in, together, width_in}
+use Rattle.tk_load.specs.Input.{File, ReadWords, bad_line, bytes_from, bytes_in, changes_after, changes_in, count_of, counted, basis_of, ends_with, greatest_monitor, input_of, input_with, joined, limits_in, log_added, log_from, logs_in, names_in, order_from, order_in, order_of_bytes, retune_kind, retune_tested, retunes_tested, settings_in, together, width_in}
 use Rattle.tk_load.specs.Reads.{AreRead, Gave, IsRead, Loads, log_of, words_of}
 use Rattle.tk_load.specs.Told.{IsCounted, files_of, only}
 use Rattle.tk_window.specs.TickEnds.{Sources, parts_in}
@@ -31,6 +31,7 @@ use Rattle.tk_window.specs.Ticks.{ticked_of}
 use Rattle.tk_window.specs.Window.{Expansion, expanded_of}
 use Rattle.tk_window.specs.declared.fault.ExpandFault.{ExpandFault}
 use Rattle.tk_window.specs.declared.fault.ExpandFault.TheVariants as e
+use Rattle.tk_load.specs.declared.basis.Basis.{Basis}
 use Rattle.tk_load.specs.declared.changes.Together.{Together}
 use Rattle.tk_load.specs.declared.input.Input.{Input}
 use Rattle.tk_load.specs.declared.settings.Limits.{Limits}
@@ -196,19 +197,19 @@ module _ (n : List ℕ) where
 
     -- ---- the whole work
 
-    abbrev from_all : ReadWords → List (List ℕ) → Limits → Together → Result Input Fault
-    from_all read names limits all = after (order_in limits.settings read.order) (λ order. Ok (record { names = names; settings = limits.settings; logs = all.logs; ends = all.ends; order = order }))
+    abbrev whole : List (List ℕ) → Limits → Together → Result Basis Fault
+    whole names limits all = Ok (record { names = names; settings = limits.settings; logs = all.logs; ends = all.ends })
 
-    abbrev from_logs : ReadWords → List (List ℕ) → Limits → Sources → Result Input Fault
-    from_logs read names limits logs = after (together limits.width logs (length names)) (from_all read names limits)
+    abbrev from_logs : List (List ℕ) → Limits → Sources → Result Basis Fault
+    from_logs names limits logs = after (together limits.width logs (length names)) (whole names limits)
 
-    abbrev from_settings : ReadWords → List (List ℕ) → Limits → Result Input Fault
-    from_settings read names limits = after (logs_in limits.width names read.logs) (from_logs read names limits)
+    abbrev from_settings : ReadWords → List (List ℕ) → Limits → Result Basis Fault
+    from_settings read names limits = after (logs_in limits.width names read.logs) (from_logs names limits)
 
     abbrev limits_at : ReadWords → List (List ℕ) → Result Limits Fault
     limits_at read names = limits_in read.k read.epsilon read.own_weight read.width (length names) (greatest_monitor read.logs)
 
-    abbrev from_names : ReadWords → List (List ℕ) → Result Input Fault
+    abbrev from_names : ReadWords → List (List ℕ) → Result Basis Fault
     from_names read names = after (limits_at read names) (from_settings read names)
 
     not_width : (width : Option ℕ) → Unreads (width_in width) → ⊥
@@ -237,44 +238,58 @@ module _ (n : List ℕ) where
       | inr next ↦ let ok = next.2 in cc (ok)
     ]
 
-    abbrev logs_and_order : ReadWords → List (List ℕ)
-    logs_and_order read = map (λ log. log.1) (map log_of read.logs) ++ only (option_map (λ f. f.name) read.order)
+    -- the files of the logs and of the order
+    abbrev log_files : ReadWords → List (List ℕ)
+    log_files read = map (λ log. log.1) (map log_of read.logs)
+
+    abbrev order_file : ReadWords → List (List ℕ)
+    order_file read = only (option_map (λ f. f.name) read.order)
+
+    limits_lost : (read : ReadWords) (names : List (List ℕ)) → Unreads (limits_at read names) → ⊥
+    limits_lost read names is = elim (either (settings_in read.k read.epsilon read.own_weight (length names) (greatest_monitor read.logs)) (λ settings. after (width_in read.width) (limited settings)) is) [
+      | inl lost ↦ not_telling setting_fault (settings_of read.k read.epsilon read.own_weight (length names) (greatest_monitor read.logs)) (λ e same. cc (same)) lost
+      | inr next ↦ not_limits next.0 read.width next.2
+    ]
+
+    joined_lost : (names : List (List ℕ)) (s : Limits) (logs : Sources) → Unreads (from_logs names s logs) → ⊥
+    joined_lost names s logs is = elim (either (together s.width logs (length names)) (whole names s) is) [
+      | inl lost ↦ not_together s.width logs (length names) lost
+      | inr next ↦ let ok = next.2 in cc (ok)
+    ]
 
     module _ (read : ReadWords) (are : AreRead told old new (words_of read) read) where
-      all_lost : (names : List (List ℕ)) (limits : Limits) (all : Together) → Unreads (from_all read names limits all) → Found (logs_and_order read)
-      all_lost names limits all is = elim (either (order_in limits.settings read.order) (λ order. Ok (record { names = names; settings = limits.settings; logs = all.logs; ends = all.ends; order = order })) is) [
-        | inl lost ↦ let found = order_lost limits.settings read.order lost are.order in (Contains-append_right (map (λ (l : ℕ × List ℕ). l.1) (map log_of read.logs)) (only (option_map (λ (f : File). f.name) read.order)) n found.0, found.1)
-        | inr next ↦ let ok = next.2 in absurd (cc (ok))
+      parts_lost : (names : List (List ℕ)) (s : Limits) → Unreads (from_settings read names s) → Found (log_files read)
+      parts_lost names s is = elim (either (logs_in s.width names read.logs) (from_logs names s) is) [
+        | inl lost ↦ logs_lost s.width names [] read.logs lost are.logs
+        | inr next ↦ absurd (joined_lost names s next.0 next.2)
       ]
 
-      joined_lost : (names : List (List ℕ)) (s : Limits) (logs : Sources) → Unreads (from_logs read names s logs) → Found (logs_and_order read)
-      joined_lost names s logs is = elim (either (together s.width logs (length names)) (from_all read names s) is) [
-        | inl lost ↦ absurd (not_together s.width logs (length names) lost)
-        | inr next ↦ all_lost names s next.0 next.2
-      ]
-
-      parts_lost : (names : List (List ℕ)) (s : Limits) → Unreads (from_settings read names s) → Found (logs_and_order read)
-      parts_lost names s is = elim (either (logs_in s.width names read.logs) (from_logs read names s) is) [
-        | inl lost ↦ let found = logs_lost s.width names [] read.logs lost are.logs in (Contains-append_left (map (λ (l : ℕ × List ℕ). l.1) (map log_of read.logs)) (only (option_map (λ (f : File). f.name) read.order)) n found.0, found.1)
-        | inr next ↦ joined_lost names s next.0 next.2
-      ]
-
-      limits_lost : (names : List (List ℕ)) → Unreads (limits_at read names) → ⊥
-      limits_lost names is = elim (either (settings_in read.k read.epsilon read.own_weight (length names) (greatest_monitor read.logs)) (λ settings. after (width_in read.width) (limited settings)) is) [
-        | inl lost ↦ not_telling setting_fault (settings_of read.k read.epsilon read.own_weight (length names) (greatest_monitor read.logs)) (λ e same. cc (same)) lost
-        | inr next ↦ not_limits next.0 read.width next.2
-      ]
-
-      settings_lost : (names : List (List ℕ)) → Unreads (from_names read names) → Found (logs_and_order read)
+      settings_lost : (names : List (List ℕ)) → Unreads (from_names read names) → Found (log_files read)
       settings_lost names is = elim (either (limits_at read names) (from_settings read names) is) [
-        | inl lost ↦ absurd (limits_lost names lost)
+        | inl lost ↦ absurd (limits_lost read names lost)
         | inr next ↦ parts_lost names next.0 next.2
       ]
 
+      basis_lost : Unreads (basis_of read) → Found (read.objects.name ∷ log_files read)
+      basis_lost is = elim (either (names_in read.objects) (from_names read) is) [
+        | inl lost ↦ here read.objects (log_files read) (names_lost read.objects lost) are.objects
+        | inr next ↦ behind read.objects.name (log_files read) (settings_lost next.0 next.2)
+      ]
+
+      abbrev from_order : Basis → Result Input Fault
+      from_order basis = after (order_in basis.settings read.order) (λ order. Ok (input_with basis order))
+
+      -- so it is one of them, or that of the order
+      order_then : (basis : Basis) → Unreads (from_order basis) → Found (order_file read)
+      order_then basis is = elim (either (order_in basis.settings read.order) (λ order. Ok (input_with basis order)) is) [
+        | inl lost ↦ order_lost basis.settings read.order lost are.order
+        | inr next ↦ let ok = next.2 in absurd (cc (ok))
+      ]
+
       input_lost : Unreads (input_of read) → Found (files_of (words_of read))
-      input_lost is = elim (either (names_in read.objects) (from_names read) is) [
-        | inl lost ↦ here read.objects (logs_and_order read) (names_lost read.objects lost) are.objects
-        | inr next ↦ behind read.objects.name (logs_and_order read) (settings_lost next.0 next.2)
+      input_lost is = elim (either (basis_of read) from_order is) [
+        | inl lost ↦ let found = basis_lost lost in (Contains-append_left (read.objects.name ∷ log_files read) (order_file read) n found.0, found.1)
+        | inr next ↦ let found = order_then next.0 next.2 in (Contains-append_right (read.objects.name ∷ log_files read) (order_file read) n found.0, found.1)
       ]
 
     lost_of : (words : SourceWords) (read : ReadWords) → words_of read ≡ words → AreRead told old new words read → Unreads (input_of read) → Found (files_of words)

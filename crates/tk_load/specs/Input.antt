@@ -16,6 +16,7 @@ use Rattle.tk_load.specs.Faults.Fault.{Bad, Unread}
 use Rattle.tk_window.specs.TickEnds.{Sources, ends_by_monitor, parts_in}
 use Rattle.tk_window.specs.Ticks.{ticked_of}
 use Rattle.tk_window.specs.Window.{Expansion, expanded_of}
+use Rattle.tk_load.specs.declared.basis.Basis.{Basis}
 use Rattle.tk_load.specs.declared.changes.Together.{Together}
 use Rattle.tk_load.specs.declared.input.Input.{Input}
 use Rattle.tk_load.specs.declared.settings.Limits.{Limits}
@@ -148,13 +149,23 @@ abbrev pub order_in : Setup → Option File → Result (Option Ordered) Fault
 order_in s None = Ok None
 order_in s (Some file) = after (order_from s file) (λ order. Ok (Some order))
 
--- the input of words whose files are read, or the first rule that fails: the objects, the settings, the width, each log,
--- the logs together, the order
-abbrev pub input_of : ReadWords → Result Input Fault
-input_of words =
+-- what stands in front of the order, or the first rule that fails: the objects, the settings, the width, each log, the
+-- logs together
+abbrev pub basis_of : ReadWords → Result Basis Fault
+basis_of words =
     after (names_in words.objects) (λ names.
     after (limits_in words.k words.epsilon words.own_weight words.width (length names) (greatest_monitor words.logs)) (λ limits.
     after (logs_in limits.width names words.logs) (λ logs.
     after (together limits.width logs (length names)) (λ all.
-    after (order_in limits.settings words.order) (λ order.
-    Ok (record { names = names; settings = limits.settings; logs = all.logs; ends = all.ends; order = order }))))))
+    Ok (record { names = names; settings = limits.settings; logs = all.logs; ends = all.ends })))))
+
+-- the same with an order
+abbrev pub input_with : Basis → Option Ordered → Input
+input_with basis order = record { names = basis.names; settings = basis.settings; logs = basis.logs; ends = basis.ends; order = order }
+
+-- the input of words whose files are read, or the first rule that fails: what stands in front of the order, the order
+abbrev pub input_of : ReadWords → Result Input Fault
+input_of words =
+    after (basis_of words) (λ basis.
+    after (order_in basis.settings words.order) (λ order.
+    Ok (input_with basis order)))

@@ -1,7 +1,9 @@
 pub mod Faults
 pub mod Generated
 pub mod Input
+pub mod MultiInput
 pub mod Reads
+pub mod SessionInput
 pub mod Status
 pub mod Told
 pub mod Whole

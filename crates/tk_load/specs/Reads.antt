@@ -4,7 +4,8 @@ use Rattle.tk_input.specs.Files.{HasRisen}
 use Rattle.tk_words.specs.Words.{SourceWords}
 use Rattle.tk_load.specs.Faults.{Fault}
 use Rattle.tk_load.specs.Faults.Fault.{Bad, Great, Unread}
-use Rattle.tk_load.specs.Input.{File, ReadWords, input_of}
+use Rattle.tk_load.specs.Input.{File, ReadWords, basis_of, input_of}
+use Rattle.tk_load.specs.declared.basis.Basis.{Basis}
 use Rattle.tk_load.specs.declared.input.Input.{Input}
 use Rattle.tk_load.specs.declared.status.Status.{Status}
 use Rattle.tk_load.specs.declared.status.Status.TheVariants as s
@@ -75,11 +76,22 @@ pub record Reads {A V : Type 0} (told : List ℕ → Option (List ℕ)) (old new
   pub read : IsRead told old new (record { name = name; content = content })
   pub meets : Meets view (meant (record { name = name; content = content })) answer
 
--- the files of the words were read, and the answer is their input, or the first rule that fails
-pub record Loads (told : List ℕ → Option (List ℕ)) (old new : List ℕ → ℕ) (words : SourceWords) (answer : Result Input Status) : Type 0 where
+-- the files of the words were read, and the answer is what is meant by them, or the first rule that fails
+pub record LoadsBy {A : Type 0} (meant : ReadWords → Result A Fault) (told : List ℕ → Option (List ℕ)) (old new : List ℕ → ℕ) (words : SourceWords) (answer : Result A Status) : Type 0 where
   pub read : ReadWords
   pub are_read : AreRead told old new words read
-  pub meets : Meets (λ input. input) (input_of read) answer
+  pub meets : Meets (λ input. input) (meant read) answer
+
+-- the same of an input
+abbrev pub Loads : (List ℕ → Option (List ℕ)) → (List ℕ → ℕ) → (List ℕ → ℕ) → SourceWords → Result Input Status → Type 0
+Loads = LoadsBy input_of
+
+-- the words without their order, and the same of what stands in front of one
+abbrev pub without_order : SourceWords → SourceWords
+without_order words = record words { order = None }
+
+abbrev pub LoadsBasis : (List ℕ → Option (List ℕ)) → (List ℕ → ℕ) → (List ℕ → ℕ) → SourceWords → Result Basis Status → Type 0
+LoadsBasis told old new words = LoadsBy basis_of told old new (without_order words)
 
 -- logs were read one after the other, and what they give is answered
 pub record ReadsLogs {A V : Type 0} (told : List ℕ → Option (List ℕ)) (old new : List ℕ → ℕ) (names : List (ℕ × List ℕ)) (view : A → V) (meant : List (ℕ × File) → Result V Fault) (answer : Result A Status) : Type 0 where

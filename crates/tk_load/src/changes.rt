@@ -151,6 +151,19 @@ fn ends_of(
     }
 }
 
+/// The logs of all monitors, of what was read.
+pub fn logs_from(alloc: Global, logs: &[(Mon, Expanded)], objects: u32) -> Result<Logs, Status>
+    requires monitors { All (λ l. (1 ≤ l.0.0) × (l.0.0 ≤ 64)) logs.now }
+    requires objects { All (λ l. AreOver objects l.1.part) logs.now }
+    requires lengths { All (λ l. length l.1.part ≤ 1000000) logs.now }
+    ensures objects { IfOk result (λ s. s.objects ≡ objects) }
+    ensures monitors { IfOk result (λ s. length s.logs ≡ last_source (sources_of logs.now)) }
+    ensures meets { Meets (λ s. s) (joined (parts_in (sources_of logs.now)) objects) result }
+{
+    let parts = parts_from(alloc, logs)?;
+    logs_of(alloc, parts, objects)
+}
+
 /// The logs of all monitors, and where their ticks end.
 pub fn join(
     alloc: Global,
@@ -165,8 +178,7 @@ pub fn join(
     ensures monitors { IfOk result (λ t. length t.logs.logs ≡ last_source (sources_of logs.now)) }
     ensures meets { Meets (λ t. t) (together width (sources_of logs.now) objects) result }
 {
-    let parts = parts_from(alloc, logs)?;
-    let all = match logs_of(alloc, parts, objects) {
+    let all = match logs_from(alloc, logs, objects) {
         Ok(all) => all,
         Err(status) => return Err(status),
     };

@@ -6,13 +6,16 @@
 //! on tk_input and tk_words, and knows no story. Of a file that does not tell its content, the content is some bytes.
 #![tactic(auto)]
 
+mod basis;
 mod changes;
 mod generate;
 mod input;
 mod laws;
 mod making;
+mod multi;
 mod reading;
 mod retunes;
+mod sessions;
 mod settings;
 mod status;
 mod telling;
@@ -20,5 +23,7 @@ mod telling;
 pub use generate::make;
 pub use input::{Input, load};
 pub use laws::{an_unreadable_file_is_counted, what_is_told_is_meant};
+pub use multi::{MultiInput, load_multi};
+pub use sessions::{SessionInput, load_sessions};
 pub use status::{InputKind, Status};
 pub use telling::fault_line;

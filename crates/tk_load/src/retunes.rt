@@ -10,7 +10,7 @@ use tk_base::Settings;
 use tk_input::{Event, Files, Order};
 
 /// What is wrong with the k and epsilon that an event asks for, under these settings.
-fn retune_fault(settings: &Settings, event: &Event) -> Option<InputKind>
+pub fn retune_fault(settings: &Settings, event: &Event) -> Option<InputKind>
     ensures { result ≡ retune_kind settings.now event.now }
 {
     let Event::Retune(retuning) = event else {

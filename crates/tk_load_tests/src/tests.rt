@@ -5,7 +5,7 @@ use std::test::Fail;
 use tk_base::Mon;
 use tk_frames::Frame;
 use tk_input::MapFiles;
-use tk_load::{Status, fault_line, load, make};
+use tk_load::{Status, fault_line, load, load_multi, load_sessions, make};
 use tk_story::{Direction, Received};
 use tk_words::{Command, WordsFault, read};
 
@@ -30,22 +30,29 @@ const FILES: [(&str, &str); 18] = [
     ("both.txt", "retune 0 0\nraise\n"),
 ];
 
+fn status_of<I: Drop>(outcome: Result<I, Status>) -> Status {
+    match outcome {
+        Ok(_input) => Status::Done,
+        Err(status) => status,
+    }
+}
+
 /// What is told of these words, which spaces part.
 fn told_of(alloc: Global, words: &str, files: &mut MapFiles) -> Result<Vec<u8>, Fail> {
     let mut list = Vec::new(alloc);
     for word in words.split_whitespace() {
         list.push(String::from_str(alloc, word)?)?;
     }
-    let outcome = match read(alloc, list.as_slice()) {
-        Ok(Command::Replay(words)) => load(alloc, &words.sources, files),
-        Ok(Command::Generate(words)) => make(alloc, &words),
-        Ok(Command::Live(words)) => load(alloc, &words.sources, files),
-        Err(WordsFault::Usage) => Err(Status::Usage),
-        Err(WordsFault::NoMemory) => Err(Status::NoMemory),
-    };
-    let status = match outcome {
-        Ok(_input) => Status::Done,
-        Err(status) => status,
+    let status = match read(alloc, list.as_slice()) {
+        Ok(Command::Replay(words)) => status_of(load(alloc, &words.sources, files)),
+        Ok(Command::Generate(words)) => status_of(make(alloc, &words)),
+        Ok(Command::Live(words)) => status_of(load(alloc, &words.sources, files)),
+        Ok(Command::Multi(words)) => status_of(load_multi(alloc, &words, files)),
+        Ok(Command::Sessions(words)) => status_of(load_sessions(alloc, &words, files)),
+        Ok(Command::Trace(words)) => status_of(load(alloc, &words.sources, files)),
+        Ok(Command::Check(_)) => Status::Usage,
+        Err(WordsFault::Usage) => Status::Usage,
+        Err(WordsFault::NoMemory) => Status::NoMemory,
     };
     Ok(fault_line(alloc, &status)?)
 }
@@ -323,26 +330,41 @@ fn what_is_too_long_is_told(rt: HostRuntime) -> Result<(), Fail> {
     list.push((String::from_str(alloc, "most.csv")?, changes.clone()?))?;
     changes.extend_from_slice(b"a,1\n")?;
     list.push((String::from_str(alloc, "more.csv")?, changes))?;
+    let restarts = b"retune 0 0\nrestart\nrestart\nrestart\nrestart\n".to_vec(alloc)?;
+    list.push((String::from_str(alloc, "five.txt")?, restarts))?;
     let long = vec![in alloc; b'a'; 67_108_865]?;
     list.push((String::from_str(alloc, "long.csv")?, long))?;
     let mut files = MapFiles::new(alloc, list, Vec::new(alloc));
     let rows = [
         (
+            "replay",
             "long.csv 1=most.csv",
             "topk: long.csv: the file is too long",
         ),
-        ("a.csv 1=more.csv", "topk: more.csv: too many records"),
         (
+            "replay",
+            "a.csv 1=more.csv",
+            "topk: more.csv: too many records",
+        ),
+        (
+            "replay",
             "a.csv 1=most.csv 1=most.csv 1=most.csv 2=most.csv 3=more.csv",
             "topk: more.csv: too many records",
         ),
         (
+            "replay",
             "a.csv 1=most.csv 1=most.csv 1=most.csv 2=most.csv 3=most.csv",
             "topk: most.csv: too many changes",
         ),
+        // five sessions; the retune past the limits comes after their count
+        (
+            "sessions",
+            "a.csv --order five.txt 1=most.csv",
+            "topk: five.txt: too many changes",
+        ),
     ];
-    for (words, line) in rows {
-        let words = format!(in alloc; "replay --k 1 --epsilon 0 --objects {words}")?;
+    for (command, words, line) in rows {
+        let words = format!(in alloc; "{command} --k 1 --epsilon 0 --objects {words}")?;
         let told = told_of(alloc, words.as_str(), &mut files)?;
         assert_eq!(rt; told.as_slice(), line.as_bytes(), "{words}");
     }

@@ -3,12 +3,9 @@ use Rattle.std.proofs.Common.{◌≡◌, ℕ, List, Option, Result, Ok, Err, ref
 use Rattle.tk_input.specs.Sink.{Grows, GrowsByFront}
 use Rattle.tk_load.specs.Faults.{Fault}
 use Rattle.tk_load.specs.Reads.{Tells}
-use Rattle.tk_load.specs.declared.input.Input.{Input}
 use Rattle.tk_load.specs.declared.status.Status.{Status}
 use Rattle.tk_load.specs.declared.status.Status.TheVariants as s
-use Rattle.tk_story.specs.Kept.{KeptStory}
-use Rattle.tk_story.specs.Story.{StoryView}
-use Rattle.tk_run.specs.Ends.{Ends, HasRun, IsCutShort, IsStoryOf}
+use Rattle.tk_run.specs.Ends.{Ends, HasRun, IsCutShort}
 
 -- a status that tells a fault of the input is not that of a run, nor of its output
 pub not_done : {V : Type 0} (status : Status) (meant : Result V Fault) → Tells status meant → status ≡ s.Done → ⊥
@@ -17,9 +14,9 @@ not_done status meant tells is = subst (λ (status : Status). Tells status meant
 pub not_written : {V : Type 0} (status : Status) (meant : Result V Fault) → Tells status meant → status ≡ s.WriteFault → ⊥
 not_written status meant tells is = subst (λ (status : Status). Tells status meant) is tells
 
-module _ (gives : Result Input Status → Type 0) (text : Input → StoryView → List ℕ) where
+module _ {I S : Type 0} (gives : Result I Status → Type 0) (IsOf : I → S → Type 0) (text : I → S → List ℕ) where
   -- where there is no input, nothing is written
-  pub refused : {V : Type 0} (old : Option (List ℕ)) (status : Status) (meant : Result V Fault) → Tells status meant → gives (Err status) → Ends gives text old old status
+  pub refused : {V : Type 0} (old : Option (List ℕ)) (status : Status) (meant : Result V Fault) → Tells status meant → gives (Err status) → Ends gives IsOf text old old status
   refused old (s.ReadFault file) meant tells given = (given, refl)
   refused old (s.BadInput file line kind) meant tells given = (given, refl)
   refused old (s.TooGreat mon obj) meant tells given = (given, refl)
@@ -30,9 +27,9 @@ module _ (gives : Result Input Status → Type 0) (text : Input → StoryView �
   refused old s.LinkFault meant tells given = absurd tells
   refused old (s.LinkDiffers mon direction place sent received) meant tells given = absurd tells
 
-  module _ (old new : Option (List ℕ)) (input : Input) (given : gives (Ok input)) (kept : KeptStory) (story : IsStoryOf input kept) (bytes : List ℕ) (same : bytes ≡ text input kept.story) where
-    pub has_run : Grows old new bytes → HasRun gives text old new kept
+  module _ (old new : Option (List ℕ)) (input : I) (given : gives (Ok input)) (made : S) (story : IsOf input made) (bytes : List ℕ) (same : bytes ≡ text input made) where
+    pub has_run : Grows old new bytes → HasRun gives IsOf text old new made
     has_run grows = record { input = input; given = given; story = story; written = subst (λ (b : List ℕ). Grows old new b) same grows }
 
-    pub cut_short : GrowsByFront old new bytes → IsCutShort gives text old new
-    cut_short grows = record { input = input; given = given; kept = kept; story = story; written = subst (λ (b : List ℕ). GrowsByFront old new b) same grows }
+    pub cut_short : GrowsByFront old new bytes → IsCutShort gives IsOf text old new
+    cut_short grows = record { input = input; given = given; made = made; story = story; written = subst (λ (b : List ℕ). GrowsByFront old new b) same grows }

@@ -9,7 +9,7 @@ use Rattle.tk_load.specs.declared.input.Input.{Input}
 use Rattle.tk_load.specs.declared.status.Status.{Status}
 use Rattle.tk_load.specs.declared.status.Status.TheVariants as s
 use Rattle.tk_load.proofs.ToldLemmas.{meant_as_told}
-use Rattle.tk_run.specs.Ends.{Ends, EndsWords, Gives, IsDone, IsRefused, text_by}
+use Rattle.tk_run.specs.Ends.{Ends, EndsAsked, EndsWords, IsDone, IsRefused, IsStoryOf, replay_text}
 
 module _ (words : List (List ℕ)) (asked : ReplayWords) (told : List ℕ → Option (List ℕ)) (old new : List ℕ → ℕ) (before after : Option (List ℕ)) (understood : words_of words ≡ Some (Replays asked)) where
   not_refused : (status : Status) → IsRefused words status → IsDone status
@@ -36,7 +36,7 @@ module _ (words : List (List ℕ)) (asked : ReplayWords) (told : List ℕ → Op
     no_fault (s.LinkDiffers mon direction place sent received) loads =
         absurd (meant_as_told told old new contents asked.sources (Err (s.LinkDiffers mon direction place sent received)) are loads)
 
-    ended : (status : Status) → (status ≡ s.WriteFault → ⊥) → Ends (Loads told old new asked.sources) (text_by (Replays asked)) before after status → IsDone status
+    ended : (status : Status) → (status ≡ s.WriteFault → ⊥) → Ends (Loads told old new asked.sources) IsStoryOf replay_text before after status → IsDone status
     ended (s.ReadFault file) written ends = no_fault (s.ReadFault file) ends.0
     ended (s.BadInput file line kind) written ends = no_fault (s.BadInput file line kind) ends.0
     ended (s.TooGreat mon obj) written ends = no_fault (s.TooGreat mon obj) ends.0
@@ -51,4 +51,4 @@ module _ (words : List (List ℕ)) (asked : ReplayWords) (told : List ℕ → Op
     input_is_run status written (inl refused) = not_refused status refused.0
     input_is_run status written (inr ends) =
         let same : ends.asked ≡ Replays asked = let found = ends.understood in cc (found, understood) in
-        ended status written (subst (λ (a : Asked). Ends (Gives a told old new) (text_by a) before after status) same ends.ends)
+        ended status written (subst (λ (a : Asked). EndsAsked a told old new before after status) same ends.ends)

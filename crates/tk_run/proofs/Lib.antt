@@ -1,5 +1,7 @@
 mod EndsLemmas
 mod InputLemmas
+mod MultiLemmas
 mod OnceLemmas
 mod OverLemmas
+mod SessionsLemmas
 mod StartLemmas

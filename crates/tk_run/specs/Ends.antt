@@ -5,9 +5,11 @@ use Rattle.tk_input.specs.Order.{Ordered}
 use Rattle.tk_input.specs.Sink.{Grows, GrowsByFront}
 use Rattle.tk_input.specs.declared.event.Event.{Event}
 use Rattle.tk_words.specs.Words.{Asked, words_of}
-use Rattle.tk_words.specs.Words.Asked.{Generates, Lives, Replays}
+use Rattle.tk_words.specs.Words.Asked.{Checks, Generates, Lives, Queries, Replays, Restarts, Traces}
 use Rattle.tk_load.specs.Generated.{generated_of}
+use Rattle.tk_load.specs.MultiInput.{LoadsMulti}
 use Rattle.tk_load.specs.Reads.{Loads, Meets}
+use Rattle.tk_load.specs.SessionInput.{LoadsSessions}
 use Rattle.tk_load.specs.declared.input.Input.{Input}
 use Rattle.tk_load.specs.declared.status.Status.{Status}
 use Rattle.tk_load.specs.declared.status.Status.TheVariants as s
@@ -17,6 +19,8 @@ use Rattle.tk_world.specs.Events.{begin}
 use Rattle.tk_drain.specs.Drive.{Drives}
 use Rattle.tk_drain.specs.Resting.{RunsFrom}
 use Rattle.tk_ledger.specs.Text.{summary_of, text_of, ticked_text_of}
+use Rattle.tk_run.specs.Multi.{AreAnswersOf, multi_text}
+use Rattle.tk_run.specs.Sessions.{AreStoriesOf, sessions_text}
 
 -- ---- the story of an input
 
@@ -46,75 +50,99 @@ abbrev pub text_with : Option (List (List (List ℕ))) → List (List ℕ) → S
 text_with None = text_of
 text_with (Some ends) = ticked_text_of ends
 
-abbrev pub replay_text : Input → StoryView → List ℕ
-replay_text input = text_with input.ends input.names
+abbrev pub replay_text : Input → KeptStory → List ℕ
+replay_text input kept = text_with input.ends input.names kept.story
 
 -- the summary of it
-abbrev pub summary_text : Input → StoryView → List ℕ
-summary_text input = summary_of input.names
+abbrev pub summary_text : Input → KeptStory → List ℕ
+summary_text input kept = summary_of input.names kept.story
 
--- ---- how a run ends, by what gives its input and what its text is
+-- ---- how a run ends, by what gives its input, what was made of it, and what the text of that is
 
--- a run that is done: there is an input, the story is that of the input, and its text was written, where that is told
-pub record HasRun (gives : Result Input Status → Type 0) (text : Input → StoryView → List ℕ) (before after : Option (List ℕ)) (kept : KeptStory) : Type 0 where
-  pub input : Input
+-- a run that is done: there is an input, what was made is of the input, and its text was written, where that is told
+pub record HasRun {I S : Type 0} (gives : Result I Status → Type 0) (IsOf : I → S → Type 0) (text : I → S → List ℕ) (before after : Option (List ℕ)) (made : S) : Type 0 where
+  pub input : I
   pub given : gives (Ok input)
-  pub story : IsStoryOf input kept
-  pub written : Grows before after (text input kept.story)
+  pub story : IsOf input made
+  pub written : Grows before after (text input made)
 
--- a run that was cut short in writing: a front of the text of the input's story was written
-pub record IsCutShort (gives : Result Input Status → Type 0) (text : Input → StoryView → List ℕ) (before after : Option (List ℕ)) : Type 0 where
-  pub input : Input
+-- a run that was cut short in writing: a front of the text of what was made of the input was written
+pub record IsCutShort {I S : Type 0} (gives : Result I Status → Type 0) (IsOf : I → S → Type 0) (text : I → S → List ℕ) (before after : Option (List ℕ)) : Type 0 where
+  pub input : I
   pub given : gives (Ok input)
-  pub kept : KeptStory
-  pub story : IsStoryOf input kept
-  pub written : GrowsByFront before after (text input kept.story)
+  pub made : S
+  pub story : IsOf input made
+  pub written : GrowsByFront before after (text input made)
 
 -- what a status tells: of a run that is done see above; where there is no input it is the fault that there is, and
 -- nothing was written; where writing failed the run was cut short; want of memory is free, but nothing else was written
-abbrev pub Ends : (Result Input Status → Type 0) → (Input → StoryView → List ℕ) → Option (List ℕ) → Option (List ℕ) → Status → Type 0
-Ends gives text before after s.Done = Unit
-Ends gives text before after s.Usage = ⊥
-Ends gives text before after (s.ReadFault file) = gives (Err (s.ReadFault file)) × (after ≡ before)
-Ends gives text before after (s.BadInput file line kind) = gives (Err (s.BadInput file line kind)) × (after ≡ before)
-Ends gives text before after (s.TooGreat mon obj) = gives (Err (s.TooGreat mon obj)) × (after ≡ before)
-Ends gives text before after s.WriteFault = IsCutShort gives text before after
-Ends gives text before after s.NoMemory = (after ≡ before) ⊎ IsCutShort gives text before after
-Ends gives text before after s.LinkFault = ⊥
-Ends gives text before after (s.LinkDiffers mon direction place sent received) = ⊥
+abbrev pub Ends : {I S : Type 0} → (Result I Status → Type 0) → (I → S → Type 0) → (I → S → List ℕ) → Option (List ℕ) → Option (List ℕ) → Status → Type 0
+Ends gives IsOf text before after s.Done = Unit
+Ends gives IsOf text before after s.Usage = ⊥
+Ends gives IsOf text before after (s.ReadFault file) = gives (Err (s.ReadFault file)) × (after ≡ before)
+Ends gives IsOf text before after (s.BadInput file line kind) = gives (Err (s.BadInput file line kind)) × (after ≡ before)
+Ends gives IsOf text before after (s.TooGreat mon obj) = gives (Err (s.TooGreat mon obj)) × (after ≡ before)
+Ends gives IsOf text before after s.WriteFault = IsCutShort gives IsOf text before after
+Ends gives IsOf text before after s.NoMemory = (after ≡ before) ⊎ IsCutShort gives IsOf text before after
+Ends gives IsOf text before after s.LinkFault = ⊥
+Ends gives IsOf text before after (s.LinkDiffers mon direction place sent received) = ⊥
 
 -- ---- of the words of a command
 
--- what words ask of `run`, which serves replays and generated runs
+-- what words ask of `run`, which serves all but live runs
 abbrev pub served : Option Asked → Option Asked
 served None = None
 served (Some (Replays words)) = Some (Replays words)
 served (Some (Generates words)) = Some (Generates words)
 served (Some (Lives words)) = None
+served (Some (Queries words)) = Some (Queries words)
+served (Some (Restarts words)) = Some (Restarts words)
+served (Some (Traces words)) = None
+served (Some (Checks file)) = None
 
--- what gives the input: a generated run reads no file, and a live run is not served
-abbrev pub Gives : Asked → (List ℕ → Option (List ℕ)) → (List ℕ → ℕ) → (List ℕ → ℕ) → Result Input Status → Type 0
-Gives (Replays words) told old new answer = Loads told old new words.sources answer
-Gives (Generates words) told old new answer = Meets (λ input. input) (generated_of words) answer
-Gives (Lives words) told old new answer = ⊥
+-- one story was made, of which this holds
+pub record IsOne (Holds : KeptStory → Type 0) (story : Option KeptStory) (stories : List KeptStory) : Type 0 where
+  pub kept : KeptStory
+  pub is : story ≡ Some kept
+  pub alone : stories ≡ []
+  pub holds : Holds kept
 
--- a replay prints the whole text, as a live run does, a generated run its summary
-abbrev pub text_by : Asked → Input → StoryView → List ℕ
-text_by (Replays words) = replay_text
-text_by (Generates words) = summary_text
-text_by (Lives words) = replay_text
+-- several stories were made, of which this holds
+pub record AreSeveral (Holds : List KeptStory → Type 0) (story : Option KeptStory) (stories : List KeptStory) : Type 0 where
+  pub none : story ≡ None
+  pub holds : Holds stories
+
+-- what has run for what words ask: a generated run reads no file, and a live run is not served
+abbrev pub RunsAsked : Asked → (List ℕ → Option (List ℕ)) → (List ℕ → ℕ) → (List ℕ → ℕ) → Option (List ℕ) → Option (List ℕ) → Option KeptStory → List KeptStory → Type 0
+RunsAsked (Replays words) told old new before after = IsOne (HasRun (Loads told old new words.sources) IsStoryOf replay_text before after)
+RunsAsked (Generates words) told old new before after = IsOne (HasRun (Meets (λ input. input) (generated_of words)) IsStoryOf summary_text before after)
+RunsAsked (Lives words) told old new before after = λ story stories. ⊥
+RunsAsked (Queries words) told old new before after = AreSeveral (HasRun (LoadsMulti told old new words) AreAnswersOf multi_text before after)
+RunsAsked (Restarts words) told old new before after = AreSeveral (HasRun (LoadsSessions told old new words) AreStoriesOf sessions_text before after)
+RunsAsked (Traces words) told old new before after = λ story stories. ⊥
+RunsAsked (Checks file) told old new before after = λ story stories. ⊥
+
+-- how what words ask for has ended
+abbrev pub EndsAsked : Asked → (List ℕ → Option (List ℕ)) → (List ℕ → ℕ) → (List ℕ → ℕ) → Option (List ℕ) → Option (List ℕ) → Status → Type 0
+EndsAsked (Replays words) told old new before after = Ends (Loads told old new words.sources) IsStoryOf replay_text before after
+EndsAsked (Generates words) told old new before after = Ends (Meets (λ input. input) (generated_of words)) IsStoryOf summary_text before after
+EndsAsked (Lives words) told old new before after = λ status. ⊥
+EndsAsked (Queries words) told old new before after = Ends (LoadsMulti told old new words) AreAnswersOf multi_text before after
+EndsAsked (Restarts words) told old new before after = Ends (LoadsSessions told old new words) AreStoriesOf sessions_text before after
+EndsAsked (Traces words) told old new before after = λ status. ⊥
+EndsAsked (Checks file) told old new before after = λ status. ⊥
 
 -- the words are understood, and what they ask for has run
-pub record RunsWords (words : List (List ℕ)) (told : List ℕ → Option (List ℕ)) (old new : List ℕ → ℕ) (before after : Option (List ℕ)) (kept : KeptStory) : Type 0 where
+pub record RunsWords (words : List (List ℕ)) (told : List ℕ → Option (List ℕ)) (old new : List ℕ → ℕ) (before after : Option (List ℕ)) (story : Option KeptStory) (stories : List KeptStory) : Type 0 where
   pub asked : Asked
   pub understood : served (words_of words) ≡ Some asked
-  pub ran : HasRun (Gives asked told old new) (text_by asked) before after kept
+  pub ran : RunsAsked asked told old new before after story stories
 
 -- the words are understood, and what they ask for has ended so
-pub record EndsAsked (words : List (List ℕ)) (told : List ℕ → Option (List ℕ)) (old new : List ℕ → ℕ) (before after : Option (List ℕ)) (status : Status) : Type 0 where
+pub record EndsUnderstood (words : List (List ℕ)) (told : List ℕ → Option (List ℕ)) (old new : List ℕ → ℕ) (before after : Option (List ℕ)) (status : Status) : Type 0 where
   pub asked : Asked
   pub understood : served (words_of words) ≡ Some asked
-  pub ends : Ends (Gives asked told old new) (text_by asked) before after status
+  pub ends : EndsAsked asked told old new before after status
 
 -- the words are not understood, or no memory was found for them
 abbrev pub IsRefused : List (List ℕ) → Status → Type 0
@@ -130,7 +158,7 @@ IsRefused words (s.LinkDiffers mon direction place sent received) = ⊥
 
 -- how words end
 abbrev pub EndsWords : List (List ℕ) → (List ℕ → Option (List ℕ)) → (List ℕ → ℕ) → (List ℕ → ℕ) → Option (List ℕ) → Option (List ℕ) → Status → Type 0
-EndsWords words told old new before after status = (IsRefused words status × (after ≡ before)) ⊎ EndsAsked words told old new before after status
+EndsWords words told old new before after status = (IsRefused words status × (after ≡ before)) ⊎ EndsUnderstood words told old new before after status
 
 -- a run is done, or no memory was found
 abbrev pub IsDone : Status → Type 0

@@ -24,6 +24,16 @@ NeverGoBack s =
 abbrev pub AreNumbered : List Publication → Type 0
 AreNumbered all = map (λ p. p.number) all ≡ range_with_len 1 (length all)
 
+-- a run that goes on or was ended by a restart: wherever all links are empty, no round is open and nothing is broken, the
+-- members are valid; each published set is valid at its cut; they are numbered and never go back; and what each node kept
+-- is legal, with ordered links
+pub record IsSoundSoFar (s : StoryView) : Type 0 where
+  pub quiet : (t : StoryView) → IsMoment t s → IsQuiet t → AreMembersValid t
+  pub published : ArePublishedValid s
+  pub numbered : AreNumbered (publications s.journal)
+  pub forward : NeverGoBack s
+  pub legal : IsStory s
+
 -- a finished run: wherever all links are empty, no round is open and nothing is broken, the members are valid; each
 -- published set is valid at its cut; the last one is final, at the full cut, and it alone; they are numbered and never
 -- go back; and what each node kept is legal, with ordered links

@@ -1,2 +1,5 @@
 pub mod Ends
 pub mod Headline
+pub mod Multi
+pub mod Outcome
+pub mod Sessions

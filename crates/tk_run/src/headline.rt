@@ -3,11 +3,13 @@ ghost use Rattle.std.specs.Prelude.{◌≡◌, ℕ, List, Ok, Option, Some};
 ghost use Rattle.tk_load.specs.Input.{input_of};
 ghost use Rattle.tk_load.specs.Told.{AreTold, read_by};
 ghost use Rattle.tk_load.specs.declared.input.Input.{Input};
+ghost use Rattle.tk_load.specs.declared.sessions.SessionInput.{SessionInput};
 ghost use Rattle.tk_load.specs.declared.status.Status.{Status};
 ghost use Rattle.tk_load.specs.declared.status.Status.TheVariants.{WriteFault as NotWritten};
 ghost use Rattle.tk_run.specs.Ends.{EndsWords, IsDone, IsStoryOf};
 ghost use Rattle.tk_story.specs.Kept.{KeptStory};
-ghost use Rattle.tk_run.specs.Headline.{IsSound};
+ghost use Rattle.tk_run.specs.Headline.{IsSound, IsSoundSoFar};
+ghost use Rattle.tk_run.specs.Sessions.{AreSound, AreStoriesOf};
 ghost use Rattle.tk_story.specs.Moments.{IsOver};
 ghost use Rattle.tk_story.specs.Story.{IsStory, StoryView};
 ghost use Rattle.tk_words.specs.Words.{ReplayWords, words_of};
@@ -16,6 +18,7 @@ ghost use Rattle.tk_words.specs.Words.Asked.{Replays};
 use tk_journal::{
     a_start_is_set_up, publications_are_numbered, publications_never_go_back, stop_ends_the_journal,
 };
+use tk_session::each_session_is_legal;
 use tk_story::{a_moment_is_a_story, published_is_valid, quiet_is_valid};
 
 /// A legal story that is over, whatever events made it.
@@ -29,6 +32,26 @@ pub fn a_finished_run_is_sound()
     stop_ends_the_journal();
     publications_are_numbered();
     publications_never_go_back();
+}
+
+/// A legal story, wherever it stands.
+pub fn a_story_is_sound_so_far()
+    ensures { (s : StoryView) → IsStory s → IsSoundSoFar s }
+{
+    a_moment_is_a_story();
+    quiet_is_valid();
+    published_is_valid();
+    publications_are_numbered();
+    publications_never_go_back();
+}
+
+/// Each session of an input is sound as far as it went, and the last one is finished.
+pub fn sessions_are_sound()
+    ensures { (input : SessionInput) (stories : List KeptStory) → AreStoriesOf input stories → AreSound stories }
+{
+    each_session_is_legal();
+    a_story_is_sound_so_far();
+    a_finished_run_is_sound();
 }
 
 /// An input has one story, so its text is one text.

@@ -8,13 +8,19 @@
 
 mod generated;
 mod headline;
+mod multi;
 mod outcome;
 mod playing;
 mod replay;
 mod serving;
+mod sessions;
 mod start;
+mod titled;
 
-pub use headline::{a_finished_run_is_sound, an_input_has_one_story, an_input_is_run};
+pub use headline::{
+    a_finished_run_is_sound, a_story_is_sound_so_far, an_input_has_one_story, an_input_is_run,
+    sessions_are_sound,
+};
 pub use outcome::Outcome;
 pub use serving::run;
 pub use start::start_of;

@@ -1,23 +1,55 @@
-ghost use Rattle.std.specs.Prelude.{◌≡◌, None};
+ghost use Rattle.std.specs.Prelude.{◌≡◌, [], None, Some};
+ghost use Rattle.tk_run.specs.Outcome.{IsWithout};
+ghost use Rattle.tk_load.specs.declared.status.Status.TheVariants.{Done};
 
+use std::alloc::Global;
 use tk_load::Status;
 use tk_story::Story;
 
-/// How a run ended, and its story exactly where it is done.
+/// How a run ended. Where it is done it has its story, or for a command of several stories all of them in order.
 #[derive(Drop)]
 pub struct Outcome {
     pub status: Status,
     pub story: Option<Story>,
+    pub stories: Vec<Story>,
 }
 
 impl Outcome {
     /// A run that ended without a story.
-    pub(crate) fn ended(status: Status) -> Outcome
-        ensures { result ≡ record { status = status; story = None } }
+    pub(crate) fn ended(alloc: Global, status: Status) -> Outcome
+        ensures status { result.status ≡ status }
+        ensures none { IsWithout result }
     {
         Outcome {
             status,
             story: None,
+            stories: Vec::new(alloc),
+        }
+    }
+
+    /// A run that is done, with its one story.
+    pub(crate) fn done(alloc: Global, story: Story) -> Outcome
+        ensures status { result.status ≡ Done }
+        ensures story { result.story ≡ Some story }
+        ensures alone { result.stories.items ≡ [] }
+    {
+        Outcome {
+            status: Status::Done,
+            story: Some(story),
+            stories: Vec::new(alloc),
+        }
+    }
+
+    /// A run that is done, with its stories.
+    pub(crate) fn several(stories: Vec<Story>) -> Outcome
+        ensures status { result.status ≡ Done }
+        ensures story { result.story ≡ None }
+        ensures stories { result.stories.items ≡ stories.items }
+    {
+        Outcome {
+            status: Status::Done,
+            story: None,
+            stories,
         }
     }
 

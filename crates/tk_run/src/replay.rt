@@ -1,9 +1,10 @@
-ghost use Rattle.std.specs.Prelude.{◌≡◌, ◌↔◌, IfSome, IsErrOf, IsSome, OnErr, OnOk, length};
+ghost use Rattle.std.specs.Prelude.{◌≡◌, IfSome, IsErrOf, OnErr, OnOk, length};
 ghost use Rattle.tk_input.specs.Files.{HasRisen};
 ghost use Rattle.tk_input.specs.Sink.{Grows, GrowsByFront};
 ghost use Rattle.tk_load.specs.Reads.{Loads};
 ghost use Rattle.tk_load.specs.declared.status.Status.TheVariants.{Done, WriteFault as NotWritten};
-ghost use Rattle.tk_run.specs.Ends.{Ends, HasRun, replay_text, text_with};
+ghost use Rattle.tk_run.specs.Ends.{Ends, HasRun, IsOne, IsStoryOf, replay_text, text_with};
+ghost use Rattle.tk_run.specs.Outcome.{IsWithout};
 ghost use Rattle.tk_run.specs.Headline.{IsSound};
 ghost use Rattle.tk_words.specs.Asked.{AreOfMonitors, IsCarriage, asked_sources};
 
@@ -45,27 +46,24 @@ pub fn replay<F: Files, O: Sink>(
 ) -> Outcome
     requires monitors { AreOfMonitors words.now.sources.logs.items }
     requires carriage { IsCarriage words.now.carriage }
-    ensures done { IsSome result.story ↔ (result.status ≡ Done) }
-    ensures sound { IfSome result.story (λ s. IsSound s.story) }
     ensures ran { let gives = Loads (F.content files.old) (F.fault_count files.old) (F.fault_count files.new) (asked_sources words.now.sources) in
-        IfSome result.story (HasRun gives replay_text (O.written out.old) (O.written out.new)) }
+        result.status ≡ Done → IsOne (HasRun gives IsStoryOf replay_text (O.written out.old) (O.written out.new)) result.story result.stories.items }
+    ensures sound { IfSome result.story (λ s. IsSound s.story) }
     ensures ends { let gives = Loads (F.content files.old) (F.fault_count files.old) (F.fault_count files.new) (asked_sources words.now.sources) in
-        Ends gives replay_text (O.written out.old) (O.written out.new) result.status }
+        Ends gives IsStoryOf replay_text (O.written out.old) (O.written out.new) result.status }
+    ensures without { (result.status ≡ Done → ⊥) → IsWithout result }
     ensures unwritten { result.status ≡ NotWritten → HasRisen (O.fault_count out.old) (O.fault_count out.new) }
 {
     let input = match load(alloc, &words.sources, files) {
         Ok(input) => input,
-        Err(status) => return Outcome::ended(status),
+        Err(status) => return Outcome::ended(alloc, status),
     };
     let Ok(Played { story, names, ends }) = story_of(alloc, input, words.carriage) else {
-        return Outcome::ended(Status::NoMemory);
+        return Outcome::ended(alloc, Status::NoMemory);
     };
     match print_with(alloc, &story, &names, &ends, out) {
-        Ok(()) => Outcome {
-            status: Status::Done,
-            story: Some(story),
-        },
-        Err(PrintFault::WriteFailed) => Outcome::ended(Status::WriteFault),
-        Err(PrintFault::NoMemory) => Outcome::ended(Status::NoMemory),
+        Ok(()) => Outcome::done(alloc, story),
+        Err(PrintFault::WriteFailed) => Outcome::ended(alloc, Status::WriteFault),
+        Err(PrintFault::NoMemory) => Outcome::ended(alloc, Status::NoMemory),
     }
 }

@@ -1,30 +1,33 @@
-ghost use Rattle.std.specs.Prelude.{◌≡◌, ◌↔◌, IfSome, IsSome, map, string_bytes};
+ghost use Rattle.std.specs.Prelude.{◌≡◌, IfSome, map, string_bytes};
 ghost use Rattle.tk_input.specs.Files.{HasRisen};
 ghost use Rattle.tk_load.specs.declared.status.Status.TheVariants.{Done, WriteFault as NotWritten};
 ghost use Rattle.tk_run.specs.Ends.{EndsWords, RunsWords};
 ghost use Rattle.tk_run.specs.Headline.{IsSound};
+ghost use Rattle.tk_run.specs.Outcome.{IsWithout};
 
 use crate::generated::serve as generate;
+use crate::multi::serve_queries;
 use crate::outcome::Outcome;
 use crate::replay::replay;
+use crate::sessions::serve_sessions;
 use std::alloc::Global;
 use tk_input::{Files, Sink};
 use tk_load::Status;
 use tk_words::{Command, WordsFault, read};
 
-/// Serves `replay` and `gen`. The words come without the program's name.
+/// Serves all commands but `live`. The words come without the program's name.
 pub fn run<F: Files, O: Sink>(
     alloc: Global,
     words: &[String],
     files: &mut F,
     out: &mut O,
 ) -> Outcome
-    // a run that is done has a story, for which all of the headline holds
-    ensures done { IsSome result.story ↔ (result.status ≡ Done) }
+    // what is done is the story, or the stories, of what the words ask for, and what was written is its text
+    ensures ran { result.status ≡ Done → RunsWords (map string_bytes words.now) (F.content files.old) (F.fault_count files.old)
+        (F.fault_count files.new) (O.written out.old) (O.written out.new) result.story result.stories.items }
+    // for a story all of the headline holds; nothing else that ends has any
     ensures sound { IfSome result.story (λ s. IsSound s.story) }
-    // it is the story of what the words ask for, and what was written is its text
-    ensures ran { IfSome result.story (RunsWords (map string_bytes words.now)
-        (F.content files.old) (F.fault_count files.old) (F.fault_count files.new) (O.written out.old) (O.written out.new)) }
+    ensures without { (result.status ≡ Done → ⊥) → IsWithout result }
     // any other status tells the fault that there is
     ensures ends { EndsWords (map string_bytes words.now)
         (F.content files.old) (F.fault_count files.old) (F.fault_count files.new) (O.written out.old) (O.written out.new) result.status }
@@ -34,8 +37,12 @@ pub fn run<F: Files, O: Sink>(
         Ok(Command::Replay(words)) => replay(alloc, &words, files, out),
         Ok(Command::Generate(words)) => generate(alloc, &words, out),
         // A live run has a call of its own.
-        Ok(Command::Live(_)) => Outcome::ended(Status::Usage),
-        Err(WordsFault::Usage) => Outcome::ended(Status::Usage),
-        Err(WordsFault::NoMemory) => Outcome::ended(Status::NoMemory),
+        Ok(Command::Live(_)) => Outcome::ended(alloc, Status::Usage),
+        Ok(Command::Multi(words)) => serve_queries(alloc, &words, files, out),
+        Ok(Command::Sessions(words)) => serve_sessions(alloc, &words, files, out),
+        Ok(Command::Trace(_)) => Outcome::ended(alloc, Status::Usage),
+        Ok(Command::Check(_)) => Outcome::ended(alloc, Status::Usage),
+        Err(WordsFault::Usage) => Outcome::ended(alloc, Status::Usage),
+        Err(WordsFault::NoMemory) => Outcome::ended(alloc, Status::NoMemory),
     }
 }

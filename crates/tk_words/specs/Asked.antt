@@ -2,15 +2,16 @@
 use Rattle.std.specs.Prelude.{ℕ, ◌≡◌, ◌⊎◌, ◌≤◌, All, List, map, option_map}
 use Rattle.std.specs.Borrow.{Bor}
 use Rattle.tk_base.specs.declared.ids.Mon.{Mon}
-use Rattle.tk_words.specs.Words.{Asked, CarriageWords, GenerateWords, LiveWords, ReplayWords, SourceWords}
-use Rattle.tk_words.specs.Words.Asked.{Replays, Generates, Lives}
+use Rattle.tk_words.specs.Words.{Asked, CarriageWords, GenerateWords, LiveWords, MultiWords, ReplayWords, SourceWords}
+use Rattle.tk_words.specs.Words.Asked.{Replays, Generates, Lives, Queries, Restarts, Traces, Checks}
 use Rattle.tk_words.specs.declared.command.Command.{Command}
-use Rattle.tk_words.specs.declared.command.Command.TheVariants.{Replay as Replayed, Generate as Generated, Live as Lived}
+use Rattle.tk_words.specs.declared.command.Command.TheVariants.{Replay as Replayed, Generate as Generated, Live as Lived, Multi as Queried, Sessions as Restarted, Trace as Traced, Check as Checked}
 use Rattle.tk_words.specs.declared.sources.Sources.{Sources}
 use Rattle.tk_words.specs.declared.carriage.Carriage.{Carriage}
 use Rattle.tk_words.specs.declared.replay.Replay.{Replay}
 use Rattle.tk_words.specs.declared.generate.Generate.{Generate}
 use Rattle.tk_words.specs.declared.live.Live.{Live}
+use Rattle.tk_words.specs.declared.multi.Multi.{Multi}
 
 -- logs as numbers and bytes
 abbrev pub asked_logs : List (Mon × Bor (List ℕ)) → List (ℕ × List ℕ)
@@ -46,10 +47,22 @@ asked_generate g = record {
 abbrev pub asked_live : Live → LiveWords
 asked_live l = record { sources = asked_sources l.sources; frames = l.frames }
 
+abbrev pub asked_multi : Multi → MultiWords
+asked_multi m = record {
+  objects = m.objects.now;
+  queries = m.queries.now;
+  order = option_map (λ s. s.now) m.order;
+  logs = asked_logs m.logs.items;
+}
+
 abbrev pub asked_by : Command → Asked
 asked_by (Replayed r) = Replays (asked_replay r)
 asked_by (Generated g) = Generates (asked_generate g)
 asked_by (Lived l) = Lives (asked_live l)
+asked_by (Queried m) = Queries (asked_multi m)
+asked_by (Restarted r) = Restarts (asked_sources r)
+asked_by (Traced r) = Traces (asked_replay r)
+asked_by (Checked file) = Checks file.now
 
 -- each log is that of a monitor from 1 to 64
 abbrev pub AreOfMonitors : List (Mon × Bor (List ℕ)) → Type 0
@@ -60,6 +73,10 @@ abbrev pub HasMonitors : Command → Type 0
 HasMonitors (Replayed r) = AreOfMonitors r.sources.logs.items
 HasMonitors (Generated g) = Unit
 HasMonitors (Lived l) = AreOfMonitors l.sources.logs.items
+HasMonitors (Queried m) = AreOfMonitors m.logs.items
+HasMonitors (Restarted r) = AreOfMonitors r.logs.items
+HasMonitors (Traced r) = AreOfMonitors r.sources.logs.items
+HasMonitors (Checked file) = Unit
 
 -- a piece of 1 to 65,536 bytes, and a version that there is
 pub record IsCarriage (c : Carriage) : Type 0 where
@@ -72,3 +89,7 @@ abbrev pub HasCarriage : Command → Type 0
 HasCarriage (Replayed r) = IsCarriage r.carriage
 HasCarriage (Generated g) = Unit
 HasCarriage (Lived l) = (l.frames ≡ 1) ⊎ (l.frames ≡ 2)
+HasCarriage (Queried m) = Unit
+HasCarriage (Restarted r) = Unit
+HasCarriage (Traced r) = IsCarriage r.carriage
+HasCarriage (Checked file) = Unit

@@ -11,43 +11,58 @@ option_rule name required = record (new_rule name) { long = Some name; required 
 abbrev pub logs_rule : Rule
 logs_rule = record (new_rule (codes "log")) { required = true; action = Some Append }
 
--- `replay`
-abbrev pub replay_app : App
-replay_app =
-    with_rule (with_rule (with_rule (with_rule (with_rule (with_rule (with_rule (with_rule (new_app (codes "replay"))
+-- the options of the sources that every run of logs from files has
+abbrev pub with_source_rules : App → App
+with_source_rules app =
+    with_rule (with_rule (with_rule (with_rule app
     (option_rule (codes "k") true))
     (option_rule (codes "epsilon") true))
     (option_rule (codes "objects") true))
-    (option_rule (codes "own-weight") false))
-    (option_rule (codes "order") false))
-    (option_rule (codes "piece") false))
-    (option_rule (codes "frames") false))
-    logs_rule
+    (option_rule (codes "own-weight") false)
+
+-- the option of an order
+abbrev pub with_order_rule : App → App
+with_order_rule app = with_rule app (option_rule (codes "order") false)
+
+-- the options of how frames go
+abbrev pub with_carriage_rules : App → App
+with_carriage_rules app = with_rule (with_rule app (option_rule (codes "piece") false)) (option_rule (codes "frames") false)
+
+-- `replay`
+abbrev pub replay_app : App
+replay_app = with_rule (with_carriage_rules (with_order_rule (with_source_rules (new_app (codes "replay"))))) logs_rule
+
+-- `trace`
+abbrev pub trace_app : App
+trace_app = with_rule (with_carriage_rules (with_order_rule (with_source_rules (new_app (codes "trace"))))) logs_rule
 
 -- `window`
 abbrev pub window_app : App
-window_app =
-    with_rule (with_rule (with_rule (with_rule (with_rule (with_rule (with_rule (with_rule (with_rule (new_app (codes "window"))
-    (option_rule (codes "k") true))
-    (option_rule (codes "epsilon") true))
-    (option_rule (codes "objects") true))
-    (option_rule (codes "width") true))
-    (option_rule (codes "own-weight") false))
-    (option_rule (codes "order") false))
-    (option_rule (codes "piece") false))
-    (option_rule (codes "frames") false))
-    logs_rule
+window_app = with_rule (with_carriage_rules (with_order_rule (with_rule (with_source_rules (new_app (codes "window"))) (option_rule (codes "width") true)))) logs_rule
+
+-- `sessions`
+abbrev pub sessions_app : App
+sessions_app = with_rule (with_order_rule (with_source_rules (new_app (codes "sessions")))) logs_rule
 
 -- `live`
 abbrev pub live_app : App
-live_app =
-    with_rule (with_rule (with_rule (with_rule (with_rule (with_rule (new_app (codes "live"))
-    (option_rule (codes "k") true))
-    (option_rule (codes "epsilon") true))
+live_app = with_rule (with_rule (with_source_rules (new_app (codes "live"))) (option_rule (codes "frames") false)) logs_rule
+
+-- `multi`
+abbrev pub multi_app : App
+multi_app =
+    with_rule (with_order_rule (with_rule (with_rule (new_app (codes "multi"))
     (option_rule (codes "objects") true))
-    (option_rule (codes "own-weight") false))
-    (option_rule (codes "frames") false))
+    (option_rule (codes "queries") true)))
     logs_rule
+
+-- the file that `check` reads
+abbrev pub file_rule : Rule
+file_rule = record (new_rule (codes "file")) { required = true; action = Some Set }
+
+-- `check`
+abbrev pub check_app : App
+check_app = with_rule (new_app (codes "check")) file_rule
 
 -- `gen`
 abbrev pub gen_app : App

@@ -3,8 +3,8 @@ use Rattle.std.specs.Prelude.{ℕ, List, [], ◌∷◌, Option, Some, None, opti
 use Rattle.std.specs.Option.{option_map_or}
 use Rattle.clap.specs.Words.{Row, all_of, first_of}
 use Rattle.tk_words.specs.declared.verb.Verb.{Verb}
-use Rattle.tk_words.specs.declared.verb.Verb.TheVariants.{Replay, Generate, Live, Window}
-use Rattle.tk_words.specs.Clap.{found_in, gen_app, live_app, replay_app, window_app}
+use Rattle.tk_words.specs.declared.verb.Verb.TheVariants.{Replay, Generate, Live, Window, Multi, Sessions, Trace, Check}
+use Rattle.tk_words.specs.Clap.{check_app, found_in, gen_app, live_app, multi_app, replay_app, sessions_app, trace_app, window_app}
 use Rattle.tk_words.specs.Forms.{digits_in, file_in, logs_in, piece_in, short_in, version_in}
 
 -- where a run finds its input: the numbers of the settings, the files with their logs' monitors, and the width of the
@@ -42,11 +42,23 @@ pub record GenerateWords : Type 0 where
   pub k : ℕ
   pub epsilon : ℕ
 
--- what words ask for
+-- what a run of several queries asks for: its files, with the monitors of the logs
+pub record MultiWords : Type 0 where
+  pub objects : List ℕ
+  pub queries : List ℕ
+  pub order : Option (List ℕ)
+  pub logs : List (ℕ × List ℕ)
+
+-- what words ask for: a replay, a generated run, a live run, a replay of several queries, a replay with restarts, the
+-- trace of a replay, and whether a file is a trace
 pub data Asked : Type 0 where
   Replays : ReplayWords → Asked
   Generates : GenerateWords → Asked
   Lives : LiveWords → Asked
+  Queries : MultiWords → Asked
+  Restarts : SourceWords → Asked
+  Traces : ReplayWords → Asked
+  Checks : List ℕ → Asked
 
 -- the value of a required option, in its form
 abbrev pub required : {A : Type 0} → (List ℕ → Option A) → List ℕ → List Row → Option A
@@ -77,12 +89,16 @@ carriage_of rows =
     option_and_then (λ piece. option_map (λ frames. record { piece = piece; frames = frames }) (optional version_in (codes "frames") 1 rows))
     (optional piece_in (codes "piece") 4096 rows)
 
+-- the file of an order, where one is named
+abbrev pub order_of : List Row → Option (Option (List ℕ))
+order_of rows = optional (λ text. option_map Some (file_in text)) (codes "order") None rows
+
 -- the values of a replay with this window
 abbrev pub replay_with : Option ℕ → List Row → Option ReplayWords
 replay_with width rows =
     option_and_then (λ carriage. option_and_then (λ order. option_map (λ sources. record { sources = sources; carriage = carriage })
     (sources_with order width rows))
-    (optional (λ text. option_map Some (file_in text)) (codes "order") None rows))
+    (order_of rows))
     (carriage_of rows)
 
 -- those of a replay of the logs as they are
@@ -98,6 +114,24 @@ abbrev pub live_of : List Row → Option LiveWords
 live_of rows =
     option_and_then (λ frames. option_map (λ sources. record { sources = sources; frames = frames }) (sources_with None None rows))
     (optional version_in (codes "frames") 1 rows)
+
+-- those of a replay with restarts
+abbrev pub sessions_of : List Row → Option SourceWords
+sessions_of rows = option_and_then (λ order. sources_with order None rows) (order_of rows)
+
+-- those of several queries
+abbrev pub multi_of : List Row → Option MultiWords
+multi_of rows =
+    option_and_then (λ objects. option_and_then (λ queries. option_and_then (λ order.
+    option_map (λ logs. record { objects = objects; queries = queries; order = order; logs = logs })
+    (logs_of rows))
+    (order_of rows))
+    (required file_in (codes "queries") rows))
+    (required file_in (codes "objects") rows)
+
+-- the file that is checked
+abbrev pub check_of : List Row → Option (List ℕ)
+check_of rows = required file_in (codes "file") rows
 
 -- the values of a generated run
 abbrev pub generate_of : List Row → Option GenerateWords
@@ -123,6 +157,22 @@ window_in words = option_and_then window_of (found_in window_app words)
 abbrev pub live_in : List (List ℕ) → Option LiveWords
 live_in words = option_and_then live_of (found_in live_app words)
 
+-- what those of several queries ask for
+abbrev pub multi_in : List (List ℕ) → Option MultiWords
+multi_in words = option_and_then multi_of (found_in multi_app words)
+
+-- what those of a replay with restarts ask for
+abbrev pub sessions_in : List (List ℕ) → Option SourceWords
+sessions_in words = option_and_then sessions_of (found_in sessions_app words)
+
+-- what those of a trace ask for, which are those of a replay
+abbrev pub trace_in : List (List ℕ) → Option ReplayWords
+trace_in words = option_and_then replay_of (found_in trace_app words)
+
+-- the file that the words of a check name
+abbrev pub check_in : List (List ℕ) → Option (List ℕ)
+check_in words = option_and_then check_of (found_in check_app words)
+
 -- what those of a generated run ask for
 abbrev pub generate_in : List (List ℕ) → Option GenerateWords
 generate_in words = option_and_then generate_of (found_in gen_app words)
@@ -132,7 +182,9 @@ abbrev pub verb_named : List ℕ → Option Verb
 verb_named word =
     if bytes_eq word (codes "replay") then Some Replay
     else (if bytes_eq word (codes "gen") then Some Generate else (if bytes_eq word (codes "live") then Some Live
-    else (if bytes_eq word (codes "window") then Some Window else None)))
+    else (if bytes_eq word (codes "window") then Some Window else (if bytes_eq word (codes "multi") then Some Multi
+    else (if bytes_eq word (codes "sessions") then Some Sessions else (if bytes_eq word (codes "trace") then Some Trace
+    else (if bytes_eq word (codes "check") then Some Check else None)))))))
 
 -- the command of some words, which the first of them names
 abbrev pub verb_of : List (List ℕ) → Option Verb
@@ -146,6 +198,10 @@ asked_under (Some Replay) words = option_map Replays (replay_in words)
 asked_under (Some Generate) words = option_map Generates (generate_in words)
 asked_under (Some Live) words = option_map Lives (live_in words)
 asked_under (Some Window) words = option_map Replays (window_in words)
+asked_under (Some Multi) words = option_map Queries (multi_in words)
+asked_under (Some Sessions) words = option_map Restarts (sessions_in words)
+asked_under (Some Trace) words = option_map Traces (trace_in words)
+asked_under (Some Check) words = option_map Checks (check_in words)
 
 -- what words ask for, where they are understood
 abbrev pub words_of : List (List ℕ) → Option Asked

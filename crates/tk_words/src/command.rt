@@ -2,10 +2,15 @@ ghost use Rattle.std.specs.Prelude.{◌≡◌, Some, None, IfOk, IsErrOf, map, s
 ghost use Rattle.tk_words.specs.Asked.{HasCarriage, HasMonitors, asked_by};
 ghost use Rattle.tk_words.specs.Words.{words_of};
 
+use crate::check::read_check;
 use crate::fault::WordsFault;
 use crate::generate::{Generate, read_generate};
 use crate::live::{Live, read_live};
+use crate::multi::{Multi, read_multi};
 use crate::replay::{Replay, read_replay};
+use crate::sessions::read_sessions;
+use crate::sources::Sources;
+use crate::trace::read_trace;
 use crate::verb::{Verb, verb_of};
 use crate::window::read_window;
 use std::alloc::Global;
@@ -19,6 +24,14 @@ pub enum Command<'a> {
     Generate(Generate),
     /// A run over a net, of logs from files.
     Live(Live<'a>),
+    /// A replay of logs from files for several queries.
+    Multi(Multi<'a>),
+    /// A replay of logs from files in which the coordinator may restart.
+    Sessions(Sources<'a>),
+    /// The trace of a replay.
+    Trace(Replay<'a>),
+    /// Whether a file is the trace of a legal run.
+    Check(&'a str),
 }
 
 /// Reads the words, which come without the program's name. The first is the command.
@@ -45,6 +58,22 @@ pub fn read<'a>(alloc: Global, words: &'a [String]) -> Result<Command<'a>, Words
         },
         Some(Verb::Window) => match read_window(alloc, words) {
             Ok(replay) => Ok(Command::Replay(replay)),
+            Err(fault) => Err(fault),
+        },
+        Some(Verb::Multi) => match read_multi(alloc, words) {
+            Ok(multi) => Ok(Command::Multi(multi)),
+            Err(fault) => Err(fault),
+        },
+        Some(Verb::Sessions) => match read_sessions(alloc, words) {
+            Ok(sources) => Ok(Command::Sessions(sources)),
+            Err(fault) => Err(fault),
+        },
+        Some(Verb::Trace) => match read_trace(alloc, words) {
+            Ok(replay) => Ok(Command::Trace(replay)),
+            Err(fault) => Err(fault),
+        },
+        Some(Verb::Check) => match read_check(alloc, words) {
+            Ok(file) => Ok(Command::Check(file)),
             Err(fault) => Err(fault),
         },
     }

@@ -6,16 +6,20 @@
 #![tactic(auto)]
 
 mod carriage;
+mod check;
 mod command;
 mod digits;
 mod fault;
 mod forms;
 mod generate;
 mod live;
+mod multi;
 mod options;
 mod parsing;
 mod replay;
+mod sessions;
 mod sources;
+mod trace;
 mod verb;
 mod window;
 
@@ -24,6 +28,7 @@ pub use command::{Command, read};
 pub use fault::WordsFault;
 pub use generate::Generate;
 pub use live::Live;
+pub use multi::Multi;
 pub use replay::Replay;
 pub use sources::Sources;
 pub use verb::Verb;

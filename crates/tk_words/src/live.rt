@@ -6,7 +6,7 @@ ghost use Rattle.tk_words.specs.Words.{live_in, live_of};
 
 use crate::carriage::frames;
 use crate::fault::WordsFault;
-use crate::options::{log_words, option};
+use crate::options::{log_words, option, with_sources};
 use crate::parsing::parse;
 use crate::sources::{Sources, sources_with};
 use clap::{ArgMatches, Command};
@@ -24,11 +24,7 @@ pub struct Live<'a> {
 fn command<'a>(alloc: Global) -> Result<Command<'a>, AllocError>
     ensures { IfOk result (λ c. app_of c ≡ live_app) }
 {
-    Command::new(alloc, "live")
-        .arg(option(alloc, "k", true))?
-        .arg(option(alloc, "epsilon", true))?
-        .arg(option(alloc, "objects", true))?
-        .arg(option(alloc, "own-weight", false))?
+    with_sources(alloc, Command::new(alloc, "live"))?
         .arg(option(alloc, "frames", false))?
         .arg(log_words(alloc))
 }

@@ -1,17 +1,15 @@
-ghost use Rattle.std.specs.Prelude.{◌≡◌, Some, None, IfOk, IsErrOf, map, codes, option_map, string_bytes};
+ghost use Rattle.std.specs.Prelude.{◌≡◌, Some, None, IfOk, IsErrOf, map, string_bytes};
 ghost use Rattle.clap.specs.Words.{app_of, found_of, rows_of};
 ghost use Rattle.tk_words.specs.Asked.{AreOfMonitors, IsCarriage, asked_replay};
 ghost use Rattle.tk_words.specs.Clap.{replay_app};
-ghost use Rattle.tk_words.specs.Forms.{file_in};
 ghost use Rattle.tk_words.specs.Words as spec;
-ghost use Rattle.tk_words.specs.Words.{optional, replay_in};
+ghost use Rattle.tk_words.specs.Words.{replay_in};
 
 use crate::carriage::{Carriage, carriage_in};
 use crate::fault::WordsFault;
-use crate::forms::file;
-use crate::options::{log_words, option};
-use crate::parsing::{parse, value};
-use crate::sources::{Sources, sources_with};
+use crate::options::{log_words, with_carriage, with_order, with_sources};
+use crate::parsing::parse;
+use crate::sources::{Sources, order, sources_with};
 use clap::{ArgMatches, Command};
 use std::alloc::{AllocError, Global};
 
@@ -25,26 +23,9 @@ pub struct Replay<'a> {
 fn command<'a>(alloc: Global) -> Result<Command<'a>, AllocError>
     ensures { IfOk result (λ c. app_of c ≡ replay_app) }
 {
-    Command::new(alloc, "replay")
-        .arg(option(alloc, "k", true))?
-        .arg(option(alloc, "epsilon", true))?
-        .arg(option(alloc, "objects", true))?
-        .arg(option(alloc, "own-weight", false))?
-        .arg(option(alloc, "order", false))?
-        .arg(option(alloc, "piece", false))?
-        .arg(option(alloc, "frames", false))?
-        .arg(log_words(alloc))
-}
-
-/// The optional order file.
-fn order<'a>(matches: &ArgMatches<'a>) -> Option<Option<&'a str>>
-    ensures { option_map (option_map (λ s. s.now)) result
-        ≡ optional (λ text. option_map Some (file_in text)) (codes "order") None (rows_of (found_of matches.now)) }
-{
-    match value(matches, "order") {
-        None => Some(None),
-        Some(text) => Some(Some(file(text)?)),
-    }
+    let command = with_sources(alloc, Command::new(alloc, "replay"))?;
+    let command = with_order(alloc, command)?;
+    with_carriage(alloc, command)?.arg(log_words(alloc))
 }
 
 /// The values of a replay, with this window.

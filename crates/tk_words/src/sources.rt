@@ -3,10 +3,10 @@ ghost use Rattle.clap.specs.Words.{found_of, rows_of};
 ghost use Rattle.tk_words.specs.Asked.{AreOfMonitors, asked_logs, asked_sources};
 ghost use Rattle.tk_words.specs.Forms.{logs_in, short_in};
 ghost use Rattle.tk_words.specs.Words as spec;
-ghost use Rattle.tk_words.specs.Words.{logs_of, optional};
+ghost use Rattle.tk_words.specs.Words.{logs_of, optional, order_of};
 
 use crate::fault::WordsFault;
-use crate::forms::{log_word, short_number};
+use crate::forms::{file, log_word, short_number};
 use crate::parsing::{further, long, named_file, short, value};
 use clap::ArgMatches;
 use std::alloc::Global;
@@ -51,7 +51,8 @@ fn logs_from<'a>(alloc: Global, words: &[&'a str]) -> Result<Vec<(Mon, &'a str)>
     Ok(logs)
 }
 
-fn logs<'a>(alloc: Global, matches: &ArgMatches<'a>) -> Result<Vec<(Mon, &'a str)>, WordsFault>
+/// The logs that are named, each of a monitor.
+pub fn logs<'a>(alloc: Global, matches: &ArgMatches<'a>) -> Result<Vec<(Mon, &'a str)>, WordsFault>
     ensures ok { IfOk result (λ logs. logs_of (rows_of (found_of matches.now)) ≡ Some (asked_logs logs.items)) }
     ensures usage { IsErrOf result WordsFault.Usage → logs_of (rows_of (found_of matches.now)) ≡ None }
     ensures monitors { IfOk result (λ logs. AreOfMonitors logs.items) }
@@ -59,6 +60,16 @@ fn logs<'a>(alloc: Global, matches: &ArgMatches<'a>) -> Result<Vec<(Mon, &'a str
     match further(matches) {
         None => Err(WordsFault::Usage),
         Some(words) => logs_from(alloc, words),
+    }
+}
+
+/// The optional order file.
+pub fn order<'a>(matches: &ArgMatches<'a>) -> Option<Option<&'a str>>
+    ensures { option_map (option_map (λ s. s.now)) result ≡ order_of (rows_of (found_of matches.now)) }
+{
+    match value(matches, "order") {
+        None => Some(None),
+        Some(text) => Some(Some(file(text)?)),
     }
 }
 

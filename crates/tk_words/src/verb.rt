@@ -8,6 +8,10 @@ pub enum Verb {
     Generate,
     Live,
     Window,
+    Multi,
+    Sessions,
+    Trace,
+    Check,
 }
 
 fn verb_in(word: &str) -> Option<Verb>
@@ -21,6 +25,14 @@ fn verb_in(word: &str) -> Option<Verb>
         Some(Verb::Live)
     } else if word == "window" {
         Some(Verb::Window)
+    } else if word == "multi" {
+        Some(Verb::Multi)
+    } else if word == "sessions" {
+        Some(Verb::Sessions)
+    } else if word == "trace" {
+        Some(Verb::Trace)
+    } else if word == "check" {
+        Some(Verb::Check)
     } else {
         None
     }

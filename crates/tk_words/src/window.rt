@@ -5,7 +5,7 @@ ghost use Rattle.tk_words.specs.Clap.{window_app};
 ghost use Rattle.tk_words.specs.Words.{window_in, window_of};
 
 use crate::fault::WordsFault;
-use crate::options::{log_words, option};
+use crate::options::{log_words, option, with_carriage, with_order, with_sources};
 use crate::parsing::{parse, short};
 use crate::replay::{Replay, replay_with};
 use clap::{ArgMatches, Command};
@@ -14,16 +14,9 @@ use std::alloc::{AllocError, Global};
 fn command<'a>(alloc: Global) -> Result<Command<'a>, AllocError>
     ensures { IfOk result (λ c. app_of c ≡ window_app) }
 {
-    Command::new(alloc, "window")
-        .arg(option(alloc, "k", true))?
-        .arg(option(alloc, "epsilon", true))?
-        .arg(option(alloc, "objects", true))?
-        .arg(option(alloc, "width", true))?
-        .arg(option(alloc, "own-weight", false))?
-        .arg(option(alloc, "order", false))?
-        .arg(option(alloc, "piece", false))?
-        .arg(option(alloc, "frames", false))?
-        .arg(log_words(alloc))
+    let command = with_sources(alloc, Command::new(alloc, "window"))?;
+    let command = with_order(alloc, command.arg(option(alloc, "width", true))?)?;
+    with_carriage(alloc, command)?.arg(log_words(alloc))
 }
 
 fn values<'a>(alloc: Global, matches: &ArgMatches<'a>) -> Result<Replay<'a>, WordsFault>

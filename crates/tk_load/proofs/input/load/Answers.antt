@@ -1,65 +1,28 @@
-use Rattle.std.proofs.Common.{◌≡◌, ℕ, List, Bor, Ok, ap, subst}
-use Rattle.tk_base.specs.declared.ids.Mon.{Mon}
-use Rattle.tk_words.specs.Asked.{asked_logs, asked_sources}
-use Rattle.tk_window.specs.Expanded.{sources_of}
-use Rattle.tk_window.specs.declared.expanded.Expanded.{Expanded}
-use Rattle.tk_load.specs.Input.{together}
-use Rattle.tk_load.specs.Reads.{Tells}
-use Rattle.tk_load.proofs.LoadLemmas.{joined_refused, loaded, logs_refused, names_refused, order_refused, seen_fault, seen_logs, settings_refused}
-use Rattle.tk_load.proofs.ReadLemmas.{kept_on}
+use Rattle.std.proofs.Common.{Option}
+use Rattle.tk_input.specs.Order.{Ordered}
+use Rattle.tk_words.specs.Asked.{asked_sources}
+use Rattle.tk_load.specs.Input.{File, input_with, order_in}
+use Rattle.tk_load.specs.declared.basis.Basis.{Basis}
+use Rattle.tk_load.specs.declared.input.Input.{Input}
+use Rattle.tk_load.proofs.LoadLemmas.{basis_refused, loaded, order_refused}
 use Rattle.tk_load.proofs.input.load.Goals as goal
 
 pub returns-in-Err-clause-read : goal.returns-in-Err-clause-read
 returns-in-Err-clause-read g c =
-    names_refused (g.F.Files.content c.args.files.now) (g.F.Files.content c.read_names.new.files) (g.F.Files.fault_count c.args.files.now) (g.F.Files.fault_count c.read_names.new.files) (asked_sources c.args.words.now) c.read_names.ensures.kept
+    basis_refused {O = Ordered} {I = Input} (λ (basis : Basis) (order : Option File). order_in basis.settings order) input_with
+    (g.F.Files.content c.args.files.now) (g.F.Files.content c.load_basis.new.files) (g.F.Files.fault_count c.args.files.now) (g.F.Files.fault_count c.load_basis.new.files) (asked_sources c.args.words.now)
     c.in-Err.status c.in-Err.ensures.read
-
-pub returns-in-Err-limits_of-clause-read : goal.returns-in-Err-limits_of-clause-read
-returns-in-Err-limits_of-clause-read g c =
-    settings_refused (g.F.Files.content c.args.files.now) (g.F.Files.content c.read_names.new.files) (g.F.Files.fault_count c.args.files.now) (g.F.Files.fault_count c.read_names.new.files) (asked_sources c.args.words.now) c.read_names.ensures.kept
-    c.in-Ok.names c.in-Ok.ensures.read c.in-Err-limits_of.status c.in-Err-limits_of.ensures.meets
-
-pub returns-in-Err-parts_of-clause-read : goal.returns-in-Err-parts_of-clause-read
-returns-in-Err-parts_of-clause-read g c =
-    let same = ap (λ (logs : List (Mon × Bor (List ℕ))). asked_logs logs) c.as_slice.ensures.value in
-    logs_refused (g.F.Files.content c.args.files.now) (g.F.Files.content c.read_names.new.files) (g.F.Files.fault_count c.args.files.now) (g.F.Files.fault_count c.read_names.new.files) (asked_sources c.args.words.now) c.read_names.ensures.kept
-    c.in-Ok.names c.in-Ok.ensures.read c.in-Ok-limits_of.limits c.in-Ok-limits_of.ensures.meets (g.F.Files.content c.parts_of.new.files) (g.F.Files.fault_count c.parts_of.new.files) c.parts_of.ensures.kept _ c.in-Err-parts_of.status
-    (seen_fault _ (g.F.Files.content c.read_names.new.files) (g.F.Files.fault_count c.read_names.new.files) (g.F.Files.fault_count c.parts_of.new.files) c.in-Ok-limits_of.limits.width c.in-Ok.names _ _ c.in-Err-parts_of.status same c.in-Err-parts_of.ensures.read)
-
-pub returns-in-Err-join-clause-read : goal.returns-in-Err-join-clause-read
-returns-in-Err-join-clause-read g c =
-    let same = ap (λ (logs : List (Mon × Bor (List ℕ))). asked_logs logs) c.as_slice.ensures.value in
-    joined_refused (g.F.Files.content c.args.files.now) (g.F.Files.content c.read_names.new.files) (g.F.Files.fault_count c.args.files.now) (g.F.Files.fault_count c.read_names.new.files) (asked_sources c.args.words.now) c.read_names.ensures.kept
-    c.in-Ok.names c.in-Ok.ensures.read c.in-Ok-limits_of.limits c.in-Ok-limits_of.ensures.meets (g.F.Files.content c.parts_of.new.files) (g.F.Files.fault_count c.parts_of.new.files) c.parts_of.ensures.kept (sources_of c.in-Ok-parts_of.parts.items)
-    (seen_logs _ (g.F.Files.content c.read_names.new.files) (g.F.Files.fault_count c.read_names.new.files) (g.F.Files.fault_count c.parts_of.new.files) c.in-Ok-limits_of.limits.width c.in-Ok.names _ _ c.in-Ok-parts_of.parts same c.in-Ok-parts_of.ensures.read)
-    c.in-Err-join.status (subst (λ (n : ℕ). Tells c.in-Err-join.status (together c.in-Ok-limits_of.limits.width (sources_of c.in-Ok-parts_of.parts.items) n)) c.len.ensures.value
-    (subst (λ (l : List (Mon × Expanded)). Tells c.in-Err-join.status (together c.in-Ok-limits_of.limits.width (sources_of l) c.len.result)) c.as_slice-2.ensures.value c.in-Err-join.ensures.meets))
 
 pub returns-in-Err-read_order-clause-read : goal.returns-in-Err-read_order-clause-read
 returns-in-Err-read_order-clause-read g c =
-    let same = ap (λ (logs : List (Mon × Bor (List ℕ))). asked_logs logs) c.as_slice.ensures.value in
-    order_refused (g.F.Files.content c.args.files.now) (g.F.Files.content c.read_names.new.files) (g.F.Files.fault_count c.args.files.now) (g.F.Files.fault_count c.read_names.new.files) (asked_sources c.args.words.now) c.read_names.ensures.kept
-    c.in-Ok.names c.in-Ok.ensures.read c.in-Ok-limits_of.limits c.in-Ok-limits_of.ensures.meets (g.F.Files.content c.parts_of.new.files) (g.F.Files.fault_count c.parts_of.new.files) c.parts_of.ensures.kept (sources_of c.in-Ok-parts_of.parts.items)
-    (seen_logs _ (g.F.Files.content c.read_names.new.files) (g.F.Files.fault_count c.read_names.new.files) (g.F.Files.fault_count c.parts_of.new.files) c.in-Ok-limits_of.limits.width c.in-Ok.names _ _ c.in-Ok-parts_of.parts same c.in-Ok-parts_of.ensures.read)
-    c.in-Ok-join.together (subst (λ (n : ℕ). together c.in-Ok-limits_of.limits.width (sources_of c.in-Ok-parts_of.parts.items) n ≡ Ok c.in-Ok-join.together) c.len.ensures.value
-    (subst (λ (l : List (Mon × Expanded)). together c.in-Ok-limits_of.limits.width (sources_of l) c.len.result ≡ Ok c.in-Ok-join.together) c.as_slice-2.ensures.value c.in-Ok-join.ensures.meets))
-    (g.F.Files.content c.read_order.new.files) (g.F.Files.fault_count c.read_order.new.files) c.read_order.ensures.kept c.in-Err-read_order.status c.in-Err-read_order.ensures.read
+    order_refused {O = Ordered} {I = Input} (λ (basis : Basis) (order : Option File). order_in basis.settings order) input_with
+    (g.F.Files.content c.args.files.now) (g.F.Files.content c.load_basis.new.files) (g.F.Files.fault_count c.args.files.now) (g.F.Files.fault_count c.load_basis.new.files) (asked_sources c.args.words.now)
+    c.in-Ok.basis c.in-Ok.ensures.read (g.F.Files.content c.read_order.new.files) (g.F.Files.fault_count c.read_order.new.files) c.load_basis.ensures.kept c.read_order.ensures.kept
+    c.in-Err-read_order.status c.in-Err-read_order.ensures.read
 
 pub returns-in-Ok-read_order-clause-read : goal.returns-in-Ok-read_order-clause-read
 returns-in-Ok-read_order-clause-read g c =
-    let same = ap (λ (logs : List (Mon × Bor (List ℕ))). asked_logs logs) c.as_slice.ensures.value in
-    loaded (g.F.Files.content c.args.files.now) (g.F.Files.content c.read_names.new.files) (g.F.Files.fault_count c.args.files.now) (g.F.Files.fault_count c.read_names.new.files) (asked_sources c.args.words.now) c.read_names.ensures.kept
-    c.in-Ok.names c.in-Ok.ensures.read c.in-Ok-limits_of.limits c.in-Ok-limits_of.ensures.meets (g.F.Files.content c.parts_of.new.files) (g.F.Files.fault_count c.parts_of.new.files) c.parts_of.ensures.kept (sources_of c.in-Ok-parts_of.parts.items)
-    (seen_logs _ (g.F.Files.content c.read_names.new.files) (g.F.Files.fault_count c.read_names.new.files) (g.F.Files.fault_count c.parts_of.new.files) c.in-Ok-limits_of.limits.width c.in-Ok.names _ _ c.in-Ok-parts_of.parts same c.in-Ok-parts_of.ensures.read)
-    c.in-Ok-join.together (subst (λ (n : ℕ). together c.in-Ok-limits_of.limits.width (sources_of c.in-Ok-parts_of.parts.items) n ≡ Ok c.in-Ok-join.together) c.len.ensures.value
-    (subst (λ (l : List (Mon × Expanded)). together c.in-Ok-limits_of.limits.width (sources_of l) c.len.result ≡ Ok c.in-Ok-join.together) c.as_slice-2.ensures.value c.in-Ok-join.ensures.meets))
-    (g.F.Files.content c.read_order.new.files) (g.F.Files.fault_count c.read_order.new.files) c.read_order.ensures.kept c.in-Ok-read_order.order c.in-Ok-read_order.ensures.read
-
-pub returns-in-Err-read_order-clause-kept : goal.returns-in-Err-read_order-clause-kept
-returns-in-Err-read_order-clause-kept g c =
-    let t0 = g.F.Files.content c.args.files.now in
-    let f0 = g.F.Files.fault_count c.args.files.now in
-    let t2 = g.F.Files.content c.parts_of.new.files in
-    let f2 = g.F.Files.fault_count c.parts_of.new.files in
-    kept_on t0 t2 (g.F.Files.content c.read_order.new.files) f0 f2 (g.F.Files.fault_count c.read_order.new.files)
-    (kept_on t0 (g.F.Files.content c.read_names.new.files) t2 f0 (g.F.Files.fault_count c.read_names.new.files) f2 c.read_names.ensures.kept c.parts_of.ensures.kept) c.read_order.ensures.kept
+    loaded {O = Ordered} {I = Input} (λ (basis : Basis) (order : Option File). order_in basis.settings order) input_with
+    (g.F.Files.content c.args.files.now) (g.F.Files.content c.load_basis.new.files) (g.F.Files.fault_count c.args.files.now) (g.F.Files.fault_count c.load_basis.new.files) (asked_sources c.args.words.now)
+    c.in-Ok.basis c.in-Ok.ensures.read (g.F.Files.content c.read_order.new.files) (g.F.Files.fault_count c.read_order.new.files) c.load_basis.ensures.kept c.read_order.ensures.kept
+    c.in-Ok-read_order.order c.in-Ok-read_order.ensures.read

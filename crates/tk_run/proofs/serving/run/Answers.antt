@@ -1,8 +1,7 @@
 use Rattle.std.proofs.Common.{◌≡◌, ◌∙◌, Option, Some, ap, inr}
-use Rattle.std.proofs.lemmas.Option.{IfSome_then}
-use Rattle.tk_words.specs.Asked.{asked_by, asked_generate, asked_replay}
+use Rattle.tk_words.specs.Asked.{asked_by, asked_generate, asked_multi, asked_replay, asked_sources}
 use Rattle.tk_words.specs.Words.{Asked}
-use Rattle.tk_words.specs.Words.Asked.{Generates, Replays}
+use Rattle.tk_words.specs.Words.Asked.{Generates, Queries, Replays, Restarts}
 use Rattle.tk_words.specs.declared.command.Command.{Command}
 use Rattle.tk_run.specs.Ends.{served}
 use Rattle.tk_run.proofs.serving.run.Goals as goal
@@ -14,8 +13,7 @@ here asked read command found is = ap served found ∙ ap (λ (c : Command). ser
 pub returns-in-Ok-Replay-clause-ran : goal.returns-in-Ok-Replay-clause-ran
 returns-in-Ok-Replay-clause-ran g c =
     let read = c.in-Ok-Replay in
-    IfSome_then c.replay.result.story c.replay.ensures.ran
-    (λ kept ran. record { asked = Replays (asked_replay read.words); understood = here _ _ _ read.ensures.ok read.field-0-is; ran = ran })
+    λ done. record { asked = Replays (asked_replay read.words); understood = here _ _ _ read.ensures.ok read.field-0-is; ran = c.replay.ensures.ran done }
 
 pub returns-in-Ok-Replay-clause-ends : goal.returns-in-Ok-Replay-clause-ends
 returns-in-Ok-Replay-clause-ends g c =
@@ -25,10 +23,29 @@ returns-in-Ok-Replay-clause-ends g c =
 pub returns-in-Ok-Generate-clause-ran : goal.returns-in-Ok-Generate-clause-ran
 returns-in-Ok-Generate-clause-ran g c =
     let read = c.in-Ok-Generate in
-    IfSome_then c.serve.result.story c.serve.ensures.ran
-    (λ kept ran. record { asked = Generates (asked_generate read.words); understood = here _ _ _ read.ensures.ok read.field-0-is; ran = ran })
+    λ done. record { asked = Generates (asked_generate read.words); understood = here _ _ _ read.ensures.ok read.field-0-is; ran = c.serve.ensures.ran done }
 
 pub returns-in-Ok-Generate-clause-ends : goal.returns-in-Ok-Generate-clause-ends
 returns-in-Ok-Generate-clause-ends g c =
     let read = c.in-Ok-Generate in
     inr (record { asked = Generates (asked_generate read.words); understood = here _ _ _ read.ensures.ok read.field-0-is; ends = c.serve.ensures.ends })
+
+pub returns-in-Ok-Sessions-clause-ran : goal.returns-in-Ok-Sessions-clause-ran
+returns-in-Ok-Sessions-clause-ran g c =
+    let read = c.in-Ok-Sessions in
+    λ done. record { asked = Restarts (asked_sources read.words); understood = here _ _ _ read.ensures.ok read.field-0-is; ran = c.serve_sessions.ensures.ran done }
+
+pub returns-in-Ok-Sessions-clause-ends : goal.returns-in-Ok-Sessions-clause-ends
+returns-in-Ok-Sessions-clause-ends g c =
+    let read = c.in-Ok-Sessions in
+    inr (record { asked = Restarts (asked_sources read.words); understood = here _ _ _ read.ensures.ok read.field-0-is; ends = c.serve_sessions.ensures.ends })
+
+pub returns-in-Ok-Multi-clause-ran : goal.returns-in-Ok-Multi-clause-ran
+returns-in-Ok-Multi-clause-ran g c =
+    let read = c.in-Ok-Multi in
+    λ done. record { asked = Queries (asked_multi read.words); understood = here _ _ _ read.ensures.ok read.field-0-is; ran = c.serve_queries.ensures.ran done }
+
+pub returns-in-Ok-Multi-clause-ends : goal.returns-in-Ok-Multi-clause-ends
+returns-in-Ok-Multi-clause-ends g c =
+    let read = c.in-Ok-Multi in
+    inr (record { asked = Queries (asked_multi read.words); understood = here _ _ _ read.ensures.ok read.field-0-is; ends = c.serve_queries.ensures.ends })

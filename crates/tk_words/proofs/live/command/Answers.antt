@@ -1,13 +1,11 @@
-use Rattle.std.proofs.Common.{ap₂, ◌∙◌}
+use Rattle.std.proofs.Common.{ap, ap₂, ◌∙◌}
 use Rattle.std.proofs.lemmas.Result.{IfOk-weaker}
-use Rattle.clap.specs.Words.{with_rule}
+use Rattle.clap.specs.Words.{App, with_rule}
+use Rattle.tk_words.specs.Clap.{with_source_rules}
 use Rattle.tk_words.proofs.live.command.Goals as goal
 
 pub returns : goal.returns
 returns c =
-    let one = c.in_ok-arg.ensures.shape c.option.ensures.local ∙ ap₂ with_rule c.new.ensures.app c.option.ensures.rule in
-    let two = c.in_ok-arg-2.ensures.shape c.option-2.ensures.local ∙ ap₂ with_rule one c.option-2.ensures.rule in
-    let three = c.in_ok-arg-3.ensures.shape c.option-3.ensures.local ∙ ap₂ with_rule two c.option-3.ensures.rule in
-    let four = c.in_ok-arg-4.ensures.shape c.option-4.ensures.local ∙ ap₂ with_rule three c.option-4.ensures.rule in
-    let five = c.in_ok-arg-5.ensures.shape c.option-5.ensures.local ∙ ap₂ with_rule four c.option-5.ensures.rule in
-    IfOk-weaker c.arg-6.result _ _ (λ r added. added.shape c.log_words.ensures.local ∙ ap₂ with_rule five c.log_words.ensures.rule) c.arg-6.ensures
+    let sources = c.in_ok-with_sources.ensures ∙ ap (λ (a : App). with_source_rules a) c.new.ensures.app in
+    let frames = c.in_ok-arg.ensures.shape c.option.ensures.local ∙ ap₂ with_rule sources c.option.ensures.rule in
+    IfOk-weaker c.arg-2.result _ _ (λ r added. added.shape c.log_words.ensures.local ∙ ap₂ with_rule frames c.log_words.ensures.rule) c.arg-2.ensures

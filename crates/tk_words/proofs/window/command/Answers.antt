@@ -1,16 +1,13 @@
-use Rattle.std.proofs.Common.{ap₂, ◌∙◌}
+use Rattle.std.proofs.Common.{ap, ap₂, ◌∙◌}
 use Rattle.std.proofs.lemmas.Result.{IfOk-weaker}
-use Rattle.clap.specs.Words.{with_rule}
+use Rattle.clap.specs.Words.{App, with_rule}
+use Rattle.tk_words.specs.Clap.{with_carriage_rules, with_order_rule, with_source_rules}
 use Rattle.tk_words.proofs.window.command.Goals as goal
 
 pub returns : goal.returns
 returns c =
-    let one = c.in_ok-arg.ensures.shape c.option.ensures.local ∙ ap₂ with_rule c.new.ensures.app c.option.ensures.rule in
-    let two = c.in_ok-arg-2.ensures.shape c.option-2.ensures.local ∙ ap₂ with_rule one c.option-2.ensures.rule in
-    let three = c.in_ok-arg-3.ensures.shape c.option-3.ensures.local ∙ ap₂ with_rule two c.option-3.ensures.rule in
-    let four = c.in_ok-arg-4.ensures.shape c.option-4.ensures.local ∙ ap₂ with_rule three c.option-4.ensures.rule in
-    let five = c.in_ok-arg-5.ensures.shape c.option-5.ensures.local ∙ ap₂ with_rule four c.option-5.ensures.rule in
-    let six = c.in_ok-arg-6.ensures.shape c.option-6.ensures.local ∙ ap₂ with_rule five c.option-6.ensures.rule in
-    let seven = c.in_ok-arg-7.ensures.shape c.option-7.ensures.local ∙ ap₂ with_rule six c.option-7.ensures.rule in
-    let eight = c.in_ok-arg-8.ensures.shape c.option-8.ensures.local ∙ ap₂ with_rule seven c.option-8.ensures.rule in
-    IfOk-weaker c.arg-9.result _ _ (λ r added. added.shape c.log_words.ensures.local ∙ ap₂ with_rule eight c.log_words.ensures.rule) c.arg-9.ensures
+    let sources = c.in_ok-command.ensures ∙ ap (λ (a : App). with_source_rules a) c.new.ensures.app in
+    let width = c.in_ok-arg.ensures.shape c.option.ensures.local ∙ ap₂ with_rule sources c.option.ensures.rule in
+    let order = c.in_ok-command-2.ensures ∙ ap (λ (a : App). with_order_rule a) width in
+    let carriage = c.in_ok-with_carriage.ensures ∙ ap (λ (a : App). with_carriage_rules a) order in
+    IfOk-weaker c.arg-2.result _ _ (λ r added. added.shape c.log_words.ensures.local ∙ ap₂ with_rule carriage c.log_words.ensures.rule) c.arg-2.ensures

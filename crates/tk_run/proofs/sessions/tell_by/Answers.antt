@@ -1,0 +1,14 @@
+use Rattle.std.proofs.Common.{◌≡◌, ◌∙◌, ℕ, List, Option, None, IfOk, ap, subst, sym}
+use Rattle.tk_session.specs.Chain.{IsChainOf}
+use Rattle.tk_session.specs.declared.session_line.SessionLine.{SessionLine}
+use Rattle.tk_story.specs.Kept.{KeptStory}
+use Rattle.tk_story.specs.declared.story.Story.{Story}
+use Rattle.tk_run.specs.Sessions.{lines_in}
+use Rattle.tk_run.proofs.SessionsLemmas.{empty_order, none_of}
+use Rattle.tk_run.proofs.sessions.tell_by.Goals as goal
+
+pub returns-in-Ok : goal.returns-in-Ok
+returns-in-Ok c =
+    let none : c.args.order ≡ None = none_of c.args.order c.in_default.not-Some in
+    subst (λ (lines : List SessionLine). IfOk c.tell-in-Ok.result (λ stories. IsChainOf c.args.settings c.args.logs lines stories.items))
+    (empty_order c.in-Ok.order c.in-Ok.ensures.ok ∙ ap (λ (o : Option (List (ℕ × SessionLine))). lines_in o) (sym none)) c.tell-in-Ok.ensures

@@ -1,0 +1,90 @@
+ghost use Rattle.std.specs.Prelude.{◌≡◌, ◌+◌, All, IfOk, IsErrOf, OnErr, OnOk, length};
+ghost use Rattle.std.specs.List.{zip};
+ghost use Rattle.tk_input.specs.Files.{HasRisen};
+ghost use Rattle.tk_input.specs.Sink.{Grows, GrowsByFront};
+ghost use Rattle.tk_load.specs.MultiInput.{LoadsMulti};
+ghost use Rattle.tk_load.specs.declared.status.Status.TheVariants.{Done, WriteFault as NotWritten};
+ghost use Rattle.tk_run.specs.Ends.{AreSeveral, Ends, HasRun};
+ghost use Rattle.tk_run.specs.Multi.{AreAnswersOf, multi_text, queries_text, query_title};
+ghost use Rattle.tk_run.specs.Outcome.{IsWithout};
+ghost use Rattle.tk_words.specs.Asked.{AreOfMonitors, asked_multi};
+
+use crate::headline::a_finished_run_is_sound;
+use crate::outcome::Outcome;
+use crate::titled::print_titled;
+use std::alloc::Global;
+use tk_base::NoMemory;
+use tk_input::{Catalog, Files, Sink};
+use tk_ledger::PrintFault;
+use tk_load::{MultiInput, Status, load_multi};
+use tk_multi::{Queries, Told, tell};
+use tk_story::Story;
+use tk_words::Multi;
+
+/// The line above the text of a query.
+fn title_of(alloc: Global, name: &[u8]) -> Result<Vec<u8>, NoMemory>
+    ensures { IfOk result (λ title. title.items ≡ query_title name.now) }
+{
+    let mut title = Vec::new(alloc);
+    title.extend_from_slice(b"query ")?;
+    title.extend_from_slice(name)?;
+    title.extend_from_slice(b"\n")?;
+    Ok(title)
+}
+
+/// Writes the text of each query behind its title.
+fn print_queries<O: Sink>(
+    alloc: Global,
+    queries: &Queries,
+    names: &[Catalog],
+    stories: &[Story],
+    out: &mut O,
+) -> Result<(), PrintFault>
+    requires names { length names.now ≡ length queries.now }
+    requires stories { length stories.now ≡ length queries.now }
+    requires named { All (λ told. length told.0 ≡ told.1.story.settings.objects) (zip names.now stories.now) }
+    ensures ok { OnOk result (Grows (O.written out.old) (O.written out.new) (queries_text queries.now names.now stories.now)) }
+    ensures err { OnErr result (GrowsByFront (O.written out.old) (O.written out.new) (queries_text queries.now names.now stories.now)) }
+    ensures failed { IsErrOf result PrintFault.WriteFailed → HasRisen (O.fault_count out.old) (O.fault_count out.new) }
+{
+    for i in 0..queries.len() {
+        let title = title_of(alloc, queries.name(i as u32 + 1))?;
+        print_titled(alloc, title.as_slice(), &stories[i], &names[i], out)?;
+    }
+    Ok(())
+}
+
+/// Serves `multi`. Nothing is written before the input stands and every story is over.
+pub fn serve_queries<F: Files, O: Sink>(
+    alloc: Global,
+    words: &Multi<'_>,
+    files: &mut F,
+    out: &mut O,
+) -> Outcome
+    requires monitors { AreOfMonitors words.now.logs.items }
+    ensures ran { let gives = LoadsMulti (F.content files.old) (F.fault_count files.old) (F.fault_count files.new) (asked_multi words.now) in
+        result.status ≡ Done → AreSeveral (HasRun gives AreAnswersOf multi_text (O.written out.old) (O.written out.new)) result.story result.stories.items }
+    ensures ends { let gives = LoadsMulti (F.content files.old) (F.fault_count files.old) (F.fault_count files.new) (asked_multi words.now) in
+        Ends gives AreAnswersOf multi_text (O.written out.old) (O.written out.new) result.status }
+    ensures without { (result.status ≡ Done → ⊥) → IsWithout result }
+    ensures unwritten { result.status ≡ NotWritten → HasRisen (O.fault_count out.old) (O.fault_count out.new) }
+{
+    let MultiInput {
+        queries,
+        logs,
+        alones,
+        order,
+    } = match load_multi(alloc, words, files) {
+        Ok(input) => input,
+        Err(status) => return Outcome::ended(alloc, status),
+    };
+    let Ok(Told { names, stories }) = tell(alloc, logs, alones, &order) else {
+        return Outcome::ended(alloc, Status::NoMemory);
+    };
+    a_finished_run_is_sound();
+    match print_queries(alloc, &queries, names.as_slice(), stories.as_slice(), out) {
+        Ok(()) => Outcome::several(stories),
+        Err(PrintFault::WriteFailed) => Outcome::ended(alloc, Status::WriteFault),
+        Err(PrintFault::NoMemory) => Outcome::ended(alloc, Status::NoMemory),
+    }
+}

@@ -1,0 +1,129 @@
+//! Runs in which the coordinator may restart.
+
+ghost use Rattle.std.specs.Prelude.{◌≡◌, All, IfOk, IsErrOf, None, OnErr, OnOk, length};
+ghost use Rattle.tk_input.specs.Files.{HasRisen};
+ghost use Rattle.tk_input.specs.Sink.{Grows, GrowsByFront};
+ghost use Rattle.tk_load.specs.SessionInput.{LoadsSessions};
+ghost use Rattle.tk_load.specs.Whole.{AreAgreed};
+ghost use Rattle.tk_load.specs.declared.status.Status.TheVariants.{Done, WriteFault as NotWritten};
+ghost use Rattle.tk_run.specs.Ends.{AreSeveral, Ends, HasRun};
+ghost use Rattle.tk_run.specs.Outcome.{IsWithout};
+ghost use Rattle.tk_run.specs.Sessions.{AreStoriesOf, lines_in, session_title, sessions_text, stories_text};
+ghost use Rattle.tk_session.specs.Chain.{IsChainOf};
+ghost use Rattle.tk_words.specs.Asked.{AreOfMonitors, asked_sources};
+
+use crate::outcome::Outcome;
+use crate::titled::print_titled;
+use itoa::Buffer;
+use std::alloc::Global;
+use tk_base::{NoMemory, Settings};
+use tk_input::{Catalog, Files, Logs, Sink};
+use tk_ledger::PrintFault;
+use tk_load::{SessionInput, Status, load_sessions};
+use tk_session::{SessionOrder, tell};
+use tk_story::Story;
+use tk_words::Sources;
+
+/// The stories of an order, or of the one session that there is without an order.
+fn tell_by(
+    alloc: Global,
+    settings: Settings,
+    logs: Logs,
+    order: Option<SessionOrder>,
+) -> Result<Vec<Story>, NoMemory>
+    requires objects { logs.objects ≡ settings.objects }
+    requires monitors { length logs.logs ≡ settings.monitors }
+    ensures { IfOk result (λ stories. IsChainOf settings logs (lines_in order) stories.items) }
+{
+    if let Some(order) = order {
+        return tell(alloc, settings, logs, &order);
+    }
+    // No line is at fault where there is none.
+    match SessionOrder::read(alloc, b"") {
+        Ok(order) => tell(alloc, settings, logs, &order),
+        Err(_) => Err(NoMemory),
+    }
+}
+
+/// The stories of an input, and the names for their text.
+#[derive(Drop)]
+struct Told {
+    names: Catalog,
+    stories: Vec<Story>,
+}
+
+fn stories_of(alloc: Global, input: SessionInput) -> Result<Told, NoMemory>
+    requires agreed { AreAgreed input.names input.settings input.logs }
+    ensures same { IfOk result (λ t. t.names ≡ input.names) }
+    ensures names { IfOk result (λ t. All (λ kept. length t.names ≡ kept.story.settings.objects) t.stories.items) }
+    ensures stories { IfOk result (λ t. AreStoriesOf input t.stories.items) }
+{
+    let SessionInput {
+        names,
+        settings,
+        logs,
+        order,
+    } = input;
+    let stories = tell_by(alloc, settings, logs, order)?;
+    Ok(Told { names, stories })
+}
+
+/// The line in front of a session.
+fn title_of(alloc: Global, number: u64) -> Result<Vec<u8>, NoMemory>
+    ensures { IfOk result (λ title. title.items ≡ session_title number) }
+{
+    let mut buffer = Buffer::new();
+    let mut title = Vec::from_slice(alloc, b"session ")?;
+    title.extend_from_slice(buffer.format(number).as_bytes())?;
+    title.extend_from_slice(b"\n")?;
+    Ok(title)
+}
+
+/// Writes each session behind its title.
+fn print_sessions<O: Sink>(
+    alloc: Global,
+    stories: &[Story],
+    names: &Catalog,
+    out: &mut O,
+) -> Result<(), PrintFault>
+    requires { All (λ kept. length names.now ≡ kept.story.settings.objects) stories.now }
+    ensures ok { OnOk result (Grows (O.written out.old) (O.written out.new) (stories_text names.now stories.now)) }
+    ensures err { OnErr result (GrowsByFront (O.written out.old) (O.written out.new) (stories_text names.now stories.now)) }
+    ensures failed { IsErrOf result PrintFault.WriteFailed → HasRisen (O.fault_count out.old) (O.fault_count out.new) }
+{
+    for i in 0..stories.len() {
+        let title = title_of(alloc, i as u64 + 1)?;
+        print_titled(alloc, title.as_slice(), &stories[i], names, out)?;
+    }
+    Ok(())
+}
+
+/// Serves `sessions`. Nothing is written before the input stands and all its sessions are over.
+pub fn serve_sessions<F: Files, O: Sink>(
+    alloc: Global,
+    words: &Sources<'_>,
+    files: &mut F,
+    out: &mut O,
+) -> Outcome
+    requires { AreOfMonitors words.now.logs.items }
+    ensures ran { let gives = LoadsSessions (F.content files.old) (F.fault_count files.old) (F.fault_count files.new) (asked_sources words.now) in
+        result.status ≡ Done → AreSeveral (HasRun gives AreStoriesOf sessions_text (O.written out.old) (O.written out.new)) result.story result.stories.items }
+    ensures several { result.story ≡ None }
+    ensures ends { let gives = LoadsSessions (F.content files.old) (F.fault_count files.old) (F.fault_count files.new) (asked_sources words.now) in
+        Ends gives AreStoriesOf sessions_text (O.written out.old) (O.written out.new) result.status }
+    ensures without { (result.status ≡ Done → ⊥) → IsWithout result }
+    ensures unwritten { result.status ≡ NotWritten → HasRisen (O.fault_count out.old) (O.fault_count out.new) }
+{
+    let input = match load_sessions(alloc, words, files) {
+        Ok(input) => input,
+        Err(status) => return Outcome::ended(alloc, status),
+    };
+    let Ok(Told { names, stories }) = stories_of(alloc, input) else {
+        return Outcome::ended(alloc, Status::NoMemory);
+    };
+    match print_sessions(alloc, stories.as_slice(), &names, out) {
+        Ok(()) => Outcome::several(stories),
+        Err(PrintFault::WriteFailed) => Outcome::ended(alloc, Status::WriteFault),
+        Err(PrintFault::NoMemory) => Outcome::ended(alloc, Status::NoMemory),
+    }
+}

@@ -1,0 +1,11 @@
+use Rattle.std.proofs.Common.{ap, ap₂, ◌∙◌}
+use Rattle.std.proofs.lemmas.Result.{IfOk-weaker}
+use Rattle.clap.specs.Words.{Rule, app_of, with_rule}
+use Rattle.tk_words.proofs.options.with_sources.Goals as goal
+
+pub returns : goal.returns
+returns c =
+    let one = c.in_ok-arg.ensures.shape c.option.ensures.local ∙ ap (λ (r : Rule). with_rule (app_of c.args.command) r) c.option.ensures.rule in
+    let two = c.in_ok-arg-2.ensures.shape c.option-2.ensures.local ∙ ap₂ with_rule one c.option-2.ensures.rule in
+    let three = c.in_ok-arg-3.ensures.shape c.option-3.ensures.local ∙ ap₂ with_rule two c.option-3.ensures.rule in
+    IfOk-weaker c.arg-4.result _ _ (λ r added. added.shape c.option-4.ensures.local ∙ ap₂ with_rule three c.option-4.ensures.rule) c.arg-4.ensures

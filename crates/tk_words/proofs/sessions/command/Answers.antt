@@ -1,0 +1,11 @@
+use Rattle.std.proofs.Common.{ap, ap₂, ◌∙◌}
+use Rattle.std.proofs.lemmas.Result.{IfOk-weaker}
+use Rattle.clap.specs.Words.{App, with_rule}
+use Rattle.tk_words.specs.Clap.{with_order_rule, with_source_rules}
+use Rattle.tk_words.proofs.sessions.command.Goals as goal
+
+pub returns : goal.returns
+returns c =
+    let sources = c.in_ok-command.ensures ∙ ap (λ (a : App). with_source_rules a) c.new.ensures.app in
+    let order = c.in_ok-with_order.ensures ∙ ap (λ (a : App). with_order_rule a) sources in
+    IfOk-weaker c.arg.result _ _ (λ r added. added.shape c.log_words.ensures.local ∙ ap₂ with_rule order c.log_words.ensures.rule) c.arg.ensures

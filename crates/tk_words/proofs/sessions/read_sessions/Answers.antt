@@ -1,0 +1,12 @@
+use Rattle.std.proofs.Common.{map, string_bytes, Some}
+use Rattle.clap.specs.Words.{app_of, found_of, rows_of}
+use Rattle.tk_words.specs.Asked.{asked_sources}
+use Rattle.tk_words.specs.Clap.{sessions_app}
+use Rattle.tk_words.specs.Words.{sessions_of}
+use Rattle.tk_words.proofs.FoundLemmas.{formed}
+use Rattle.tk_words.proofs.sessions.read_sessions.Goals as goal
+
+pub returns-in-Ok-values-clause-ok : goal.returns-in-Ok-values-clause-ok
+returns-in-Ok-values-clause-ok c =
+    formed sessions_of (app_of c.in_ok-command.command) sessions_app (map string_bytes c.args.words.now) (rows_of (found_of c.in-Ok.matches)) (Some (asked_sources c.in-Ok-values.sources)) c.in_ok-command.ensures c.in-Ok.ensures.ok
+    c.in-Ok-values.ensures.ok

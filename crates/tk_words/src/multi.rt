@@ -1,0 +1,73 @@
+ghost use Rattle.std.specs.Prelude.{◌≡◌, Some, None, IfOk, IsErrOf, map, string_bytes};
+ghost use Rattle.clap.specs.Words.{app_of, found_of, rows_of};
+ghost use Rattle.tk_words.specs.Asked.{AreOfMonitors, asked_multi};
+ghost use Rattle.tk_words.specs.Clap.{multi_app};
+ghost use Rattle.tk_words.specs.Words.{multi_in, multi_of};
+
+use crate::fault::WordsFault;
+use crate::options::{log_words, option, with_order};
+use crate::parsing::{named_file, parse};
+use crate::sources::{logs, order};
+use clap::{ArgMatches, Command};
+use std::alloc::{AllocError, Global};
+use tk_base::Mon;
+
+/// What the words of several queries ask for.
+#[derive(Drop)]
+pub struct Multi<'a> {
+    pub objects: &'a str,
+    pub queries: &'a str,
+    pub order: Option<&'a str>,
+    /// The logs in the order of the words; those of one monitor become its feeders.
+    pub logs: Vec<(Mon, &'a str)>,
+}
+
+fn command<'a>(alloc: Global) -> Result<Command<'a>, AllocError>
+    ensures { IfOk result (λ c. app_of c ≡ multi_app) }
+{
+    let command = Command::new(alloc, "multi")
+        .arg(option(alloc, "objects", true))?
+        .arg(option(alloc, "queries", true))?;
+    with_order(alloc, command)?.arg(log_words(alloc))
+}
+
+fn values<'a>(alloc: Global, matches: &ArgMatches<'a>) -> Result<Multi<'a>, WordsFault>
+    ensures ok { IfOk result (λ m. multi_of (rows_of (found_of matches.now)) ≡ Some (asked_multi m)) }
+    ensures usage { IsErrOf result WordsFault.Usage → multi_of (rows_of (found_of matches.now)) ≡ None }
+    ensures monitors { IfOk result (λ m. AreOfMonitors m.logs.items) }
+{
+    let Some(objects) = named_file(matches, "objects") else {
+        return Err(WordsFault::Usage);
+    };
+    let Some(queries) = named_file(matches, "queries") else {
+        return Err(WordsFault::Usage);
+    };
+    let Some(order) = order(matches) else {
+        return Err(WordsFault::Usage);
+    };
+    match logs(alloc, matches) {
+        Ok(logs) => Ok(Multi {
+            objects,
+            queries,
+            order,
+            logs,
+        }),
+        Err(fault) => Err(fault),
+    }
+}
+
+/// Reads the words of `multi`, the command first.
+pub fn read_multi<'a>(alloc: Global, words: &'a [String]) -> Result<Multi<'a>, WordsFault>
+    ensures ok { IfOk result (λ m. multi_in (map string_bytes words.entry.now) ≡ Some (asked_multi m)) }
+    ensures usage { IsErrOf result WordsFault.Usage → multi_in (map string_bytes words.entry.now) ≡ None }
+    ensures monitors { IfOk result (λ m. AreOfMonitors m.logs.items) }
+{
+    let command = command(alloc)?;
+    match parse(command, words) {
+        Ok(matches) => match values(alloc, &matches) {
+            Ok(multi) => Ok(multi),
+            Err(fault) => Err(fault),
+        },
+        Err(fault) => Err(fault),
+    }
+}
