@@ -10,6 +10,7 @@ use byteorder::{BigEndian, ByteOrder};
 use std::alloc::Global;
 use tk_base::{Obj, ObjSet, Places};
 
+/// One byte, and what is behind it.
 pub fn byte(bytes: &[u8]) -> Result<(u8, &[u8]), ParseFault>
     ensures { Gives (λ x. (x.0, x.1.now)) result (number_at 1 bytes.now) }
 {
@@ -19,6 +20,7 @@ pub fn byte(bytes: &[u8]) -> Result<(u8, &[u8]), ParseFault>
     Ok((*first, rest))
 }
 
+/// A number in four bytes, big-endian.
 pub fn u32_at(bytes: &[u8]) -> Result<(u32, &[u8]), ParseFault>
     ensures { Gives (λ x. (x.0, x.1.now)) result (number_at 4 bytes.now) }
 {
@@ -28,6 +30,7 @@ pub fn u32_at(bytes: &[u8]) -> Result<(u32, &[u8]), ParseFault>
     Ok((BigEndian::read_u32(bytes), &bytes[4..]))
 }
 
+/// A number in eight bytes, big-endian.
 pub fn u64_at(bytes: &[u8]) -> Result<(u64, &[u8]), ParseFault>
     ensures { Gives (λ x. (x.0, x.1.now)) result (number_at 8 bytes.now) }
 {
@@ -37,6 +40,7 @@ pub fn u64_at(bytes: &[u8]) -> Result<(u64, &[u8]), ParseFault>
     Ok((BigEndian::read_u64(bytes), &bytes[8..]))
 }
 
+/// A number in sixteen bytes, big-endian.
 pub fn u128_at(bytes: &[u8]) -> Result<(u128, &[u8]), ParseFault>
     ensures { Gives (λ x. (x.0, x.1.now)) result (number_at 16 bytes.now) }
 {
@@ -46,6 +50,7 @@ pub fn u128_at(bytes: &[u8]) -> Result<(u128, &[u8]), ParseFault>
     Ok((BigEndian::read_u128(bytes), &bytes[16..]))
 }
 
+/// A signed number in sixteen bytes, in two's complement.
 #[tactic(auto, unfolding(crate::specs::Reading::signed_at))]
 pub fn i128_at(bytes: &[u8]) -> Result<(i128, &[u8]), ParseFault>
     ensures { Gives (λ x. (x.0, x.1.now)) result (signed_at bytes.now) }
@@ -54,6 +59,7 @@ pub fn i128_at(bytes: &[u8]) -> Result<(i128, &[u8]), ParseFault>
     Ok((number.cast_signed(), rest))
 }
 
+/// One byte, 0 or 1.
 #[tactic(auto, unfolding(crate::specs::Reading::flag_at))]
 pub fn flag(bytes: &[u8]) -> Result<(bool, &[u8]), ParseFault>
     ensures { Gives (λ x. (x.0, x.1.now)) result (flag_at bytes.now) }
@@ -128,6 +134,7 @@ fn numbers(alloc: Global, count: u32, bytes: &[u8]) -> Result<(Vec<u32>, &[u8]),
     Ok((list, rest))
 }
 
+/// A set: the number of its objects, then each, ascending.
 #[tactic(auto, unfolding(crate::specs::Reading::set_at))]
 pub fn set(alloc: Global, bytes: &[u8]) -> Result<(ObjSet, &[u8]), ParseFault>
     ensures { Gives (λ x. (x.0, x.1.now)) result (set_at bytes.now) }
@@ -140,6 +147,7 @@ pub fn set(alloc: Global, bytes: &[u8]) -> Result<(ObjSet, &[u8]), ParseFault>
     }
 }
 
+/// The places in the logs of a monitor: their number, then each.
 #[tactic(auto, unfolding(crate::specs::Reading::places_at))]
 pub fn places(alloc: Global, bytes: &[u8]) -> Result<(Places, &[u8]), ParseFault>
     ensures { Gives (λ x. (x.0, x.1.now)) result (places_at bytes.now) }

@@ -12,6 +12,7 @@ use std::alloc::Global;
 use tk_base::{NoMemory, ObjSet, Places};
 use tk_frames::{EncodeFault, Frame, encode};
 
+/// One byte.
 #[tactic(auto, unfolding(crate::specs::Spelling::number))]
 pub fn number_u8(out: &mut Vec<u8>, value: u8) -> Result<(), NoMemory>
     ensures bytes { OnOk result (out.new.items ≡ out.old.items ++ number 1 value) }
@@ -21,6 +22,7 @@ pub fn number_u8(out: &mut Vec<u8>, value: u8) -> Result<(), NoMemory>
     Ok(())
 }
 
+/// A number in four bytes, big-endian.
 #[tactic(auto, unfolding(crate::specs::Spelling::number))]
 pub fn number_u32(out: &mut Vec<u8>, value: u32) -> Result<(), NoMemory>
     ensures bytes { OnOk result (out.new.items ≡ out.old.items ++ number 4 value) }
@@ -30,6 +32,7 @@ pub fn number_u32(out: &mut Vec<u8>, value: u32) -> Result<(), NoMemory>
     Ok(())
 }
 
+/// A number in eight bytes, big-endian.
 #[tactic(auto, unfolding(crate::specs::Spelling::number))]
 pub fn number_u64(out: &mut Vec<u8>, value: u64) -> Result<(), NoMemory>
     ensures bytes { OnOk result (out.new.items ≡ out.old.items ++ number 8 value) }
@@ -39,6 +42,7 @@ pub fn number_u64(out: &mut Vec<u8>, value: u64) -> Result<(), NoMemory>
     Ok(())
 }
 
+/// A number in sixteen bytes, big-endian.
 #[tactic(auto, unfolding(crate::specs::Spelling::number))]
 pub fn number_u128(out: &mut Vec<u8>, value: u128) -> Result<(), NoMemory>
     ensures { OnOk result (out.new.items ≡ out.old.items ++ number 16 value) }
@@ -47,6 +51,7 @@ pub fn number_u128(out: &mut Vec<u8>, value: u128) -> Result<(), NoMemory>
     Ok(())
 }
 
+/// A signed number in sixteen bytes, in two's complement.
 pub fn signed_i128(out: &mut Vec<u8>, value: i128) -> Result<(), NoMemory>
     ensures { OnOk result (out.new.items ≡ out.old.items ++ signed 1 value) }
 {
@@ -69,6 +74,7 @@ pub fn count(out: &mut Vec<u8>, value: usize) -> Result<(), NoMemory>
     number_u32(out, value as u32)
 }
 
+/// The bounds of a query: k, then epsilon.
 pub fn bounds(out: &mut Vec<u8>, k: u32, epsilon: i128) -> Result<(), NoMemory>
     requires { pos 0 ≤ℤ epsilon }
     ensures bytes { OnOk result (out.new.items ≡ out.old.items ++ bounds_of k epsilon) }
@@ -89,6 +95,7 @@ fn set_items(out: &mut Vec<u8>, set: &ObjSet) -> Result<(), NoMemory>
     Ok(())
 }
 
+/// A set: the number of its objects, then each, ascending.
 pub fn set(out: &mut Vec<u8>, set: &ObjSet) -> Result<(), NoMemory>
     requires { length set.now < 2 ^ 32 }
     ensures bytes { OnOk result (out.new.items ≡ out.old.items ++ set_of 1 set.now) }
@@ -108,6 +115,7 @@ fn places_items(out: &mut Vec<u8>, places: &Places) -> Result<(), NoMemory>
     Ok(())
 }
 
+/// The places in the logs of a monitor: their number, then each.
 pub fn places(out: &mut Vec<u8>, places: &Places) -> Result<(), NoMemory>
     requires { length places.now < 2 ^ 32 }
     ensures bytes { OnOk result (out.new.items ≡ out.old.items ++ places_of 1 places.now) }
