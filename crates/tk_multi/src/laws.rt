@@ -12,9 +12,11 @@ ghost use Rattle.tk_multi.specs.declared.event.MultiEvent.{MultiEvent};
 /// After any list of events each query stands where a world of it alone stands after the projection of these events to
 /// it; and there are as many worlds as queries.
 pub fn each_query_is_as_alone()
-    ensures alone { (all : LogSet) (alones : List Alone) (events : List MultiEvent) (q : ℕ) (one : Alone) → entry_at alones q ≡ Some one
-        → entry_at (passed_all (begun_over all alones) events).worlds q ≡ Some (keep_all (begun one) (projected all one.watch q events)) }
-    ensures count { (all : LogSet) (alones : List Alone) (events : List MultiEvent) → length (passed_all (begun_over all alones) events).worlds ≡ length alones }
+    ensures alone { (all : LogSet) (alones : List Alone) (events : List MultiEvent) (q : ℕ) (one : Alone)
+        → entry_at alones q ≡ Some one → entry_at (passed_all (begun_over all alones) events).worlds q
+        ≡ Some (keep_all (begun one) (projected all one.watch q events)) }
+    ensures count { (all : LogSet) (alones : List Alone) (events : List MultiEvent)
+        → length (passed_all (begun_over all alones) events).worlds ≡ length alones }
 {}
 
 /// A watched object has one name, by its number among all objects and by its number among those that are watched.

@@ -45,30 +45,35 @@ impl Query {
         })
     }
 
+    /// Its name, of 1 to 255 bytes.
     pub fn name(&self) -> &[u8]
         ensures { result.now ≡ self.now.name }
     {
         self.name.as_slice()
     }
 
+    /// Whether these bytes are its name.
     pub fn is_named(&self, name: &[u8]) -> bool
         ensures { result ≡ bytes_eq name.now self.now.name }
     {
         name == self.name.as_slice()
     }
 
+    /// How many objects its set has.
     pub fn k(&self) -> u64
         ensures { result ≡ self.now.k }
     {
         self.k
     }
 
+    /// By how much an outsider may pass a member.
     pub fn epsilon(&self) -> u128
         ensures { result ≡ self.now.epsilon }
     {
         self.epsilon
     }
 
+    /// What the names of its objects begin with.
     pub fn prefix(&self) -> &[u8]
         ensures { result.now ≡ self.now.prefix }
     {

@@ -54,7 +54,8 @@ impl Watch {
 
     /// Adds a change, if its object is watched.
     fn add_to(&self, list: &mut Vec<Change>, change: Change) -> Result<(), NoMemory>
-        ensures { OnOk result (changes_of list.new.items ≡ changes_of list.old.items ++ option_to_list (watched_change self.now (pair_of change))) }
+        ensures { OnOk result (changes_of list.new.items
+            ≡ changes_of list.old.items ++ option_to_list (watched_change self.now (pair_of change))) }
     {
         if let Some(obj) = self.anew(change.obj) {
             list.push(Change { obj, by: change.by })?;

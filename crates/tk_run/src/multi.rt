@@ -2,12 +2,12 @@ ghost use Rattle.std.specs.Prelude.{◌≡◌, ◌+◌, All, IfOk, IsErrOf, OnEr
 ghost use Rattle.std.specs.List.{zip};
 ghost use Rattle.tk_input.specs.Files.{HasRisen};
 ghost use Rattle.tk_input.specs.Sink.{Grows, GrowsByFront};
-ghost use Rattle.tk_load.specs.MultiInput.{LoadsMulti};
 ghost use Rattle.tk_load.specs.declared.status.Status.TheVariants.{Done, WriteFault as NotWritten};
-ghost use Rattle.tk_run.specs.Ends.{AreSeveral, Ends, HasRun};
-ghost use Rattle.tk_run.specs.Multi.{AreAnswersOf, multi_text, queries_text, query_title};
+ghost use Rattle.tk_run.specs.Ends.{EndsAsked, RunsAsked};
+ghost use Rattle.tk_run.specs.Multi.{queries_text, query_title};
 ghost use Rattle.tk_run.specs.Outcome.{IsWithout};
 ghost use Rattle.tk_words.specs.Asked.{AreOfMonitors, asked_multi};
+ghost use Rattle.tk_words.specs.Words.Asked.{Queries as Asks};
 
 use crate::headline::a_finished_run_is_sound;
 use crate::outcome::Outcome;
@@ -44,7 +44,8 @@ fn print_queries<O: Sink>(
     requires stories { length stories.now ≡ length queries.now }
     requires named { All (λ told. length told.0 ≡ told.1.story.settings.objects) (zip names.now stories.now) }
     ensures ok { OnOk result (Grows (O.written out.old) (O.written out.new) (queries_text queries.now names.now stories.now)) }
-    ensures err { OnErr result (GrowsByFront (O.written out.old) (O.written out.new) (queries_text queries.now names.now stories.now)) }
+    ensures err { OnErr result
+        (GrowsByFront (O.written out.old) (O.written out.new) (queries_text queries.now names.now stories.now)) }
     ensures failed { IsErrOf result PrintFault.WriteFailed → HasRisen (O.fault_count out.old) (O.fault_count out.new) }
 {
     for i in 0..queries.len() {
@@ -62,10 +63,11 @@ pub fn serve_queries<F: Files, O: Sink>(
     out: &mut O,
 ) -> Outcome
     requires monitors { AreOfMonitors words.now.logs.items }
-    ensures ran { let gives = LoadsMulti (F.content files.old) (F.fault_count files.old) (F.fault_count files.new) (asked_multi words.now) in
-        result.status ≡ Done → AreSeveral (HasRun gives AreAnswersOf multi_text (O.written out.old) (O.written out.new)) result.story result.stories.items }
-    ensures ends { let gives = LoadsMulti (F.content files.old) (F.fault_count files.old) (F.fault_count files.new) (asked_multi words.now) in
-        Ends gives AreAnswersOf multi_text (O.written out.old) (O.written out.new) result.status }
+    ensures ran { result.status ≡ Done → RunsAsked (Asks (asked_multi words.now))
+        (F.content files.old) (F.fault_count files.old) (F.fault_count files.new)
+        (O.written out.old) (O.written out.new) result.story result.stories.items }
+    ensures ends { EndsAsked (Asks (asked_multi words.now)) (F.content files.old) (F.fault_count files.old)
+        (F.fault_count files.new) (O.written out.old) (O.written out.new) result.status }
     ensures without { (result.status ≡ Done → ⊥) → IsWithout result }
     ensures unwritten { result.status ≡ NotWritten → HasRisen (O.fault_count out.old) (O.fault_count out.new) }
 {

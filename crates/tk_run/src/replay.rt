@@ -1,12 +1,12 @@
 ghost use Rattle.std.specs.Prelude.{◌≡◌, IfSome, IsErrOf, OnErr, OnOk, length};
 ghost use Rattle.tk_input.specs.Files.{HasRisen};
 ghost use Rattle.tk_input.specs.Sink.{Grows, GrowsByFront};
-ghost use Rattle.tk_load.specs.Reads.{Loads};
 ghost use Rattle.tk_load.specs.declared.status.Status.TheVariants.{Done, WriteFault as NotWritten};
-ghost use Rattle.tk_run.specs.Ends.{Ends, HasRun, IsOne, IsStoryOf, replay_text, text_with};
+ghost use Rattle.tk_run.specs.Ends.{EndsAsked, RunsAsked, text_with};
 ghost use Rattle.tk_run.specs.Outcome.{IsWithout};
 ghost use Rattle.tk_run.specs.Headline.{IsSound};
-ghost use Rattle.tk_words.specs.Asked.{AreOfMonitors, IsCarriage, asked_sources};
+ghost use Rattle.tk_words.specs.Asked.{AreOfMonitors, IsCarriage, asked_replay};
+ghost use Rattle.tk_words.specs.Words.Asked.{Replays};
 
 use crate::outcome::Outcome;
 use crate::playing::{Played, story_of};
@@ -28,7 +28,8 @@ fn print_with<O: Sink>(
 ) -> Result<(), PrintFault>
     requires { length names.now ≡ story.now.story.settings.objects }
     ensures ok { OnOk result (Grows (O.written out.old) (O.written out.new) (text_with ends.now names.now story.now.story)) }
-    ensures err { OnErr result (GrowsByFront (O.written out.old) (O.written out.new) (text_with ends.now names.now story.now.story)) }
+    ensures err { OnErr result
+        (GrowsByFront (O.written out.old) (O.written out.new) (text_with ends.now names.now story.now.story)) }
     ensures failed { IsErrOf result PrintFault.WriteFailed → HasRisen (O.fault_count out.old) (O.fault_count out.new) }
 {
     match ends {
@@ -37,7 +38,8 @@ fn print_with<O: Sink>(
     }
 }
 
-/// Serves `replay`, and `window`, whose logs are expanded when they are read. Nothing is written before the input stands and its story is over.
+/// Serves `replay`, and `window`, whose logs are expanded when they are read. Nothing is written before the input stands
+/// and its story is over.
 pub fn replay<F: Files, O: Sink>(
     alloc: Global,
     words: &Replay<'_>,
@@ -46,11 +48,12 @@ pub fn replay<F: Files, O: Sink>(
 ) -> Outcome
     requires monitors { AreOfMonitors words.now.sources.logs.items }
     requires carriage { IsCarriage words.now.carriage }
-    ensures ran { let gives = Loads (F.content files.old) (F.fault_count files.old) (F.fault_count files.new) (asked_sources words.now.sources) in
-        result.status ≡ Done → IsOne (HasRun gives IsStoryOf replay_text (O.written out.old) (O.written out.new)) result.story result.stories.items }
+    ensures ran { result.status ≡ Done → RunsAsked (Replays (asked_replay words.now))
+        (F.content files.old) (F.fault_count files.old) (F.fault_count files.new)
+        (O.written out.old) (O.written out.new) result.story result.stories.items }
     ensures sound { IfSome result.story (λ s. IsSound s.story) }
-    ensures ends { let gives = Loads (F.content files.old) (F.fault_count files.old) (F.fault_count files.new) (asked_sources words.now.sources) in
-        Ends gives IsStoryOf replay_text (O.written out.old) (O.written out.new) result.status }
+    ensures ends { EndsAsked (Replays (asked_replay words.now)) (F.content files.old) (F.fault_count files.old)
+        (F.fault_count files.new) (O.written out.old) (O.written out.new) result.status }
     ensures without { (result.status ≡ Done → ⊥) → IsWithout result }
     ensures unwritten { result.status ≡ NotWritten → HasRisen (O.fault_count out.old) (O.fault_count out.new) }
 {

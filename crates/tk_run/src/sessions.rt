@@ -3,14 +3,14 @@
 ghost use Rattle.std.specs.Prelude.{◌≡◌, All, IfOk, IsErrOf, None, OnErr, OnOk, length};
 ghost use Rattle.tk_input.specs.Files.{HasRisen};
 ghost use Rattle.tk_input.specs.Sink.{Grows, GrowsByFront};
-ghost use Rattle.tk_load.specs.SessionInput.{LoadsSessions};
 ghost use Rattle.tk_load.specs.Whole.{AreAgreed};
 ghost use Rattle.tk_load.specs.declared.status.Status.TheVariants.{Done, WriteFault as NotWritten};
-ghost use Rattle.tk_run.specs.Ends.{AreSeveral, Ends, HasRun};
+ghost use Rattle.tk_run.specs.Ends.{EndsAsked, RunsAsked};
 ghost use Rattle.tk_run.specs.Outcome.{IsWithout};
-ghost use Rattle.tk_run.specs.Sessions.{AreStoriesOf, lines_in, session_title, sessions_text, stories_text};
+ghost use Rattle.tk_run.specs.Sessions.{AreStoriesOf, lines_in, session_title, stories_text};
 ghost use Rattle.tk_session.specs.Chain.{IsChainOf};
 ghost use Rattle.tk_words.specs.Asked.{AreOfMonitors, asked_sources};
+ghost use Rattle.tk_words.specs.Words.Asked.{Restarts};
 
 use crate::outcome::Outcome;
 use crate::titled::print_titled;
@@ -106,11 +106,12 @@ pub fn serve_sessions<F: Files, O: Sink>(
     out: &mut O,
 ) -> Outcome
     requires { AreOfMonitors words.now.logs.items }
-    ensures ran { let gives = LoadsSessions (F.content files.old) (F.fault_count files.old) (F.fault_count files.new) (asked_sources words.now) in
-        result.status ≡ Done → AreSeveral (HasRun gives AreStoriesOf sessions_text (O.written out.old) (O.written out.new)) result.story result.stories.items }
+    ensures ran { result.status ≡ Done → RunsAsked (Restarts (asked_sources words.now))
+        (F.content files.old) (F.fault_count files.old) (F.fault_count files.new)
+        (O.written out.old) (O.written out.new) result.story result.stories.items }
     ensures several { result.story ≡ None }
-    ensures ends { let gives = LoadsSessions (F.content files.old) (F.fault_count files.old) (F.fault_count files.new) (asked_sources words.now) in
-        Ends gives AreStoriesOf sessions_text (O.written out.old) (O.written out.new) result.status }
+    ensures ends { EndsAsked (Restarts (asked_sources words.now)) (F.content files.old) (F.fault_count files.old)
+        (F.fault_count files.new) (O.written out.old) (O.written out.new) result.status }
     ensures without { (result.status ≡ Done → ⊥) → IsWithout result }
     ensures unwritten { result.status ≡ NotWritten → HasRisen (O.fault_count out.old) (O.fault_count out.new) }
 {
