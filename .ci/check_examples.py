@@ -1,11 +1,12 @@
-"""Checks each example's expected text against plain sums over its logs, the README's example, and, where the
+"""Checks each example's expected text against plain sums over its logs, the README's examples, and, where the
 program is built, that it prints these texts.
 
 It knows nothing of the protocol: a printed set is right where each member's total over the printed
 prefixes, plus epsilon, is at least that of every object outside. An example with a status is refused with it, and its
 fault stands in the file `fault`; of a run that is made from a seed the text alone is compared. What a live run prints
 depends on how its threads meet, so it has no expected text: each set that it prints is checked by plain sums. Where
-there is an awk, the change logs of the access logs are made once more and compared, too.
+there is an awk, the change logs of the access logs are made once more and compared, too; where there is a program, so is
+the trace that is kept, the trace of each replay is checked, and what is no whole trace is refused.
 """
 import csv
 import os
@@ -18,11 +19,17 @@ import tempfile
 
 ROOT = pathlib.Path(__file__).resolve().parent.parent
 PROGRAM = ROOT / "crates" / "topk" / "out" / "topk"
+# A run, and its trace.
+TRACED = ROOT / "examples" / "two_monitors"
+TRACE = ROOT / "examples" / "checked" / "two_monitors.trace"
+
+
+def words_in(folder):
+    return [word for word in (folder / "words").read_text().split("\n") if word]
 
 
 def words_of(folder):
-    words = (folder / "words").read_text().split("\n")
-    words = [word for word in words if word]
+    words = words_in(folder)
     options, logs = {}, {}
     place = 1
     while place < len(words):
@@ -93,13 +100,13 @@ def is_refused(folder):
 
 
 def command_of(folder):
-    return (folder / "words").read_text().split("\n")[0]
+    return words_in(folder)[0]
 
 
 def check(folder):
-    if is_refused(folder) or command_of(folder) not in ("replay", "window", "multi", "sessions"):
+    if is_refused(folder) or command_of(folder) not in ("replay", "window", "multi", "sessions", "check"):
         return None
-    by_command = check_queries if command_of(folder) == "multi" else check_text
+    by_command = {"multi": check_queries, "check": check_trace}.get(command_of(folder), check_text)
     return by_command(folder, (folder / "expected.txt").read_text())
 
 
@@ -142,6 +149,12 @@ def check_queries(folder, text):
     return None
 
 
+def check_trace(folder, text):
+    """The sets of the trace that is kept are right over the logs of its run, and yes stands behind them."""
+    fault = check_text(TRACED, text) if text.endswith("\nyes\n") else "no yes behind the sets"
+    return f"{folder.name}: {fault}" if fault else None
+
+
 def check_sets(label, names, logs, options, lines, ticked):
     width = int(options.get("width", 0))
     final = None
@@ -167,8 +180,7 @@ def check_sets(label, names, logs, options, lines, ticked):
 
 
 def run(folder):
-    words = [word for word in (folder / "words").read_text().split("\n") if word]
-    done = subprocess.run([PROGRAM, *words], cwd=folder, capture_output=True, text=True, timeout=60)
+    done = subprocess.run([PROGRAM, *words_in(folder)], cwd=folder, capture_output=True, text=True, timeout=60)
     status = int((folder / "status").read_text()) if is_refused(folder) else 0
     fault = (folder / "fault").read_text() if is_refused(folder) else ""
     if done.returncode != status or done.stderr != fault:
@@ -190,17 +202,62 @@ def made_again(folder):
     return None if made == kept else f"{folder.name}: to_logs.awk makes other logs"
 
 
+def altered():
+    """The altered trace is the one that is kept, with one other byte."""
+    kept, other = TRACE.read_bytes(), (ROOT / "examples" / "altered_trace" / "altered.trace").read_bytes()
+    differ = sum(a != b for a, b in zip(kept, other))
+    return None if len(kept) == len(other) and differ == 1 else "altered_trace: not the trace with one other byte"
+
+
+def traces():
+    """The program makes the trace that is kept, however its frames go."""
+    for folder in (TRACED, ROOT / "examples" / "in_pieces"):
+        words = ["trace", *words_in(folder)[1:]]
+        done = subprocess.run([PROGRAM, *words], cwd=folder, capture_output=True, timeout=60)
+        if (done.returncode, done.stdout, done.stderr) != (0, TRACE.read_bytes(), b""):
+            yield f"{folder.name}: the program makes another trace"
+
+
+def checked_replays(folders):
+    """The trace of each replay is checked, and tells the sets that the replay prints."""
+    with tempfile.TemporaryDirectory() as room:
+        for folder in folders:
+            if is_refused(folder) or command_of(folder) != "replay":
+                continue
+            file = pathlib.Path(room) / f"{folder.name}.trace"
+            with file.open("wb") as out:
+                subprocess.run([PROGRAM, "trace", *words_in(folder)[1:]], cwd=folder, stdout=out, timeout=60)
+            done = subprocess.run([PROGRAM, "check", file.name], cwd=room, capture_output=True, text=True, timeout=60)
+            lines = (folder / "expected.txt").read_text().splitlines(keepends=True)
+            if done.stdout != "".join(line for line in lines if line.startswith(("set", "final"))) + "yes\n":
+                yield f"{folder.name}: its trace is not checked, status {done.returncode}"
+
+
+def ends_of_checks():
+    """A trace that is cut or has one byte more is refused, and a file that is too long, each by its status and line."""
+    kept = TRACE.read_bytes()
+    cut = [kept[:length] for length in (0, 7, 8, 60, len(kept) // 2, len(kept) - 1)]
+    rows = [(other, 11, "not a legal trace") for other in (*cut, kept + b"\0")]
+    rows.append((bytes(64 * 2**20 + 1), 4, "the file is too long"))
+    with tempfile.TemporaryDirectory() as room:
+        file = pathlib.Path(room) / "run.trace"
+        for other, status, fault in rows:
+            file.write_bytes(other)
+            done = subprocess.run([PROGRAM, "check", file.name], cwd=room, capture_output=True, timeout=60)
+            if (done.returncode, done.stdout, done.stderr) != (status, b"", f"topk: {file.name}: {fault}\n".encode()):
+                yield f"a trace of {len(other)} bytes: the program ends in another way, status {done.returncode}"
+
+
 def ends_of_output():
     """The program tells a full device, a reader that is gone, and a closed output, each by its status and line."""
-    folder = ROOT / "examples" / "two_monitors"
-    words = [word for word in (folder / "words").read_text().split("\n") if word]
+    words = words_in(TRACED)
     read, write = os.pipe()
     os.close(read)
     with open("/dev/full", "wb") as full, open(write, "wb") as gone:
         ways = {"a full device": dict(stdout=full), "a reader that is gone": dict(stdout=gone),
                 "a closed output": dict(preexec_fn=lambda: os.close(1))}
         for way, how in ways.items():
-            done = subprocess.run([PROGRAM, *words], cwd=folder, stderr=subprocess.PIPE, timeout=60, **how)
+            done = subprocess.run([PROGRAM, *words], cwd=TRACED, stderr=subprocess.PIPE, timeout=60, **how)
             if done.returncode != 6 or done.stderr != b"topk: the output cannot be written\n":
                 yield f"{way}: the program ends in another way, status {done.returncode}"
 
@@ -208,15 +265,17 @@ def ends_of_output():
 def main():
     folders = [folder for folder in sorted((ROOT / "examples").iterdir()) if folder.is_dir()]
     faults = [check(folder) for folder in folders]
+    faults.append(altered())
     if PROGRAM.exists():
         faults += [run(folder) for folder in folders]
-        faults += ends_of_output()
+        faults += [*ends_of_output(), *traces(), *checked_replays(folders), *ends_of_checks()]
     if shutil.which("awk"):
         faults.append(made_again(ROOT / "examples" / "access_log"))
-    shown = (ROOT / "examples" / "two_monitors" / "expected.txt").read_text()
-    if shown not in (ROOT / "README.md").read_text():
-        faults.append("README.md: the example is not the expected text")
-    if shown != (ROOT / "crates" / "topk" / "stdout").read_text():
+    readme = (ROOT / "README.md").read_text()
+    for name in ("two_monitors", "checked"):
+        if (ROOT / "examples" / name / "expected.txt").read_text() not in readme:
+            faults.append(f"README.md: the text of {name} is not the expected one")
+    if (TRACED / "expected.txt").read_text() != (ROOT / "crates" / "topk" / "stdout").read_text():
         faults.append("crates/topk/stdout: not the expected text")
     faults = [fault for fault in faults if fault]
     print("\n".join(faults) or "examples: ok")

@@ -1,9 +1,8 @@
 //! Orders over the objects a and b and two monitors with one feeder each, driven in a world that hands its frames over, and
 //! in worlds whose frames go as bytes, in pieces of 1, 7 and 4,096 and in both versions.
 
-ghost use Rattle.std.specs.Prelude.{◌≡◌, ◌<◌, ◌≤◌, IfSome};
+ghost use Rattle.std.specs.Prelude.{◌<◌, ◌≤◌};
 ghost use Rattle.tk_frames.specs.Spelling.{IsVersion};
-ghost use Rattle.tk_input.specs.Logs.{IsCut};
 ghost use Rattle.tk_world.specs.World.{CanRun};
 
 mod same;
@@ -11,7 +10,7 @@ mod same;
 use same::are_same;
 use std::alloc::Global;
 use std::test::Fail;
-use tk_base::{Cut, Mon, Places, Settings};
+use tk_base::{Cut, Mon, Settings};
 use tk_bytes::{ByteWorld, byte_world};
 use tk_drain::drive;
 use tk_input::{Catalog, Logs, Order, Part};
@@ -36,20 +35,6 @@ struct Input {
     ghost runs: { CanRun settings logs from },
 }
 
-/// The places before the first change of each log, which is that of one feeder.
-fn start_of(alloc: Global, logs: &Logs) -> Option<Cut>
-    ensures { IfSome result (λ cut. IsCut logs.now.logs cut) }
-{
-    let mut list = Vec::new(alloc);
-    for j in 0..logs.monitors() {
-        if logs.feeders(Mon(j + 1)) != 1 {
-            return None;
-        }
-        list.push(Places::new(vec![in alloc; 0].ok()?)).ok()?;
-    }
-    Some(Cut::new(list))
-}
-
 /// What worlds of a row are made of.
 fn input_of(alloc: Global, row: Row<'_>) -> Option<Input> {
     let names = Catalog::read(alloc, b"a\nb\n").ok()?;
@@ -62,7 +47,7 @@ fn input_of(alloc: Global, row: Row<'_>) -> Option<Input> {
     if settings.objects() != logs.objects() || settings.monitors() != logs.monitors() {
         return None;
     }
-    let from = start_of(alloc, &logs)?;
+    let from = logs.start(alloc).ok()?;
     Some(Input {
         settings,
         logs,

@@ -169,7 +169,8 @@ pub fn assigns(
 /// A Stop to each monitor.
 pub fn push_stops(alloc: Global, entries: &mut Vec<Noted>, monitors: u32) -> Result<(), NoMemory>
     ensures value { OnOk result (entries.new.items ≡ entries.old.items ++ to_each Stop monitors) }
-    ensures entries { (n : ℕ) → All (IsEntryOf monitors n) entries.old.items → OnOk result (All (IsEntryOf monitors n) entries.new.items) }
+    ensures entries { (n : ℕ) → All (IsEntryOf monitors n) entries.old.items
+        → OnOk result (All (IsEntryOf monitors n) entries.new.items) }
 {
     for j in 0..monitors {
         entries.push(sent(alloc, j + 1, Frame::Stop)?)?;

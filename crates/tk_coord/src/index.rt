@@ -69,10 +69,13 @@ fn note_entry(sent: &mut [Vec<usize>], published: &mut Vec<usize>, entry: &Noted
     requires monitor { IsForOneOf (length sent.old) entry.now }
     requires room { HasRoom 1 sent.old }
     requires published_room { vec_len published.old < vec_capacity published.old }
-    ensures sent { (journal : List Noted) → length journal ≡ place → AreIndexed journal sent.old → AreIndexed (journal ++ entry.now ∷ []) sent.new }
-    ensures published { (journal : List Noted) → length journal ≡ place → IsIndex published_in journal published.old.items → IsIndex published_in (journal ++ entry.now ∷ []) published.new.items }
+    ensures sent { (journal : List Noted) → length journal ≡ place → AreIndexed journal sent.old
+        → AreIndexed (journal ++ entry.now ∷ []) sent.new }
+    ensures published { (journal : List Noted) → length journal ≡ place → IsIndex published_in journal published.old.items
+        → IsIndex published_in (journal ++ entry.now ∷ []) published.new.items }
     ensures room { (n : ℕ) → HasRoom (n + 1) sent.old → HasRoom n sent.new }
-    ensures published_room { (n : ℕ) → vec_len published.old + (n + 1) ≤ vec_capacity published.old → vec_len published.new + n ≤ vec_capacity published.new }
+    ensures published_room { (n : ℕ) → vec_len published.old + (n + 1) ≤ vec_capacity published.old
+        → vec_len published.new + n ≤ vec_capacity published.new }
 {
     match entry {
         Noted::Got(_, _) => {}

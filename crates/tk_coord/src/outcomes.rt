@@ -162,7 +162,8 @@ fn ended(
 ) -> Result<Outcome, NoMemory>
     requires count { length links.now ≡ standing.settings.monitors }
     requires named { AreDealtTo standing.settings.monitors dealt }
-    ensures ends { (grid : Grid) (decided : Decided) → IsDealt grid decided dealt → IfOk result (Ends grid links.now standing decided) }
+    ensures ends { (grid : Grid) (decided : Decided) → IsDealt grid decided dealt
+        → IfOk result (Ends grid links.now standing decided) }
     ensures entries { (n : ℕ) → IfOk result (λ o. All (IsEntryOf standing.settings.monitors n) o.entries.items) }
 {
     match dealt {
@@ -245,7 +246,8 @@ pub fn end_wide(grounds: Grounds, reports: &[Reported]) -> Result<Outcome, NoMem
 /// The end of a round, wide or full, from which the next k and epsilon are in force.
 pub fn end_round(grounds: Grounds, wide: bool, reports: &[Reported]) -> Result<Outcome, NoMemory>
     requires all { wide ≡ true → CanEndWide grounds.standing.next grounds.table.now grounds.links.now reports.now }
-    requires some { wide ≡ false → CanEndFull grounds.standing.next grounds.table.now grounds.members.now grounds.links.now reports.now }
+    requires some { wide ≡ false
+        → CanEndFull grounds.standing.next grounds.table.now grounds.members.now grounds.links.now reports.now }
     requires ranks { grounds.ranks.now ≡ ranks_of grounds.table.now grounds.members.now }
     ensures all { wide ≡ true → IfOk result (IsAssigned grounds.entry.table.now grounds.entry.links.now (closed grounds.entry.standing) (wide_decides grounds.entry.standing.next grounds.entry.table.now grounds.entry.members.now reports.now)) }
     ensures some { wide ≡ false → IfOk result (Ends grounds.entry.table.now grounds.entry.links.now (closed grounds.entry.standing) (full_decides grounds.entry.standing.next grounds.entry.table.now grounds.entry.members.now reports.now)) }

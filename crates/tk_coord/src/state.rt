@@ -114,8 +114,10 @@ impl State {
     /// A frame of a monitor was taken.
     pub fn take(&mut self, mon: Mon, told: Told)
         requires { HasPlace self.old mon.0 }
-        ensures holds { (s : Setup) (j : List Noted) (frame : Frame) → Tells s j mon frame told → IsMonitor s mon.0 → Holds s j self.old → Holds s (with_got j mon frame) self.new }
-        ensures ranks { self.old.ranks ≡ ranks_of self.old.table self.old.members → self.new.ranks ≡ ranks_of self.new.table self.new.members }
+        ensures holds { (s : Setup) (j : List Noted) (frame : Frame) → Tells s j mon frame told → IsMonitor s mon.0
+            → Holds s j self.old → Holds s (with_got j mon frame) self.new }
+        ensures ranks { self.old.ranks ≡ ranks_of self.old.table self.old.members
+            → self.new.ranks ≡ ranks_of self.new.table self.new.members }
     {
         let place = mon.0 as usize - 1;
         self.round.waiting = still_waits(self.round.waiting, &told);
@@ -127,8 +129,10 @@ impl State {
     /// What it brings about was sent.
     pub fn reply(&mut self, reply: Reply)
         requires { CanReply self.old reply }
-        ensures holds { (s : Setup) (j entries : List Noted) → IsReply s j entries reply → Holds s j self.old → Holds s (j ++ entries) self.new }
-        ensures ranks { self.old.ranks ≡ ranks_of self.old.table self.old.members → self.new.ranks ≡ ranks_of self.new.table self.new.members }
+        ensures holds { (s : Setup) (j entries : List Noted) → IsReply s j entries reply → Holds s j self.old
+            → Holds s (j ++ entries) self.new }
+        ensures ranks { self.old.ranks ≡ ranks_of self.old.table self.old.members
+            → self.new.ranks ≡ ranks_of self.new.table self.new.members }
     {
         match reply {
             Reply::Nothing => {}

@@ -5,7 +5,8 @@ ghost use Rattle.tk_drain.specs.Moves.{Checks, Ends, Lessens, Lone, LoneOpens, O
 
 /// What costs no more than is shared leaves less energy.
 pub fn each_event_costs_energy()
-    ensures { (m at cost : ℕ) (s s' : Shared) (local local' : ℕ → Local) → Falls m at cost s s' local local' → energies m s' local' < energies m s local }
+    ensures { (m at cost : ℕ) (s s' : Shared) (local local' : ℕ → Local) → Falls m at cost s s' local local'
+        → energies m s' local' < energies m s local }
 {}
 
 /// A check that sends lowers the energy, at no cost.

@@ -1,26 +1,11 @@
 //! Worlds of the objects a and b over two monitors with one feeder each, k 1 and epsilon 0, driven to rest.
 
-ghost use Rattle.std.specs.Prelude.{IfOk};
-ghost use Rattle.tk_input.specs.Logs.{IsCut};
-
 use std::alloc::Global;
 use std::test::Fail;
-use tk_base::{Cut, Feeder, Mon, NoMemory, Obj, Places, Settings};
+use tk_base::{Feeder, Mon, NoMemory, Obj, Settings};
 use tk_drain::{drive, finish, settle, sweep};
 use tk_input::{Catalog, Event, Logs, Order, Part};
 use tk_world::{Moved, World};
-
-/// The places before the first change of each log.
-fn start_of(alloc: Global, logs: &Logs) -> Result<Cut, NoMemory>
-    ensures { IfOk result (λ cut. IsCut logs.now.logs cut) }
-{
-    let mut list = Vec::new(alloc);
-    for j in 0..logs.monitors() {
-        let places = vec![in alloc; 0u32; logs.feeders(Mon(j + 1)) as usize]?;
-        list.push(Places::new(places))?;
-    }
-    Ok(Cut::new(list))
-}
 
 /// A world in which nothing has happened yet.
 fn world(alloc: Global, one: &[u8], two: &[u8]) -> Result<World, Fail> {
@@ -31,7 +16,7 @@ fn world(alloc: Global, one: &[u8], two: &[u8]) -> Result<World, Fail> {
     let logs = Logs::new(alloc, parts, names.len() as u32)?;
     let objects = u64::from(logs.objects());
     let settings = Settings::new(1, 0, 1, objects, u64::from(logs.monitors()))?;
-    let from = start_of(alloc, &logs)?;
+    let from = logs.start(alloc)?;
     Ok(World::new(alloc, settings, logs, from)?)
 }
 

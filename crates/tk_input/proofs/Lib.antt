@@ -1,3 +1,4 @@
+pub mod BeginningLemmas
 pub mod CountLemmas
 pub mod EdgeLemmas
 pub mod FilesLemmas

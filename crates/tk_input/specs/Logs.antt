@@ -81,6 +81,10 @@ pub record LogSet : Type 0 where
   pub logs : List (List (List (ℕ × ℤ)))
   pub objects : ℕ
 
+-- the places before the first change of each part
+abbrev pub beginnings : LogSet → List (List ℕ)
+beginnings all = map (λ parts. map (λ part. 0) parts) all.logs
+
 -- the logs are within the limits of this system
 pub record AreLogs (s : LogSet) : Type 0 where
   pub some_monitor : 1 ≤ length s.logs

@@ -54,10 +54,12 @@ pub trait Files {
         ensures told { (other : List ℕ) → content self.new other ≡ content self.old other }
         // Where the content is longer than the limit and the read does not fail, it is too long.
         ensures short { IfOk result (λ v. length v.items ≤ 67108864) }
-        ensures too_long { IsErrOf result FileFault.TooLong → IfSome (content self.old name.now) (λ told. 67108864 < length told) }
+        ensures too_long { IsErrOf result FileFault.TooLong
+            → IfSome (content self.old name.now) (λ told. 67108864 < length told) }
         ensures too_much { IsErrOf result FileFault.TooLong → 67108864 < most_taken self.new name.now }
         // A failed read is counted. No count falls, and each is of its own name.
-        ensures failed { IsErrOf result FileFault.Failed → HasRisen (fault_count self.old name.now) (fault_count self.new name.now) }
+        ensures failed { IsErrOf result FileFault.Failed
+            → HasRisen (fault_count self.old name.now) (fault_count self.new name.now) }
         ensures kept_faults { fault_count self.old name.now ≤ fault_count self.new name.now }
         ensures other_faults { (other : List ℕ) → other ≢ name.now → fault_count self.new other ≡ fault_count self.old other }
         // So is the most that one read took, which is no more than there is.

@@ -2,8 +2,9 @@ ghost use Rattle.std.specs.Prelude.{◌≡◌, ◌<◌, ◌≤◌, ◌^◌, ◌*
 ghost use Rattle.tk_input.specs.declared.logs.LogsFault.TheVariants.{NoMemory as OutOfMemory};
 ghost use Rattle.tk_input.specs.Judged.{Refuses, last_monitor, logs_by_monitor};
 ghost use Rattle.tk_input.specs.Rows.{logs_in};
-ghost use Rattle.tk_input.specs.Logs.{AreLogs, AreParts, IsCut, IsFeeder, IsMonitor, IsObject, parts_of, part_of, value as value_at, total as total_at};
+ghost use Rattle.tk_input.specs.Logs.{AreLogs, AreParts, IsCut, IsFeeder, IsMonitor, IsObject, beginnings, parts_of, part_of, value as value_at, total as total_at};
 
+mod beginning;
 mod judging;
 mod rows;
 mod sums;
@@ -11,6 +12,7 @@ mod weights;
 
 use crate::change::Change;
 use crate::part::Part;
+use beginning::cut_of;
 use judging::judge;
 use rows::{rows_of, shared_parts};
 use std::alloc::{AllocError, AllocFailed, Global};
@@ -195,6 +197,14 @@ impl Logs {
         ensures limits { AreParts self.now.objects (parts_of self.now.logs mon.0) }
     {
         clones_of(alloc, self.rows[mon.0 as usize - 1].as_slice())
+    }
+
+    /// The places before the first change of each part.
+    pub fn start(&self, alloc: Global) -> Result<Cut, NoMemory>
+        ensures value { IfOk result (λ cut. cut ≡ beginnings self.now) }
+        ensures cut { IfOk result (λ cut. IsCut self.now.logs cut) }
+    {
+        cut_of(alloc, self.rows.as_slice())
     }
 
     /// Goes over all changes that the cut reaches at the monitor.

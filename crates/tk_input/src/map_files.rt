@@ -114,15 +114,19 @@ impl Files for MapFiles {
         ensures content { IfOk result (λ v. IfSome (content_of self.old.files name.now) (λ told. v.items ≡ told)) }
         ensures told { (other : List ℕ) → content_of self.new.files other ≡ content_of self.old.files other }
         ensures short { IfOk result (λ v. length v.items ≤ 67108864) }
-        ensures too_long { IsErrOf result FileFault.TooLong → IfSome (content_of self.old.files name.now) (λ told. 67108864 < length told) }
+        ensures too_long { IsErrOf result FileFault.TooLong
+            → IfSome (content_of self.old.files name.now) (λ told. 67108864 < length told) }
         ensures too_much { IsErrOf result FileFault.TooLong → 67108864 < longest_of self.new.counts name.now }
-        ensures failed { IsErrOf result FileFault.Failed → HasRisen (faults_of self.old.counts name.now) (faults_of self.new.counts name.now) }
+        ensures failed { IsErrOf result FileFault.Failed
+            → HasRisen (faults_of self.old.counts name.now) (faults_of self.new.counts name.now) }
         ensures kept_faults { faults_of self.old.counts name.now ≤ faults_of self.new.counts name.now }
-        ensures other_faults { (other : List ℕ) → other ≢ name.now → faults_of self.new.counts other ≡ faults_of self.old.counts other }
+        ensures other_faults { (other : List ℕ) → other ≢ name.now
+            → faults_of self.new.counts other ≡ faults_of self.old.counts other }
         ensures taken { IfOk result (λ v. length v.items ≤ longest_of self.new.counts name.now) }
         ensures kept_taken { longest_of self.old.counts name.now ≤ longest_of self.new.counts name.now }
         ensures no_more { IfSome (content_of self.old.files name.now) (λ told. longest_of self.new.counts name.now ≤ max (longest_of self.old.counts name.now) (length told)) }
-        ensures other_taken { (other : List ℕ) → other ≢ name.now → longest_of self.new.counts other ≡ longest_of self.old.counts other }
+        ensures other_taken { (other : List ℕ) → other ≢ name.now
+            → longest_of self.new.counts other ≡ longest_of self.old.counts other }
     {
         if self.tallies.reserve(alloc, name).is_err() {
             return Err(FileFault::NoMemory);

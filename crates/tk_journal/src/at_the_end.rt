@@ -17,7 +17,8 @@ ghost use Rattle.tk_journal.specs.declared.noted.Noted.TheVariants as n;
 
 /// Where no round is open, no current answer is a Report.
 pub fn no_report_stands()
-    ensures { (o : Opening) (j : List Noted) (mon : ℕ) → IsSetUp o → IsLegal o j → IsMonitor o.settings mon → is_open o.settings j ≡ false → is_report (answer_of mon j) ≡ false }
+    ensures { (o : Opening) (j : List Noted) (mon : ℕ) → IsSetUp o → IsLegal o j → IsMonitor o.settings mon
+        → is_open o.settings j ≡ false → is_report (answer_of mon j) ≡ false }
 {}
 
 /// A Report or Settled that was got under the last number leaves a current answer; a Report stays one.
@@ -36,7 +37,8 @@ pub fn a_told_end_stays_told()
 
 /// Where all is calm and at the ends, Stop was sent.
 pub fn calm_at_the_ends_is_stopped()
-    ensures { (o : Opening) (j : List Noted) → IsSetUp o → IsLegal o j → is_calm o.settings j ≡ true → is_last o.settings j ≡ true → is_stopped j ≡ true }
+    ensures { (o : Opening) (j : List Noted) → IsSetUp o → IsLegal o j → is_calm o.settings j ≡ true
+        → is_last o.settings j ≡ true → is_stopped j ≡ true }
 {}
 
 /// At the end of a legal journal that is not stopped nothing is due.

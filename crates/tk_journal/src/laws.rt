@@ -84,22 +84,26 @@ pub fn only_the_final_one_is_last()
 
 /// A current answer is fresh: it speaks of the last Assign.
 pub fn answers_are_fresh()
-    ensures { (mon : ℕ) (j : List Noted) (answer : Frame) → answer_of mon j ≡ Some answer → is_answer (assigns_sent mon j) answer ≡ true }
+    ensures { (mon : ℕ) (j : List Noted) (answer : Frame) → answer_of mon j ≡ Some answer
+        → is_answer (assigns_sent mon j) answer ≡ true }
 {}
 
 /// The last Assign to each monitor names the members.
 pub fn each_monitor_is_sent_the_members()
-    ensures { (o : Opening) (j : List Noted) (mon : ℕ) → IsSetUp o → IsLegal o j → IsMonitor o.settings mon → members_of (assigns_to mon j) ≡ members_at j }
+    ensures { (o : Opening) (j : List Noted) (mon : ℕ) → IsSetUp o → IsLegal o j → IsMonitor o.settings mon
+        → members_of (assigns_to mon j) ≡ members_at j }
 {}
 
 /// The sequence numbers of the Assigns to each monitor count up from 1.
 pub fn assigns_are_numbered()
-    ensures { (o : Opening) (j : List Noted) (mon : ℕ) → IsSetUp o → IsLegal o j → IsMonitor o.settings mon → seqs_to mon j ≡ range_with_len 1 (assigns_sent mon j) }
+    ensures { (o : Opening) (j : List Noted) (mon : ℕ) → IsSetUp o → IsLegal o j → IsMonitor o.settings mon
+        → seqs_to mon j ≡ range_with_len 1 (assigns_sent mon j) }
 {}
 
 /// Publications are numbered from 1.
 pub fn publications_are_numbered()
-    ensures { (o : Opening) (j : List Noted) → IsLegal o j → map (λ p. p.number) (publications j) ≡ range_with_len 1 (length (publications j)) }
+    ensures { (o : Opening) (j : List Noted) → IsLegal o j
+        → map (λ p. p.number) (publications j) ≡ range_with_len 1 (length (publications j)) }
 {}
 
 /// A publication stands only where one is due, and says what there is to say.

@@ -18,7 +18,8 @@ pub fn every_entry_is_said_well()
 
 /// While a round waits for a monitor, the last frame sent to it is that round's Collect.
 pub fn an_awaited_monitor_was_last_asked()
-    ensures { (o : Opening) (j : List Noted) (mon : ℕ) → IsSetUp o → IsLegal o j → IsMonitor o.settings mon → waits_for (last_round j) mon j ≡ true → IsLastAsked mon j }
+    ensures { (o : Opening) (j : List Noted) (mon : ℕ) → IsSetUp o → IsLegal o j → IsMonitor o.settings mon
+        → waits_for (last_round j) mon j ≡ true → IsLastAsked mon j }
 {}
 
 /// To a monitor went as many Collects as came Values of it, and one more while it is waited for.

@@ -16,12 +16,14 @@ ghost use Rattle.tk_journal.specs.declared.noted.Noted.TheVariants as n;
 
 /// A front of a legal journal that ends before an input is legal, the input is accepted over it, and its turn follows.
 pub fn turns_stand_whole()
-    ensures { (o : Opening) (before : List Noted) (e : Noted) (after : List Noted) → IsLegal o (before ++ e ∷ after) → is_input e ≡ true → StandsWhole o before e after }
+    ensures { (o : Opening) (before : List Noted) (e : Noted) (after : List Noted) → IsLegal o (before ++ e ∷ after)
+        → is_input e ≡ true → StandsWhole o before e after }
 {}
 
 /// What follows a frame that is taken is one of the few turns that there are.
 pub fn each_turn_has_a_shape()
-    ensures { (s : Setup) (before : List Noted) (from : Mon) (frame : Frame) → IsMonitor s from.0 → refusal_of s before from.0 frame ≡ None → Shape s before from frame (demanded s before from.0 frame) }
+    ensures { (s : Setup) (before : List Noted) (from : Mon) (frame : Frame) → IsMonitor s from.0
+        → refusal_of s before from.0 frame ≡ None → Shape s before from frame (demanded s before from.0 frame) }
 {}
 
 /// How many reports in a row failed the short test, over one more turn.
@@ -34,6 +36,8 @@ pub fn the_streak_over_a_turn()
 /// opened wide.
 pub fn turns_tell()
     ensures streak { (o : Opening) (j : List Noted) → IsLegal o j → streak o.settings j ≡ streak_of (turns_of o.settings j) }
-    ensures rounds { (o : Opening) (j : List Noted) → IsSetUp o → IsLegal o j → rounds o.settings j ≡ (counts_of (turns_of o.settings j)).full + (counts_of (turns_of o.settings j)).wide }
-    ensures wide { (s : Setup) (before : List Noted) (from : Mon) (frame : Frame) → opens_wide s before from.0 frame ≡ true → demanded s before from.0 frame ≡ wide_collects s (rounds s (before ++ n.Got from frame ∷ []) + 1) }
+    ensures rounds { (o : Opening) (j : List Noted) → IsSetUp o → IsLegal o j
+        → rounds o.settings j ≡ (counts_of (turns_of o.settings j)).full + (counts_of (turns_of o.settings j)).wide }
+    ensures wide { (s : Setup) (before : List Noted) (from : Mon) (frame : Frame) → opens_wide s before from.0 frame ≡ true
+        → demanded s before from.0 frame ≡ wide_collects s (rounds s (before ++ n.Got from frame ∷ []) + 1) }
 {}

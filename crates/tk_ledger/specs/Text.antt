@@ -120,9 +120,13 @@ ledger_text ledger = totals_text ledger ++ monitors_text ledger.per
 
 -- ---- stories
 
+-- the lines of its publications
+abbrev pub sets_text : List (List ℕ) → StoryView → List ℕ
+sets_text names s = concat (lines_of names s.journal)
+
 -- the text of a story: the lines of its publications, then those of its ledger
 unfoldable pub text_of : List (List ℕ) → StoryView → List ℕ
-text_of names s = concat (lines_of names s.journal) ++ ledger_text (ledger_of s.settings s.journal)
+text_of names s = sets_text names s ++ ledger_text (ledger_of s.settings s.journal)
 
 -- the same of a run over windows, where each publication is followed by its ticks
 unfoldable pub ticked_text_of : List (List (List ℕ)) → List (List ℕ) → StoryView → List ℕ

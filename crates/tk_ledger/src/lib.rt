@@ -13,4 +13,4 @@ mod text;
 
 pub use counts::{Counts, PerMonitor};
 pub use ledger::Ledger;
-pub use printing::{PrintFault, print, print_ledger, print_summary, print_ticked};
+pub use printing::{PrintFault, print, print_ledger, print_sets, print_summary, print_ticked};

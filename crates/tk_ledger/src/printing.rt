@@ -4,7 +4,7 @@ ghost use Rattle.tk_base.specs.History.{last_of};
 ghost use Rattle.tk_input.specs.Files.{HasRisen};
 ghost use Rattle.tk_input.specs.Sink.{Grows, GrowsByFront};
 ghost use Rattle.tk_ledger.specs.Printing.{AreNamed, print_faults};
-ghost use Rattle.tk_ledger.specs.Text.{is_tuned, ledger_text, line_at, line_with, lines_by, lines_of, monitors_text, summary_of, text_of, ticked_at, ticked_text_of, ticks_text, totals_text};
+ghost use Rattle.tk_ledger.specs.Text.{is_tuned, ledger_text, line_at, line_with, lines_by, lines_of, monitors_text, sets_text, summary_of, text_of, ticked_at, ticked_text_of, ticks_text, totals_text};
 ghost use Rattle.tk_window.specs.TickEnds.{ticks_at};
 ghost use Rattle.tk_ledger.specs.declared.printing.PrintFault.TheVariants.{NoMemory as OutOfMemory, WriteFailed as NotWritten};
 
@@ -217,8 +217,24 @@ fn last_line(alloc: Global, journal: &[Noted], names: &Catalog) -> Result<(u64, 
     Ok((count, line))
 }
 
-/// Writes the text of a story: the lines of its publications, then those of its ledger, each by one put. From
-/// the first entry `Tuned` on, a publication's line says k and epsilon.
+/// Writes the lines of the publications of a story, each by one put. From the first entry `Tuned` on, a publication's
+/// line says k and epsilon.
+pub fn print_sets<O: Sink>(
+    alloc: Global,
+    story: &Story,
+    names: &Catalog,
+    out: &mut O,
+) -> Result<(), PrintFault>
+    requires names { length names.now ≡ story.now.story.settings.objects }
+    ensures ok { OnOk result (Grows (O.written out.old) (O.written out.new) (sets_text names.now story.now.story)) }
+    ensures err { OnErr result (GrowsByFront (O.written out.old) (O.written out.new) (sets_text names.now story.now.story)) }
+    ensures failed { IsErrOf result PrintFault.WriteFailed → HasRisen (O.fault_count out.old) (O.fault_count out.new) }
+    ensures counted { O.fault_count out.new ≡ print_faults result (O.fault_count out.old) }
+{
+    print_publications(alloc, story.journal(), names, None, out)
+}
+
+/// Writes the text of a story: the lines of its publications, then those of its ledger, each by one put.
 pub fn print<O: Sink>(
     alloc: Global,
     story: &Story,
@@ -231,7 +247,7 @@ pub fn print<O: Sink>(
     ensures failed { IsErrOf result PrintFault.WriteFailed → HasRisen (O.fault_count out.old) (O.fault_count out.new) }
     ensures counted { O.fault_count out.new ≡ print_faults result (O.fault_count out.old) }
 {
-    print_publications(alloc, story.journal(), names, None, out)?;
+    print_sets(alloc, story, names, out)?;
     print_ledger(alloc, &Ledger::of(alloc, story)?, out)
 }
 

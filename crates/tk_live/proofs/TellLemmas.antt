@@ -28,8 +28,7 @@ use Rattle.tk_world.specs.Runs.{RunsBy}
 use Rattle.tk_live.specs.Complete.{IsComplete}
 use Rattle.tk_live.specs.Joined.{joined_as}
 use Rattle.tk_base.specs.Settings.{Setup}
-use Rattle.tk_input.specs.Logs.{LogSet}
-use Rattle.tk_run.specs.Ends.{beginnings}
+use Rattle.tk_input.specs.Logs.{LogSet, beginnings}
 use Rattle.tk_live.specs.Joining.{IsFrom, IsVerdictOf, ledger_lines}
 use Rattle.tk_live.specs.Lived.{AreOfInput, Concludes, IsOfInput, TellsEnds}
 use Rattle.tk_live.specs.declared.verdict.Lived.{Lived}
@@ -58,6 +57,7 @@ concludes_unstarted input version was taken taken' verdict (inl is) = subst (λ 
   done = λ e. absurd (cc);
   lived = λ e. absurd (cc);
   sound = tt;
+  over = tt;
   of_input = tt;
   ends = tt;
   one = λ s. refl;
@@ -68,6 +68,7 @@ concludes_unstarted input version was taken taken' verdict (inr is) = subst (λ 
   done = λ e. absurd (cc);
   lived = λ e. absurd (cc);
   sound = tt;
+  over = tt;
   of_input = tt;
   ends = tt;
   one = λ s. refl;
@@ -83,6 +84,7 @@ concludes_kept input version was now taken taken' verdict ends are grown never t
   done = λ e. absurd (never e);
   lived = λ e. absurd (never e);
   sound = tt;
+  over = tt;
   of_input = tt;
   ends = are;
   one = λ s. absurd (cc);
@@ -112,6 +114,7 @@ concludes_told law input version was mid now taken taken' kept verdict h of_inpu
     carried = carried version kept.story taken taken' h complete.halted complete.heard;
   };
   sound = law kept.story h (over_of kept.story h complete.stopped complete.halted);
+  over = over_of kept.story h complete.stopped complete.halted;
   of_input = of_input;
   ends = tt;
   one = λ s. refl;

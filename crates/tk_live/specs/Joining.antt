@@ -1,13 +1,12 @@
 -- What the joining of ends goes by. No public clause cites it.
 use Rattle.std.specs.Prelude.{ℕ, ◌≡◌, ◌⊎◌, List, Option, Result, Ok, Err}
 use Rattle.tk_base.specs.Settings.{Setup}
-use Rattle.tk_input.specs.Logs.{LogSet}
+use Rattle.tk_input.specs.Logs.{LogSet, beginnings}
 use Rattle.tk_ledger.specs.Ledger.{ledger_of}
 use Rattle.tk_ledger.specs.Text.{ledger_text}
 use Rattle.tk_ledger.specs.declared.printing.PrintFault.{PrintFault}
 use Rattle.tk_ledger.specs.declared.printing.PrintFault.TheVariants as f
 use Rattle.tk_load.specs.declared.input.Input.{Input}
-use Rattle.tk_run.specs.Ends.{beginnings}
 use Rattle.tk_story.specs.Ends.{HaveNothingOdd, joined, kept_by}
 use Rattle.tk_story.specs.Story.{StoryView}
 use Rattle.tk_story.specs.declared.ends.Ends.{Ends}

@@ -2,13 +2,14 @@
 use Rattle.std.specs.Prelude.{ℕ, ◌≡◌, List, Option, Some, None, IsSome, IfSome, ⊤}
 use Rattle.std.specs.List.{concat}
 use Rattle.tk_drain.specs.Resting.{RunsFrom}
+use Rattle.tk_input.specs.Logs.{beginnings}
 use Rattle.tk_input.specs.Sink.{Grows, GrowsByFront}
 use Rattle.tk_ledger.specs.Text.{lines_of, text_of}
 use Rattle.tk_load.specs.declared.input.Input.{Input}
-use Rattle.tk_run.specs.Ends.{beginnings}
 use Rattle.tk_run.specs.Headline.{IsSound}
 use Rattle.tk_story.specs.Ends.{AreOfOneRun, IsFirstOfAll, kept_by}
 use Rattle.tk_story.specs.Kept.{KeptStory}
+use Rattle.tk_story.specs.Moments.{IsOver}
 use Rattle.tk_story.specs.Story.{StoryView}
 use Rattle.tk_story.specs.declared.ends.Ends.{Ends}
 use Rattle.tk_wire.specs.Net.{NetState}
@@ -59,8 +60,9 @@ TellsEnds v.NoMemory ends = ⊤
 pub record Concludes (input : Input) (version : ℕ) (before after : Option (List ℕ)) (taken taken_then : ℕ) (result : Lived) : Type 0 where
   pub done : result.verdict ≡ v.Done → IsSome result.story
   pub lived : result.verdict ≡ v.Done → IfSome result.story (HasLived input version before after taken taken_then)
-  -- any story is over, and all of the headline holds for it
+  -- for any story all of the headline holds, and each monitor took Stop
   pub sound : IfSome result.story (λ s. IsSound s.story)
+  pub over : IfSome result.story (λ s. IsOver s.story)
   pub of_input : IfSome result.story (λ s. IsOfInput input s.story)
   -- any ends are those of the nodes that were made for the input
   pub ends : IfSome result.ends (AreOfInput input)

@@ -2,12 +2,11 @@ ghost use Rattle.std.specs.Prelude.{◌≡◌, ◌≤◌, ℕ, List, Option, [],
 ghost use Rattle.std.specs.List.{concat};
 ghost use Rattle.tk_frames.specs.Spelling.{IsVersion};
 ghost use Rattle.tk_input.specs.Files.{HasRisen};
-ghost use Rattle.tk_input.specs.Logs.{IsCut};
+ghost use Rattle.tk_input.specs.Logs.{IsCut, beginnings};
 ghost use Rattle.tk_input.specs.Sink.{GrowsByFront};
 ghost use Rattle.tk_journal.specs.Legal.{opened, start as begun_by};
 ghost use Rattle.tk_ledger.specs.Text.{lines_of};
 ghost use Rattle.tk_load.specs.Whole.{AreAgreed};
-ghost use Rattle.tk_run.specs.Ends.{beginnings};
 ghost use Rattle.tk_live.specs.Crew.{made_in};
 ghost use Rattle.tk_live.specs.Hosting.{CanHost};
 ghost use Rattle.tk_live.specs.Left.{IsCompleteLeft};
@@ -29,7 +28,6 @@ use std::thread::Threads;
 use tk_base::Cut;
 use tk_input::Sink;
 use tk_load::Input;
-use tk_run::start_of;
 use tk_serve::Gate;
 use tk_story::Ends;
 use tk_wire::{Net, NetFault};
@@ -147,7 +145,7 @@ pub fn live_over<R: Threads + Wait + Sync, N: Net, G: Gate + Sync, O: Sink>(
         net: net.faults(),
         out: out.faults(),
     };
-    let Ok(from) = start_of(alloc, &input.logs) else {
+    let Ok(from) = input.logs.start(alloc) else {
         return Lived::unstarted(Verdict::NoMemory);
     };
     let plan = Plan {

@@ -5,7 +5,6 @@ use std::alloc::Global;
 use tk_base::Mon;
 use tk_journal::Noted;
 use tk_load::{Input, load};
-use tk_run::start_of;
 use tk_story::Story;
 use tk_trail::Entry;
 use tk_words::{Command, read};
@@ -20,7 +19,7 @@ fn stepped(alloc: Global, case: &mut Case, story: &Story) -> Option<Story> {
         return None;
     };
     let Input { settings, logs, .. } = input;
-    let from = start_of(alloc, &logs).ok()?;
+    let from = logs.start(alloc).ok()?;
     let mut world = World::new(alloc, settings, logs, from).ok()?;
     for event in story.events() {
         let event = event.try_clone().ok()?;

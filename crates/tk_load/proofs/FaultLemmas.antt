@@ -20,6 +20,7 @@ tells_of s.Usage fault meant says is = absurd says
 tells_of s.WriteFault fault meant says is = absurd says
 tells_of s.LinkFault fault meant says is = absurd says
 tells_of (s.LinkDiffers mon direction place sent received) fault meant says is = absurd says
+tells_of (s.BadTrace file wrong) fault meant says is = absurd says
 
 -- a fault is still that of a rule and those after it
 pub tells_on : {V W : Type 0} (status : Status) (meant : Result V Fault) (next : V → Result W Fault) → Tells status meant → Tells status (after meant next)
@@ -32,6 +33,7 @@ tells_on s.Usage meant next is = absurd is
 tells_on s.WriteFault meant next is = absurd is
 tells_on s.LinkFault meant next is = absurd is
 tells_on (s.LinkDiffers mon direction place sent received) meant next is = absurd is
+tells_on (s.BadTrace file fault) meant next is = absurd is
 
 -- what comes after a rule that gives something
 pub meets_after : {V W B : Type 0} (view : B → W) (meant : Result V Fault) (x : V) (next : V → Result W Fault) (answer : Result B Status) → meant ≡ Ok x → Meets view (next x) answer → Meets view (after meant next) answer
@@ -48,6 +50,7 @@ no_room s.Usage meant says = absurd says
 no_room s.WriteFault meant says = absurd says
 no_room s.LinkFault meant says = absurd says
 no_room (s.LinkDiffers mon direction place sent received) meant says = absurd says
+no_room (s.BadTrace file fault) meant says = absurd says
 
 -- a status that says the fault of a log tells it
 pub tells_log : {V : Type 0} (status : Status) (file : List ℕ) (fault : PartFault) (read : Result V PartFault) → Says status (log_fault file fault) → IsFault fault read → Tells status (telling (log_fault file) read)

@@ -9,4 +9,5 @@ mod ReadLemmas
 mod RetuneLemmas
 mod SessionLemmas
 pub mod ToldLemmas
+pub mod TracedLemmas
 mod UnreadLemmas

@@ -10,7 +10,7 @@ use Rattle.tk_load.specs.declared.input.Input.{Input}
 use Rattle.tk_load.specs.declared.status.Status.{Status}
 
 -- a read that did not fail gave what is told
-gave_all : (told : Option (List ℕ)) (old new : ℕ) (bytes : List ℕ) (content : Option (List ℕ)) → told ≡ Some bytes → (HasRisen old new → ⊥) → Gave told old new content → content ≡ Some bytes
+pub gave_all : (told : Option (List ℕ)) (old new : ℕ) (bytes : List ℕ) (content : Option (List ℕ)) → told ≡ Some bytes → (HasRisen old new → ⊥) → Gave told old new content → content ≡ Some bytes
 gave_all told old new bytes None is stood gave = absurd (stood gave)
 gave_all told old new bytes (Some found) is stood gave = ap (λ (b : List ℕ). Some b) (subst (λ (t : Option (List ℕ)). IfSome t (λ b. found ≡ b)) is gave)
 

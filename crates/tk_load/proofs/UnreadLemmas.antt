@@ -307,3 +307,4 @@ unread_is_lost told old new words s.WriteFault loads = tt
 unread_is_lost told old new words s.NoMemory loads = tt
 unread_is_lost told old new words s.LinkFault loads = tt
 unread_is_lost told old new words (s.LinkDiffers mon direction place sent received) loads = tt
+unread_is_lost told old new words (s.BadTrace file fault) loads = tt

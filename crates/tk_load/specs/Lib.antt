@@ -6,4 +6,5 @@ pub mod Reads
 pub mod SessionInput
 pub mod Status
 pub mod Told
+pub mod Traced
 pub mod Whole

@@ -52,6 +52,7 @@ Tells s.Usage meant = ⊥
 Tells s.WriteFault meant = ⊥
 Tells s.LinkFault meant = ⊥
 Tells (s.LinkDiffers mon direction place sent received) meant = ⊥
+Tells (s.BadTrace file fault) meant = ⊥
 
 -- the same of a fault that there is
 abbrev pub Says : Status → Fault → Type 0
@@ -64,6 +65,7 @@ Says s.Usage fault = ⊥
 Says s.WriteFault fault = ⊥
 Says s.LinkFault fault = ⊥
 Says (s.LinkDiffers mon direction place sent received) fault = ⊥
+Says (s.BadTrace file wrong) fault = ⊥
 
 -- what is answered is what is meant, or its fault is told
 abbrev pub Meets : {A V : Type 0} → (A → V) → Result V Fault → Result A Status → Type 0

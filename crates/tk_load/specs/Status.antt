@@ -19,6 +19,7 @@ number_of s.WriteFault = 6
 number_of s.NoMemory = 7
 number_of s.LinkFault = 8
 number_of (s.LinkDiffers mon direction place sent received) = 9
+number_of (s.BadTrace file fault) = 11
 
 -- what is wrong with an input, in words
 abbrev pub kind_text : InputKind → List ℕ
@@ -58,10 +59,11 @@ link_text DownLink = codes ": down frame "
 abbrev pub fault_text : Status → List ℕ
 fault_text s.Done = []
 fault_text s.Usage = codes "topk: the words are not understood"
-fault_text (s.ReadFault file) = codes "topk: " ++ file.items ++ codes ": cannot be read"
-fault_text (s.BadInput file line kind) = codes "topk: " ++ place_text file.items ++ codes ": " ++ line_text line ++ kind_text kind
-fault_text (s.TooGreat mon obj) = codes "topk: monitor " ++ decimal mon.0 ++ codes ": object " ++ decimal obj.0 ++ codes ": the changes pass the limit"
+fault_text (s.ReadFault file) = codes "topk: " ++ (file.items ++ codes ": cannot be read")
+fault_text (s.BadInput file line kind) = codes "topk: " ++ (place_text file.items ++ (codes ": " ++ (line_text line ++ kind_text kind)))
+fault_text (s.TooGreat mon obj) = codes "topk: " ++ (codes "monitor " ++ (decimal mon.0 ++ (codes ": object " ++ (decimal obj.0 ++ codes ": the changes pass the limit"))))
 fault_text s.WriteFault = codes "topk: the output cannot be written"
 fault_text s.NoMemory = codes "topk: out of memory"
 fault_text s.LinkFault = codes "topk: a link failed"
-fault_text (s.LinkDiffers mon direction place sent received) = codes "topk: monitor " ++ decimal mon.0 ++ link_text direction ++ decimal place ++ codes " differs"
+fault_text (s.LinkDiffers mon direction place sent received) = codes "topk: " ++ (codes "monitor " ++ (decimal mon.0 ++ (link_text direction ++ (decimal place ++ codes " differs"))))
+fault_text (s.BadTrace file fault) = codes "topk: " ++ (file.items ++ codes ": not a legal trace")

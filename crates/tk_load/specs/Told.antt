@@ -47,3 +47,4 @@ IsCounted words old new s.WriteFault = Unit
 IsCounted words old new s.NoMemory = Unit
 IsCounted words old new s.LinkFault = Unit
 IsCounted words old new (s.LinkDiffers mon direction place sent received) = Unit
+IsCounted words old new (s.BadTrace file fault) = Unit

@@ -1,6 +1,7 @@
 //! What stands in front of an order: the objects, the settings and the logs.
 
-ghost use Rattle.std.specs.Prelude.{◌≡◌, IfOk, length};
+ghost use Rattle.std.specs.Prelude.{◌≡◌, IfOk, Ok, length};
+ghost use Rattle.tk_input.specs.Catalog.{catalog_from};
 ghost use Rattle.tk_load.specs.Input.{greatest_monitor, limits_in, names_in};
 ghost use Rattle.tk_load.specs.Reads.{AreKept, LoadsBasis, Meets, Reads};
 ghost use Rattle.tk_load.specs.Whole.{AreAgreed, IsWidth};
@@ -35,6 +36,7 @@ fn monitors_of(logs: &[(Mon, &str)]) -> u32
 
 /// The catalogue of a file.
 pub fn read_names<F: Files>(alloc: Global, files: &mut F, file: &str) -> Result<Catalog, Status>
+    ensures named { IfOk result (λ names. catalog_from names ≡ Ok names) }
     ensures read { Reads (F.content files.old) (F.fault_count files.old) (F.fault_count files.new)
         file.now (λ names. names) names_in result }
     ensures kept { AreKept (F.content files.old) (F.content files.new) (F.fault_count files.old) (F.fault_count files.new) }
@@ -78,6 +80,7 @@ pub fn load_basis<F: Files>(
     files: &mut F,
 ) -> Result<Basis, Status>
     requires { AreOfMonitors words.now.logs.items }
+    ensures named { IfOk result (λ basis. catalog_from basis.names ≡ Ok basis.names) }
     ensures agreed { IfOk result (λ basis. AreAgreed basis.names basis.settings basis.logs) }
     ensures read { LoadsBasis (F.content files.old) (F.fault_count files.old) (F.fault_count files.new)
         (asked_sources words.now) result }

@@ -1,4 +1,5 @@
-ghost use Rattle.std.specs.Prelude.{IfOk};
+ghost use Rattle.std.specs.Prelude.{◌≡◌, IfOk, Ok};
+ghost use Rattle.tk_input.specs.Catalog.{catalog_from};
 ghost use Rattle.tk_load.specs.Reads.{AreKept, Loads};
 ghost use Rattle.tk_load.specs.Whole.{AreAgreed};
 ghost use Rattle.tk_words.specs.Asked.{AreOfMonitors, asked_sources};
@@ -26,6 +27,7 @@ pub struct Input {
 /// Reads all that the words name, in the order of work: the objects, the settings and the width, the logs, the order.
 pub fn load<F: Files>(alloc: Global, words: &Sources<'_>, files: &mut F) -> Result<Input, Status>
     requires { AreOfMonitors words.now.logs.items }
+    ensures named { IfOk result (λ input. catalog_from input.names ≡ Ok input.names) }
     ensures agreed { IfOk result (λ input. AreAgreed input.names input.settings input.logs) }
     ensures read { Loads (F.content files.old) (F.fault_count files.old) (F.fault_count files.new)
         (asked_sources words.now) result }

@@ -1,5 +1,5 @@
-ghost use Rattle.std.specs.Prelude.{◌≤◌, IfOk, All, None, Some, length};
-ghost use Rattle.tk_input.specs.Catalog.{catalog_of};
+ghost use Rattle.std.specs.Prelude.{◌≡◌, ◌≤◌, IfOk, All, None, Ok, Some, length};
+ghost use Rattle.tk_input.specs.Catalog.{catalog_from, catalog_of};
 ghost use Rattle.tk_input.specs.Log.{log_of};
 ghost use Rattle.tk_input.specs.Logs.{IsObject};
 ghost use Rattle.tk_input.specs.Order.{order_of as order_of_bytes};
@@ -14,6 +14,7 @@ ghost use Rattle.tk_window.specs.Ticks.{AreOver, ticked_of};
 use crate::status::{InputKind, Status};
 use std::alloc::Global;
 use tk_input::{Catalog, CatalogFault, FileFault, Files, Order, OrderFault, Part, PartFault};
+use tk_trace::a_catalogue_is_of_its_names;
 use tk_window::{ExpandFault, Expanded, Ticked, expand};
 
 /// A refused file. Where even its name finds no memory, that is the answer.
@@ -56,8 +57,10 @@ pub fn read<F: Files>(alloc: Global, files: &mut F, file: &str) -> Result<Vec<u8
 
 /// The catalogue of a file.
 pub fn names_of(alloc: Global, bytes: &[u8], file: &str) -> Result<Catalog, Status>
-    ensures { Meets (λ names. names) (telling (catalog_fault file.now) (catalog_of bytes.now)) result }
+    ensures named { IfOk result (λ names. catalog_from names ≡ Ok names) }
+    ensures meets { Meets (λ names. names) (telling (catalog_fault file.now) (catalog_of bytes.now)) result }
 {
+    a_catalogue_is_of_its_names();
     match Catalog::read(alloc, bytes) {
         Ok(names) => Ok(names),
         Err(CatalogFault::NoMemory) => Err(Status::NoMemory),

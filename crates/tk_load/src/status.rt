@@ -5,6 +5,7 @@ use std::alloc::{AllocError, AllocFailed};
 use tk_base::{Mon, NoMemory, Obj};
 use tk_frames::Frame;
 use tk_story::{Direction, Received};
+use tk_trace::TraceFault;
 
 /// How a run ended.
 #[derive(Debug, Drop, PartialEq)]
@@ -41,6 +42,11 @@ pub enum Status {
         place: u64,
         sent: Option<Frame>,
         received: Received,
+    },
+    /// A file is no trace of a legal run to its end, by the first fault that there is.
+    BadTrace {
+        file: Vec<u8>,
+        fault: TraceFault,
     },
 }
 
@@ -111,6 +117,7 @@ impl Status {
             Status::NoMemory => 7,
             Status::LinkFault => 8,
             Status::LinkDiffers { .. } => 9,
+            Status::BadTrace { .. } => 11,
         }
     }
 }

@@ -82,6 +82,14 @@ fn push_bad_input(
     push_kind(line, kind)
 }
 
+/// Appends what is wrong with a file as a whole.
+fn push_of_file(line: &mut Vec<u8>, file: &[u8], fault: &[u8]) -> Result<(), AllocError>
+    ensures { OnOk result (line.new.items ≡ line.old.items ++ (file.now ++ fault.now)) }
+{
+    line.extend_from_slice(file)?;
+    line.extend_from_slice(fault)
+}
+
 fn push_object(line: &mut Vec<u8>, object: u32) -> Result<(), AllocError>
     ensures { OnOk result (line.new.items ≡ line.old.items ++ (codes ": object " ++ (decimal object ++ codes ": the changes pass the limit"))) }
 {
@@ -145,10 +153,7 @@ pub fn fault_line(alloc: Global, status: &Status) -> Result<Vec<u8>, NoMemory>
     match status {
         Status::Done => {}
         Status::Usage => line.extend_from_slice(b"the words are not understood")?,
-        Status::ReadFault { file } => {
-            line.extend_from_slice(file)?;
-            line.extend_from_slice(b": cannot be read")?;
-        }
+        Status::ReadFault { file } => push_of_file(&mut line, file, b": cannot be read")?,
         Status::BadInput {
             file,
             line: number,
@@ -164,6 +169,7 @@ pub fn fault_line(alloc: Global, status: &Status) -> Result<Vec<u8>, NoMemory>
             place,
             ..
         } => push_differs(&mut line, *mon, *direction, *place)?,
+        Status::BadTrace { file, .. } => push_of_file(&mut line, file, b": not a legal trace")?,
     }
     Ok(line)
 }

@@ -9,9 +9,9 @@ use Rattle.tk_base.specs.Settings.{Setup, are_counts, is_k, settings_of}
 use Rattle.tk_base.specs.declared.settings.SettingFault.{SettingFault}
 use Rattle.tk_base.specs.declared.settings.SettingFault.TheVariants.{BadCount, BadEpsilon, BadK, BadWeight}
 use Rattle.tk_input.specs.Catalog.{names_with}
-use Rattle.tk_input.specs.Logs.{IsCut, LogSet, updates_of}
+use Rattle.tk_input.specs.Logs.{IsCut, LogSet, beginnings, updates_of}
 use Rattle.tk_input.specs.Records.{and_then, through}
-use Rattle.tk_multi.specs.Alone.{AreOfOneSize, Refuses, all_settings, alone_with, alones_of, beginnings, each_with, few_enough, settings_added, settings_at, settings_for, updates_together}
+use Rattle.tk_multi.specs.Alone.{AreOfOneSize, Refuses, all_settings, alone_with, alones_of, each_with, few_enough, settings_added, settings_at, settings_for, updates_together}
 use Rattle.tk_multi.specs.Projection.{logs_for, watch_of, watched_in}
 use Rattle.tk_multi.specs.Queries.{QueryView}
 use Rattle.tk_multi.specs.declared.alone.Alone.{Alone}

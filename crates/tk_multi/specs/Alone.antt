@@ -4,7 +4,7 @@ use Rattle.std.specs.List.{zip}
 use Rattle.tk_base.specs.Settings.{Setup, settings_of}
 use Rattle.tk_base.specs.declared.settings.SettingFault.{SettingFault}
 use Rattle.tk_input.specs.Catalog.{names_with}
-use Rattle.tk_input.specs.Logs.{IsCut, LogSet, updates_of}
+use Rattle.tk_input.specs.Logs.{IsCut, LogSet, beginnings, updates_of}
 use Rattle.tk_input.specs.Records.{and_then, through}
 use Rattle.tk_multi.specs.Projection.{logs_for, watch_of}
 use Rattle.tk_multi.specs.Queries.{QueryView}
@@ -29,10 +29,6 @@ settings_added names monitors before query =
 -- the settings of each query, or the fault of the first that is refused
 abbrev pub all_settings : List (List ℕ) → ℕ → List QueryView → Result (List Setup) MultiFault
 all_settings names monitors queries = through (settings_added names monitors) [] queries
-
--- the places in front of all changes
-abbrev pub beginnings : LogSet → List (List ℕ)
-beginnings all = map (λ parts. map (λ part. 0) parts) all.logs
 
 -- what a query of a prefix and of these settings runs over alone
 abbrev pub alone_with : List (List ℕ) → LogSet → List ℕ → Setup → Alone

@@ -1,7 +1,7 @@
 -- Several queries over common logs as contracts see them, and what an event leaves.
 use Rattle.std.specs.Prelude.{ℕ, ℤ, ◌≡◌, ◌-◌, ◌^◌, ◌<◌, true, if◌then◌else◌, List, [], ◌∷◌, ◌++◌, length, map, fold, set, slice_get, Option, Some, None, option_map, option_and_then, Result, Ok}
 use Rattle.std.specs.List.{zip}
-use Rattle.tk_input.specs.Logs.{IsCut, LogSet, part_of}
+use Rattle.tk_input.specs.Logs.{IsCut, LogSet, beginnings, part_of}
 use Rattle.tk_input.specs.Records.{and_then}
 use Rattle.tk_input.specs.declared.event.Event.{Event}
 use Rattle.tk_input.specs.declared.event.Event.TheVariants as alone
@@ -11,7 +11,7 @@ use Rattle.tk_world.specs.Events.{begin, next_of}
 use Rattle.tk_world.specs.declared.moved.Moved.{Moved}
 use Rattle.tk_world.specs.declared.moved.Moved.TheVariants.{Yes, Idle}
 use Rattle.tk_drain.specs.Drive.{keep}
-use Rattle.tk_multi.specs.Alone.{alones_of, beginnings}
+use Rattle.tk_multi.specs.Alone.{alones_of}
 use Rattle.tk_multi.specs.Front.{HasPlace, place_of, raised}
 use Rattle.tk_multi.specs.Projection.{is_feeder, is_watched}
 use Rattle.tk_multi.specs.Queries.{QueryView, entry_at}

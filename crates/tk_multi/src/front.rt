@@ -1,6 +1,5 @@
 ghost use Rattle.std.specs.Prelude.{◌≡◌, ◌<◌, ◌-◌, ◌^◌, IfOk};
-ghost use Rattle.tk_input.specs.Logs.{IsFeeder, IsMonitor};
-ghost use Rattle.tk_multi.specs.Alone.{beginnings};
+ghost use Rattle.tk_input.specs.Logs.{IsFeeder, IsMonitor, beginnings};
 ghost use Rattle.tk_multi.specs.Front.{HasPlace, place_of, raised};
 
 use std::alloc::Global;

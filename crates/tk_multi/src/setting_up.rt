@@ -9,7 +9,7 @@ use crate::fault::MultiFault;
 use crate::queries::Queries;
 use crate::query::Query;
 use crate::watch::Watch;
-use crate::watched::{logs_for, start_of, updates_in};
+use crate::watched::{logs_for, updates_in};
 use std::alloc::Global;
 use tk_base::{NoMemory, Settings};
 use tk_input::{Catalog, Logs};
@@ -71,7 +71,7 @@ fn alone_with(
     let own = names.with_prefix(alloc, prefix)?;
     let watch = Watch::new(alloc, names, &own)?;
     let logs = logs_for(alloc, logs, &watch, own.len() as u32)?;
-    let from = start_of(alloc, &logs)?;
+    let from = logs.start(alloc)?;
     Ok(Alone {
         names: own,
         watch,

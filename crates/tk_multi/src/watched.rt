@@ -2,13 +2,12 @@
 
 ghost use Rattle.std.specs.Prelude.{◌≡◌, ◌≤◌, ◌++◌, IfOk, OnOk, length, map, sum_by};
 ghost use Rattle.tk_input.specs.Judged.{Assigned};
-ghost use Rattle.tk_input.specs.Logs.{AreLogs, IsCut, IsMonitor, parts_of, updates_of};
-ghost use Rattle.tk_multi.specs.Alone.{beginnings};
+ghost use Rattle.tk_input.specs.Logs.{AreLogs, IsMonitor, parts_of, updates_of};
 ghost use Rattle.tk_multi.specs.Projection.{Numbers, assigned_from, seen_logs, under, watched_in};
 
 use crate::watch::Watch;
 use std::alloc::Global;
-use tk_base::{Cut, Feeder, Mon, NoMemory, Places};
+use tk_base::{Feeder, Mon, NoMemory};
 use tk_input::{Logs, LogsFault, Part};
 
 /// Adds the watched changes of each part of a monitor.
@@ -84,17 +83,4 @@ pub fn updates_in(logs: &Logs) -> u32
         updates += updates_at(logs, Mon(j + 1));
     }
     updates
-}
-
-/// The places in front of all changes.
-pub fn start_of(alloc: Global, logs: &Logs) -> Result<Cut, NoMemory>
-    ensures value { IfOk result (λ cut. cut ≡ beginnings logs.now) }
-    ensures cut { IfOk result (λ cut. IsCut logs.now.logs cut) }
-{
-    let mut list = Vec::new(alloc);
-    for j in 0..logs.monitors() {
-        let places = vec![in alloc; 0u32; logs.feeders(Mon(j + 1)) as usize]?;
-        list.push(Places::new(places))?;
-    }
-    Ok(Cut::new(list))
 }

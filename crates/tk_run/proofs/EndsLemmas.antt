@@ -26,6 +26,7 @@ module _ {I S : Type 0} (gives : Result I Status → Type 0) (IsOf : I → S →
   refused old s.WriteFault meant tells given = absurd tells
   refused old s.LinkFault meant tells given = absurd tells
   refused old (s.LinkDiffers mon direction place sent received) meant tells given = absurd tells
+  refused old (s.BadTrace file fault) meant tells given = absurd tells
 
   module _ (old new : Option (List ℕ)) (input : I) (given : gives (Ok input)) (made : S) (story : IsOf input made) (bytes : List ℕ) (same : bytes ≡ text input made) where
     pub has_run : Grows old new bytes → HasRun gives IsOf text old new made

@@ -22,6 +22,7 @@ module _ (words : List (List ℕ)) (asked : ReplayWords) (told : List ℕ → Op
   not_refused s.WriteFault none = absurd none
   not_refused s.LinkFault none = absurd none
   not_refused (s.LinkDiffers mon direction place sent received) none = absurd none
+  not_refused (s.BadTrace file fault) none = absurd none
 
   module _ (contents : List ℕ → List ℕ) (are : AreTold told old new contents asked.sources) (input : Input) (is : input_of (read_by contents asked.sources) ≡ Ok input) where
     no_fault : (status : Status) → Loads told old new asked.sources (Err status) → IsDone status
@@ -35,6 +36,7 @@ module _ (words : List (List ℕ)) (asked : ReplayWords) (told : List ℕ → Op
     no_fault s.LinkFault loads = absurd (meant_as_told told old new contents asked.sources (Err s.LinkFault) are loads)
     no_fault (s.LinkDiffers mon direction place sent received) loads =
         absurd (meant_as_told told old new contents asked.sources (Err (s.LinkDiffers mon direction place sent received)) are loads)
+    no_fault (s.BadTrace file fault) loads = absurd (meant_as_told told old new contents asked.sources (Err (s.BadTrace file fault)) are loads)
 
     ended : (status : Status) → (status ≡ s.WriteFault → ⊥) → Ends (Loads told old new asked.sources) IsStoryOf replay_text before after status → IsDone status
     ended (s.ReadFault file) written ends = no_fault (s.ReadFault file) ends.0
@@ -46,6 +48,7 @@ module _ (words : List (List ℕ)) (asked : ReplayWords) (told : List ℕ → Op
     ended s.WriteFault written ends = absurd (written refl)
     ended s.LinkFault written ends = absurd ends
     ended (s.LinkDiffers mon direction place sent received) written ends = absurd ends
+    ended (s.BadTrace file fault) written ends = no_fault (s.BadTrace file fault) ends.0
 
     pub input_is_run : (status : Status) → (status ≡ s.WriteFault → ⊥) → EndsWords words told old new before after status → IsDone status
     input_is_run status written (inl refused) = not_refused status refused.0

@@ -1,7 +1,7 @@
+mod CheckLemmas
 mod EndsLemmas
 mod InputLemmas
 mod MultiLemmas
 mod OnceLemmas
 mod OverLemmas
 mod SessionsLemmas
-mod StartLemmas

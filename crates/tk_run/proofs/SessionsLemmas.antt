@@ -5,10 +5,10 @@ use Rattle.std.specs.List.{enumerate_from}
 use Rattle.std.proofs.Math.Seq.{get_or-append_seam}
 use Rattle.std.proofs.lemmas.List.FromFn.{get_or-enumerate_from, length-enumerate_from}
 use Rattle.tk_base.specs.Settings.{Setup}
-use Rattle.tk_input.specs.Logs.{LogSet}
+use Rattle.tk_input.specs.Logs.{LogSet, beginnings}
 use Rattle.tk_input.specs.Records.{through}
 use Rattle.tk_input.specs.declared.event.Event.{Event}
-use Rattle.tk_session.specs.Chain.{IsChainFrom, IsChainOf, KeepStretches, beginnings}
+use Rattle.tk_session.specs.Chain.{IsChainFrom, IsChainOf, KeepStretches}
 use Rattle.tk_session.specs.Chain.KeepStretches.{Last, Restarts}
 use Rattle.tk_session.specs.Order.{lines_of, session_order_of}
 use Rattle.tk_session.specs.declared.session_line.SessionLine.{SessionLine}

@@ -1,6 +1,6 @@
 -- The story of an input, and how a run of it ends.
-use Rattle.std.specs.Prelude.{ℕ, ◌≡◌, ◌⊎◌, List, [], map, Option, Some, None, Result, Ok, Err}
-use Rattle.tk_input.specs.Logs.{LogSet}
+use Rattle.std.specs.Prelude.{ℕ, ◌≡◌, ◌⊎◌, ◌++◌, List, [], codes, map, Option, Some, None, Result, Ok, Err}
+use Rattle.tk_input.specs.Logs.{beginnings}
 use Rattle.tk_input.specs.Order.{Ordered}
 use Rattle.tk_input.specs.Sink.{Grows, GrowsByFront}
 use Rattle.tk_input.specs.declared.event.Event.{Event}
@@ -10,23 +10,24 @@ use Rattle.tk_load.specs.Generated.{generated_of}
 use Rattle.tk_load.specs.MultiInput.{LoadsMulti}
 use Rattle.tk_load.specs.Reads.{Loads, Meets}
 use Rattle.tk_load.specs.SessionInput.{LoadsSessions}
+use Rattle.tk_load.specs.Traced.{LoadsTrace}
 use Rattle.tk_load.specs.declared.input.Input.{Input}
 use Rattle.tk_load.specs.declared.status.Status.{Status}
 use Rattle.tk_load.specs.declared.status.Status.TheVariants as s
 use Rattle.tk_story.specs.Kept.{KeptStory}
+use Rattle.tk_story.specs.Moments.{IsOver}
 use Rattle.tk_story.specs.Story.{StoryView}
 use Rattle.tk_world.specs.Events.{begin}
 use Rattle.tk_drain.specs.Drive.{Drives}
 use Rattle.tk_drain.specs.Resting.{RunsFrom}
-use Rattle.tk_ledger.specs.Text.{summary_of, text_of, ticked_text_of}
+use Rattle.tk_ledger.specs.Text.{sets_text, summary_of, text_of, ticked_text_of}
+use Rattle.tk_trace.specs.Recorded.{recorded_of}
+use Rattle.tk_trace.specs.Spelling.{IsRecorded, trace_of}
+use Rattle.tk_trace.specs.declared.trace.Trace.{Trace}
 use Rattle.tk_run.specs.Multi.{AreAnswersOf, multi_text}
 use Rattle.tk_run.specs.Sessions.{AreStoriesOf, sessions_text}
 
 -- ---- the story of an input
-
--- the places before the first change of each part
-abbrev pub beginnings : LogSet → List (List ℕ)
-beginnings all = map (λ parts. map (λ part. 0) parts) all.logs
 
 -- the events of an order, where there is one
 abbrev pub events_in : Option Ordered → List Event
@@ -38,10 +39,11 @@ abbrev pub begun_by : Input → KeptStory
 begun_by input = record { story = begin input.settings input.logs (beginnings input.logs); events = [] }
 
 -- the story of an input: over its settings and logs, from places 0, it runs the events that are kept with it, and these
--- are what is kept of the drive of the input's order
+-- are what is kept of the drive of the input's order; and it is over
 pub record IsStoryOf (input : Input) (kept : KeptStory) : Type 0 where
   pub runs : RunsFrom input.settings input.logs (beginnings input.logs) kept
   pub driven : Drives (events_in input.order) (begun_by input) kept
+  pub over : IsOver kept.story
 
 -- ---- its text
 
@@ -56,6 +58,28 @@ replay_text input kept = text_with input.ends input.names kept.story
 -- the summary of it
 abbrev pub summary_text : Input → KeptStory → List ℕ
 summary_text input kept = summary_of input.names kept.story
+
+-- ---- traces
+
+-- the trace of it
+abbrev pub trace_text : Input → KeptStory → List ℕ
+trace_text input kept = trace_of input.names kept.story
+
+-- the story of an input, all of which a trace can spell
+pub record IsTracedOf (input : Input) (kept : KeptStory) : Type 0 where
+  pub story : IsStoryOf input kept
+  pub recorded : IsRecorded (recorded_of input.names kept.story)
+
+-- the story that a trace tells
+abbrev pub IsToldBy : Trace → KeptStory → Type 0
+IsToldBy trace kept = kept ≡ trace.story
+
+-- the answer to it: its sets, and yes
+abbrev pub yes_text : List (List ℕ) → StoryView → List ℕ
+yes_text names s = sets_text names s ++ codes "yes\n"
+
+abbrev pub check_text : Trace → KeptStory → List ℕ
+check_text trace kept = yes_text trace.names kept.story
 
 -- ---- how a run ends, by what gives its input, what was made of it, and what the text of that is
 
@@ -86,6 +110,7 @@ Ends gives IsOf text before after s.WriteFault = IsCutShort gives IsOf text befo
 Ends gives IsOf text before after s.NoMemory = (after ≡ before) ⊎ IsCutShort gives IsOf text before after
 Ends gives IsOf text before after s.LinkFault = ⊥
 Ends gives IsOf text before after (s.LinkDiffers mon direction place sent received) = ⊥
+Ends gives IsOf text before after (s.BadTrace file fault) = gives (Err (s.BadTrace file fault)) × (after ≡ before)
 
 -- ---- of the words of a command
 
@@ -97,8 +122,8 @@ served (Some (Generates words)) = Some (Generates words)
 served (Some (Lives words)) = None
 served (Some (Queries words)) = Some (Queries words)
 served (Some (Restarts words)) = Some (Restarts words)
-served (Some (Traces words)) = None
-served (Some (Checks file)) = None
+served (Some (Traces words)) = Some (Traces words)
+served (Some (Checks file)) = Some (Checks file)
 
 -- one story was made, of which this holds
 pub record IsOne (Holds : KeptStory → Type 0) (story : Option KeptStory) (stories : List KeptStory) : Type 0 where
@@ -119,8 +144,8 @@ RunsAsked (Generates words) told old new before after = IsOne (HasRun (Meets (λ
 RunsAsked (Lives words) told old new before after = λ story stories. ⊥
 RunsAsked (Queries words) told old new before after = AreSeveral (HasRun (LoadsMulti told old new words) AreAnswersOf multi_text before after)
 RunsAsked (Restarts words) told old new before after = AreSeveral (HasRun (LoadsSessions told old new words) AreStoriesOf sessions_text before after)
-RunsAsked (Traces words) told old new before after = λ story stories. ⊥
-RunsAsked (Checks file) told old new before after = λ story stories. ⊥
+RunsAsked (Traces words) told old new before after = IsOne (HasRun (Loads told old new words.sources) IsTracedOf trace_text before after)
+RunsAsked (Checks file) told old new before after = IsOne (HasRun (LoadsTrace told old new file) IsToldBy check_text before after)
 
 -- how what words ask for has ended
 abbrev pub EndsAsked : Asked → (List ℕ → Option (List ℕ)) → (List ℕ → ℕ) → (List ℕ → ℕ) → Option (List ℕ) → Option (List ℕ) → Status → Type 0
@@ -129,8 +154,8 @@ EndsAsked (Generates words) told old new before after = Ends (Meets (λ input. i
 EndsAsked (Lives words) told old new before after = λ status. ⊥
 EndsAsked (Queries words) told old new before after = Ends (LoadsMulti told old new words) AreAnswersOf multi_text before after
 EndsAsked (Restarts words) told old new before after = Ends (LoadsSessions told old new words) AreStoriesOf sessions_text before after
-EndsAsked (Traces words) told old new before after = λ status. ⊥
-EndsAsked (Checks file) told old new before after = λ status. ⊥
+EndsAsked (Traces words) told old new before after = Ends (Loads told old new words.sources) IsStoryOf trace_text before after
+EndsAsked (Checks file) told old new before after = Ends (LoadsTrace told old new file) IsToldBy check_text before after
 
 -- the words are understood, and what they ask for has run
 pub record RunsWords (words : List (List ℕ)) (told : List ℕ → Option (List ℕ)) (old new : List ℕ → ℕ) (before after : Option (List ℕ)) (story : Option KeptStory) (stories : List KeptStory) : Type 0 where
@@ -155,6 +180,7 @@ IsRefused words (s.TooGreat mon obj) = ⊥
 IsRefused words s.WriteFault = ⊥
 IsRefused words s.LinkFault = ⊥
 IsRefused words (s.LinkDiffers mon direction place sent received) = ⊥
+IsRefused words (s.BadTrace file fault) = ⊥
 
 -- how words end
 abbrev pub EndsWords : List (List ℕ) → (List ℕ → Option (List ℕ)) → (List ℕ → ℕ) → (List ℕ → ℕ) → Option (List ℕ) → Option (List ℕ) → Status → Type 0
@@ -171,3 +197,4 @@ IsDone (s.TooGreat mon obj) = ⊥
 IsDone s.WriteFault = ⊥
 IsDone s.LinkFault = ⊥
 IsDone (s.LinkDiffers mon direction place sent received) = ⊥
+IsDone (s.BadTrace file fault) = ⊥

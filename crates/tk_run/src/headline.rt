@@ -1,29 +1,34 @@
 // What holds of every finished run, and of every input. Each function is there for its clause alone.
-ghost use Rattle.std.specs.Prelude.{◌≡◌, ℕ, List, Ok, Option, Some};
+ghost use Rattle.std.specs.Prelude.{◌≡◌, ◌≤◌, ℕ, List, Ok, Option, Some, length};
+ghost use Rattle.tk_input.specs.Files.{HasRisen};
 ghost use Rattle.tk_load.specs.Input.{input_of};
 ghost use Rattle.tk_load.specs.Told.{AreTold, read_by};
 ghost use Rattle.tk_load.specs.declared.input.Input.{Input};
 ghost use Rattle.tk_load.specs.declared.sessions.SessionInput.{SessionInput};
 ghost use Rattle.tk_load.specs.declared.status.Status.{Status};
 ghost use Rattle.tk_load.specs.declared.status.Status.TheVariants.{WriteFault as NotWritten};
-ghost use Rattle.tk_run.specs.Ends.{EndsWords, IsDone, IsStoryOf};
+ghost use Rattle.tk_run.specs.Ends.{EndsWords, IsDone, IsStoryOf, IsTracedOf, trace_text};
 ghost use Rattle.tk_story.specs.Kept.{KeptStory};
 ghost use Rattle.tk_run.specs.Headline.{IsSound, IsSoundSoFar};
 ghost use Rattle.tk_run.specs.Sessions.{AreSound, AreStoriesOf};
 ghost use Rattle.tk_story.specs.Moments.{IsOver};
 ghost use Rattle.tk_story.specs.Story.{IsStory, StoryView};
+ghost use Rattle.tk_verify.specs.Recorded.{IsFinished};
 ghost use Rattle.tk_words.specs.Words.{ReplayWords, words_of};
-ghost use Rattle.tk_words.specs.Words.Asked.{Replays};
+ghost use Rattle.tk_words.specs.Words.Asked.{Checks, Replays};
 
 use tk_journal::{
     a_start_is_set_up, publications_are_numbered, publications_never_go_back, stop_ends_the_journal,
 };
+use tk_load::a_right_trace_is_read;
 use tk_session::each_session_is_legal;
 use tk_story::{a_moment_is_a_story, published_is_valid, quiet_is_valid};
+use tk_trace::nothing_is_wrong_with_a_finished_run;
 
-/// A legal story that is over, whatever events made it.
+/// A legal story that came to its end, whatever events made it: its journal, or each node's part too.
 pub fn a_finished_run_is_sound()
-    ensures { (s : StoryView) → IsStory s → IsOver s → IsSound s }
+    ensures finished { (s : StoryView) → IsStory s → IsFinished s → IsSound s }
+    ensures over { (s : StoryView) → IsStory s → IsOver s → IsSound s }
 {
     a_moment_is_a_story();
     quiet_is_valid();
@@ -67,3 +72,16 @@ pub fn an_input_is_run()
         → words_of words ≡ Some (Replays asked) → AreTold told old new contents asked.sources → input_of (read_by contents asked.sources) ≡ Ok input
         → (status ≡ NotWritten → ⊥) → EndsWords words told old new before after status → IsDone status }
 {}
+
+/// Where a file tells the trace of an input's story, as `trace` writes it and at most 64 MiB, no read of it fails and the
+/// output is written, its check is done, or no memory was found.
+pub fn a_written_trace_is_checked()
+    ensures { (words : List (List ℕ)) (file : List ℕ) (told : List ℕ → Option (List ℕ)) (old new : List ℕ → ℕ)
+        (before after : Option (List ℕ)) (input : Input) (kept : KeptStory) (status : Status)
+        → words_of words ≡ Some (Checks file) → told file ≡ Some (trace_text input kept) → (HasRisen (old file) (new file) → ⊥)
+        → length (trace_text input kept) ≤ 67108864 → IsTracedOf input kept → IsSound kept.story
+        → (status ≡ NotWritten → ⊥) → EndsWords words told old new before after status → IsDone status }
+{
+    a_right_trace_is_read();
+    nothing_is_wrong_with_a_finished_run();
+}

@@ -8,7 +8,6 @@ ghost use Rattle.tk_story.specs.Story.{IsStory};
 ghost use Rattle.tk_words.specs.Asked.{IsCarriage};
 
 use crate::headline::a_finished_run_is_sound;
-use crate::start::start_of;
 use std::alloc::Global;
 use tk_base::NoMemory;
 use tk_bytes::{ByteWorld, byte_world};
@@ -56,7 +55,7 @@ pub fn story_of(alloc: Global, input: Input, carriage: Carriage) -> Result<Playe
         ends,
         order,
     } = input;
-    let from = start_of(alloc, &logs)?;
+    let from = logs.start(alloc)?;
     let Carriage { piece, frames } = carriage;
     let mut world = byte_world(alloc, settings, logs, from, piece as usize, frames)?;
     play(alloc, &mut world, &order)?;

@@ -5,11 +5,13 @@ ghost use Rattle.tk_run.specs.Ends.{EndsWords, RunsWords};
 ghost use Rattle.tk_run.specs.Headline.{IsSound};
 ghost use Rattle.tk_run.specs.Outcome.{IsWithout};
 
+use crate::check::serve_check;
 use crate::generated::serve as generate;
 use crate::multi::serve_queries;
 use crate::outcome::Outcome;
 use crate::replay::replay;
 use crate::sessions::serve_sessions;
+use crate::trace::serve_trace;
 use std::alloc::Global;
 use tk_input::{Files, Sink};
 use tk_load::Status;
@@ -40,8 +42,8 @@ pub fn run<F: Files, O: Sink>(
         Ok(Command::Live(_)) => Outcome::ended(alloc, Status::Usage),
         Ok(Command::Multi(words)) => serve_queries(alloc, &words, files, out),
         Ok(Command::Sessions(words)) => serve_sessions(alloc, &words, files, out),
-        Ok(Command::Trace(_)) => Outcome::ended(alloc, Status::Usage),
-        Ok(Command::Check(_)) => Outcome::ended(alloc, Status::Usage),
+        Ok(Command::Trace(words)) => serve_trace(alloc, &words, files, out),
+        Ok(Command::Check(file)) => serve_check(alloc, file, files, out),
         Err(WordsFault::Usage) => Outcome::ended(alloc, Status::Usage),
         Err(WordsFault::NoMemory) => Outcome::ended(alloc, Status::NoMemory),
     }

@@ -1,13 +1,13 @@
 -- Chains that grow by a session, or whose last session goes on.
 use Rattle.std.proofs.Common.{◌≡◌, ℕ, List, [], ◌∷◌, ◌++◌, length, arith, All, suc, zero, refl, sym, ap, ◌∙◌, subst}
 use Rattle.tk_base.specs.Settings.{Setup}
-use Rattle.tk_input.specs.Logs.{LogSet}
+use Rattle.tk_input.specs.Logs.{LogSet, beginnings}
 use Rattle.tk_input.specs.declared.event.Event.{Event}
 use Rattle.tk_story.specs.Kept.{KeptStory}
 use Rattle.tk_story.specs.Moments.{cut_of}
 use Rattle.tk_story.specs.Story.{IsStory}
 use Rattle.tk_drain.specs.Drive.{IsReached}
-use Rattle.tk_session.specs.Chain.{IsChain, IsChainFrom, IsSession, KeepStretches, beginnings, begun}
+use Rattle.tk_session.specs.Chain.{IsChain, IsChainFrom, IsSession, KeepStretches, begun}
 use Rattle.tk_session.specs.Chain.KeepStretches.{Last, Restarts}
 
 -- ---- the laws of sessions that are used

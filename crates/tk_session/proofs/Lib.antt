@@ -4,4 +4,3 @@ pub mod FallLemmas
 pub mod OrderLemmas
 pub mod PlayLemmas
 pub mod SessionLemmas
-pub mod StartLemmas

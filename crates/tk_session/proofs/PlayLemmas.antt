@@ -3,14 +3,14 @@ use Rattle.std.proofs.Common.{◌≡◌, ℕ, List, [], ◌∷◌, ◌++◌, len
 use Rattle.std.specs.Prelude.{filter_map}
 use Rattle.std.specs.List.{onto_first, slice_split}
 use Rattle.tk_base.specs.Settings.{IsWithinLimits, Setup}
-use Rattle.tk_input.specs.Logs.{AreLogs, IsCut, LogSet}
+use Rattle.tk_input.specs.Logs.{AreLogs, IsCut, LogSet, beginnings}
 use Rattle.tk_input.specs.declared.event.Event.{Event}
 use Rattle.tk_story.specs.Kept.{KeptStory}
 use Rattle.tk_story.specs.Moments.{IsOver, cut_of}
 use Rattle.tk_story.specs.Story.{IsStory, StoryView}
 use Rattle.tk_world.specs.Events.{begin}
 use Rattle.tk_drain.specs.Drive.{Drives, IsFinished, IsReached, keep, keep_all}
-use Rattle.tk_session.specs.Chain.{IsChainFrom, IsChainOf, IsSession, KeepStretches, beginnings, begun}
+use Rattle.tk_session.specs.Chain.{IsChainFrom, IsChainOf, IsSession, KeepStretches, begun}
 use Rattle.tk_session.specs.Chain.KeepStretches.{Last, Restarts}
 use Rattle.tk_session.specs.Order.{event_of, is_restart, stretches}
 use Rattle.tk_session.specs.Sessions.{AreFinished, SessionsView, played, restarted}

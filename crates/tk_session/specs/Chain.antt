@@ -1,7 +1,7 @@
 -- A chain of sessions: what each keeps of the one before is the places of the monitors, and nothing else.
 use Rattle.std.specs.Prelude.{ℕ, ◌≡◌, ◌≤◌, List, [], ◌∷◌, map, slice_index_or}
 use Rattle.tk_base.specs.Settings.{Setup}
-use Rattle.tk_input.specs.Logs.{LogSet}
+use Rattle.tk_input.specs.Logs.{LogSet, beginnings}
 use Rattle.tk_input.specs.declared.event.Event.{Event}
 use Rattle.tk_story.specs.Kept.{KeptStory}
 use Rattle.tk_story.specs.Moments.{IsOver, cut_of}
@@ -11,10 +11,6 @@ use Rattle.tk_drain.specs.Drive.{Drives, keep_all}
 use Rattle.tk_drain.specs.Resting.{RunsFrom}
 use Rattle.tk_session.specs.Order.{stretches}
 use Rattle.tk_session.specs.declared.session_line.SessionLine.{SessionLine}
-
--- the places before the first change of each part
-abbrev pub beginnings : LogSet → List (List ℕ)
-beginnings all = map (λ parts. map (λ part. 0) parts) all.logs
 
 -- a story in which nothing has happened but the opening, from these places
 abbrev pub begun : Setup → LogSet → List (List ℕ) → KeptStory

@@ -1,13 +1,13 @@
 // Laws of sessions and their chains. Each function is there for its clause alone.
 ghost use Rattle.std.specs.Prelude.{ℕ, ◌≡◌, List, [], ◌∷◌, ◌++◌, All, length};
 ghost use Rattle.tk_base.specs.Settings.{Setup};
-ghost use Rattle.tk_input.specs.Logs.{IsCut, LogSet};
+ghost use Rattle.tk_input.specs.Logs.{IsCut, LogSet, beginnings};
 ghost use Rattle.tk_input.specs.declared.event.Event.{Event};
 ghost use Rattle.tk_story.specs.Kept.{KeptStory};
 ghost use Rattle.tk_story.specs.Moments.{cut_of};
 ghost use Rattle.tk_story.specs.Story.{IsStory, StoryView};
 ghost use Rattle.tk_drain.specs.Drive.{IsReached};
-ghost use Rattle.tk_session.specs.Chain.{IsChainFrom, IsChainOf, IsSession, KeepStretches, NoPlaceFalls, beginnings, begun};
+ghost use Rattle.tk_session.specs.Chain.{IsChainFrom, IsChainOf, IsSession, KeepStretches, NoPlaceFalls, begun};
 ghost use Rattle.tk_session.specs.Sessions.{AreFinished, played};
 ghost use Rattle.tk_session.specs.declared.session_line.SessionLine.{SessionLine};
 

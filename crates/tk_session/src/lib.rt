@@ -11,7 +11,6 @@ mod playing;
 mod session_line;
 mod session_order;
 mod sessions;
-mod start;
 
 pub use laws::{
     a_beginning_is_a_session, a_chain_keeps_its_stretches, a_session_goes_on,

@@ -3,14 +3,14 @@ ghost use Rattle.tk_story.specs.Moments.{cut_of};
 ghost use Rattle.tk_story.specs.Story.{IsStory};
 ghost use Rattle.tk_world.specs.Events.{next_of};
 ghost use Rattle.tk_world.specs.World.{Moves, is_raise};
-ghost use Rattle.tk_session.specs.Chain.{IsChain, beginnings, begun};
+ghost use Rattle.tk_input.specs.Logs.{beginnings};
+ghost use Rattle.tk_session.specs.Chain.{IsChain, begun};
 ghost use Rattle.tk_session.specs.Order.{lines_of};
 ghost use Rattle.tk_session.specs.Sessions.{AreFinished, PlaysFront, all_of, played, restarted, with_line};
 
 use crate::laws::{a_beginning_is_a_session, a_session_goes_on, a_story_ends_at_a_cut};
 use crate::session_line::SessionLine;
 use crate::session_order::SessionOrder;
-use crate::start::start_of;
 use std::alloc::Global;
 use std::marker::Model;
 use std::mem;
@@ -74,7 +74,7 @@ impl Sessions {
         ensures value { IfOk result (λ s. s ≡ record { past = []; present = begun settings logs (beginnings logs) }) }
         ensures legal { IfOk result (λ s. IsStory s.present.story) }
     {
-        let from = start_of(alloc, &logs)?;
+        let from = logs.start(alloc)?;
         let present = World::new(alloc, settings, logs, from)?;
         a_beginning_is_a_session();
         let _ = present.settings();

@@ -22,6 +22,18 @@ struct Set {
     places: (u32, u32),
 }
 
+/// A set that was published with epsilon 0.
+fn exact_set(session: usize, number: u64, last: bool, member: u32, places: (u32, u32)) -> Set {
+    Set {
+        session,
+        number,
+        last,
+        epsilon: 0,
+        member,
+        places,
+    }
+}
+
 fn logs_of(alloc: Global, one: &[u8], two: &[u8]) -> Result<Logs, Fail> {
     let names = Catalog::read(alloc, b"a\nb\n")?;
     let mut parts = Vec::new(alloc);
@@ -103,30 +115,9 @@ fn restarted(rt: HostRuntime) -> Result<(), Fail> {
     let order = b"down 1\ndown 2\nup 1\nup 2\nraise 2 1\nrestart\n";
     let stories = stories_of(rt.alloc(), b"a,5\n", b"b,3\n", order)?;
     let wanted = [
-        Set {
-            session: 1,
-            number: 1,
-            last: false,
-            epsilon: 0,
-            member: 1,
-            places: (0, 0),
-        },
-        Set {
-            session: 2,
-            number: 1,
-            last: false,
-            epsilon: 0,
-            member: 2,
-            places: (0, 1),
-        },
-        Set {
-            session: 2,
-            number: 2,
-            last: true,
-            epsilon: 0,
-            member: 1,
-            places: (1, 1),
-        },
+        exact_set(1, 1, false, 1, (0, 0)),
+        exact_set(2, 1, false, 2, (0, 1)),
+        exact_set(2, 2, true, 1, (1, 1)),
     ];
     let published = have_published(rt.alloc(), stories.as_slice(), &wanted);
     assert_eq!(rt; published, Some(true));
@@ -137,14 +128,7 @@ fn restarted(rt: HostRuntime) -> Result<(), Fail> {
 #[test]
 fn restarted_at_once(rt: HostRuntime) -> Result<(), Fail> {
     let stories = stories_of(rt.alloc(), b"", b"", b"restart\n")?;
-    let wanted = [Set {
-        session: 2,
-        number: 1,
-        last: true,
-        epsilon: 0,
-        member: 1,
-        places: (0, 0),
-    }];
+    let wanted = [exact_set(2, 1, true, 1, (0, 0))];
     let published = have_published(rt.alloc(), stories.as_slice(), &wanted);
     assert_eq!(rt; published, Some(true));
     Ok(())
@@ -156,30 +140,9 @@ fn a_retune_is_forgotten(rt: HostRuntime) -> Result<(), Fail> {
     let order = b"down 1\ndown 2\nup 1\nup 2\nretune 1 7\nrestart\n";
     let stories = stories_of(rt.alloc(), b"a,5\n", b"b,3\n", order)?;
     let wanted = [
-        Set {
-            session: 1,
-            number: 1,
-            last: false,
-            epsilon: 0,
-            member: 1,
-            places: (0, 0),
-        },
-        Set {
-            session: 2,
-            number: 1,
-            last: false,
-            epsilon: 0,
-            member: 1,
-            places: (0, 0),
-        },
-        Set {
-            session: 2,
-            number: 2,
-            last: true,
-            epsilon: 0,
-            member: 1,
-            places: (1, 1),
-        },
+        exact_set(1, 1, false, 1, (0, 0)),
+        exact_set(2, 1, false, 1, (0, 0)),
+        exact_set(2, 2, true, 1, (1, 1)),
     ];
     let published = have_published(rt.alloc(), stories.as_slice(), &wanted);
     let counts = retunes(stories.as_slice());

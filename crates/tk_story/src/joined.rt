@@ -15,8 +15,10 @@ ghost use Rattle.tk_trail.specs.Refusal.{refusal_of};
 ghost use Rattle.tk_story.specs.Story.{IsStory, StoryView, setup_of, trail_of};
 
 pub fn at_most_one_behind()
-    ensures most { (o : Opening) (j : List Noted) (mon : ℕ) (setup : MonitorSetup) (trail : List Entry) → IsJoined o j mon setup trail → seq_of trail ≤ assigns_sent mon j }
-    ensures least { (o : Opening) (j : List Noted) (mon : ℕ) (setup : MonitorSetup) (trail : List Entry) → IsJoined o j mon setup trail → assigns_sent mon j ≤ seq_of trail + 1 }
+    ensures most { (o : Opening) (j : List Noted) (mon : ℕ) (setup : MonitorSetup) (trail : List Entry)
+        → IsJoined o j mon setup trail → seq_of trail ≤ assigns_sent mon j }
+    ensures least { (o : Opening) (j : List Noted) (mon : ℕ) (setup : MonitorSetup) (trail : List Entry)
+        → IsJoined o j mon setup trail → assigns_sent mon j ≤ seq_of trail + 1 }
 {}
 
 /// The next frame of a down link is not refused.

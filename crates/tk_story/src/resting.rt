@@ -13,10 +13,13 @@ pub fn still_is_quiet()
 
 /// Where besides all parts are at their ends, the journal is stopped.
 pub fn still_at_the_ends_is_stopped()
-    ensures { (s : StoryView) → IsStory s → IsStill s → ((mon : ℕ) → IsMonitor s.settings mon → at_ends (setup_of s mon) (trail_of s mon) ≡ true) → is_stopped s.journal ≡ true }
+    ensures { (s : StoryView) → IsStory s → IsStill s
+        → ((mon : ℕ) → IsMonitor s.settings mon → at_ends (setup_of s mon) (trail_of s mon) ≡ true)
+        → is_stopped s.journal ≡ true }
 {}
 
 /// So the run is over: the last publication is at the full cut and holds there, and each monitor took Stop.
 pub fn still_at_the_ends_is_over()
-    ensures { (s : StoryView) → IsStory s → IsStill s → ((mon : ℕ) → IsMonitor s.settings mon → at_ends (setup_of s mon) (trail_of s mon) ≡ true) → IsOver s }
+    ensures { (s : StoryView) → IsStory s → IsStill s
+        → ((mon : ℕ) → IsMonitor s.settings mon → at_ends (setup_of s mon) (trail_of s mon) ≡ true) → IsOver s }
 {}

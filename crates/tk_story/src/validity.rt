@@ -24,12 +24,14 @@ pub fn empty_links_leave_no_round_open()
 
 /// A published set holds at its cut, with its own k and epsilon.
 pub fn published_is_valid()
-    ensures { (s : StoryView) (before after : List Noted) (p : Publication) → IsStory s → s.journal ≡ before ++ n.Published p ∷ after → IsPublishedValid s p }
+    ensures { (s : StoryView) (before after : List Noted) (p : Publication) → IsStory s
+        → s.journal ≡ before ++ n.Published p ∷ after → IsPublishedValid s p }
 {}
 
 /// The last publication is at the ends of all logs.
 pub fn the_last_one_is_at_the_full_cut()
-    ensures { (s : StoryView) (before after : List Noted) (p : Publication) → IsStory s → s.journal ≡ before ++ n.Published p ∷ after → p.last ≡ true → p.cut ≡ full_cut s.logs.logs }
+    ensures { (s : StoryView) (before after : List Noted) (p : Publication) → IsStory s
+        → s.journal ≡ before ++ n.Published p ∷ after → p.last ≡ true → p.cut ≡ full_cut s.logs.logs }
 {}
 
 /// A moment of a story is a story.

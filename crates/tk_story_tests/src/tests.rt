@@ -40,21 +40,6 @@ fn logs_of(alloc: Global, one: &[u8], two: &[u8]) -> Result<Logs, Fail> {
     Ok(logs)
 }
 
-/// The cut before all changes.
-fn start_of(alloc: Global, logs: &Logs) -> Result<Cut, Fail>
-    ensures { IfOk result (λ cut. IsCut logs.now.logs cut) }
-{
-    let mut list = Vec::new(alloc);
-    for j in 0..logs.monitors() {
-        if logs.feeders(Mon(j + 1)) != 1 {
-            return Err("another number of feeders")?;
-        }
-        let place = logs.length(Mon(j + 1), Feeder(1)).min(0);
-        list.push(Places::new(vec![in alloc; place]?))?;
-    }
-    Ok(Cut::new(list))
-}
-
 /// A run with k 1 and epsilon 0 over two changes of a at monitor 1, and one of b at monitor 2.
 fn new_run(alloc: Global) -> Result<Run, Fail> {
     let logs = logs_of(alloc, b"a,5\na,1\n", b"b,3\n")?;
@@ -62,7 +47,7 @@ fn new_run(alloc: Global) -> Result<Run, Fail> {
     if settings.monitors() != 2 || logs.monitors() != 2 || settings.objects() != logs.objects() {
         return Err("other logs")?;
     }
-    let from = start_of(alloc, &logs)?;
+    let from = logs.start(alloc)?;
     Ok(Run {
         settings,
         logs,

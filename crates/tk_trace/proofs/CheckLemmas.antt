@@ -1,12 +1,19 @@
 -- What a checker found of the story that bytes tell is what is wrong with them.
-use Rattle.std.proofs.Common.{◌≡◌, ◌⊎◌, ℕ, suc, List, [], ◌∷◌, length, true, Result, Ok, Err, IfOk, refl, sym, ap, subst, ◌∙◌, inl, inr}
+use Rattle.std.proofs.Common.{◌≡◌, ◌⊎◌, ℕ, suc, List, [], ◌∷◌, ◌++◌, length, map, true, Option, Some, None, Result, Ok, Err, IfOk, refl, sym, ap, subst, ◌∙◌, inl, inr}
+use Rattle.std.proofs.lemmas.List.Elements.{filter_map-append}
+use Rattle.std.proofs.lemmas.List.Sums.{fold-append}
 use Rattle.std.specs.List.{AllZip}
 use Rattle.tk_base.specs.History.{last_of}
-use Rattle.tk_journal.specs.Publishing.{publications}
+use Rattle.tk_frames.specs.declared.frame.Frame.TheVariants as g
+use Rattle.tk_input.specs.Logs.{beginnings}
+use Rattle.tk_journal.specs.Publishing.{publications, published_in, stops}
+use Rattle.tk_journal.specs.Readings.{monitors}
 use Rattle.tk_journal.specs.declared.noted.Noted.{Noted}
+use Rattle.tk_journal.specs.declared.noted.Noted.TheVariants as n
+use Rattle.tk_journal.specs.declared.publication.Publication.{Publication}
 use Rattle.tk_trail.specs.declared.entry.Entry.{Entry}
 use Rattle.tk_story.specs.Story.{IsStory, StoryView}
-use Rattle.tk_verify.specs.Recorded.{Finds, IsFinished, beginnings, is_final, recorded as told_by}
+use Rattle.tk_verify.specs.Recorded.{Finds, IsFinished, is_final, recorded as told_by}
 use Rattle.tk_verify.specs.declared.finding.Finding.{Finding}
 use Rattle.tk_verify.specs.declared.finding.Finding.TheVariants as f
 use Rattle.tk_trace.specs.Checked.{Faults, IsFoundIn, IsKeptOf, as_found, as_unread, told}
@@ -129,3 +136,52 @@ kept_succeeds bytes r names s is other from legal over then =
     let same : recorded_of names s ≡ r = one_run bytes (recorded_of names s) r other is in
     let story : told r ≡ s = ap told (sym same) ∙ told_again names s from in
     then (subst IsStory (sym story) legal) (subst is_over same over)
+
+-- ---- stories that are finished
+
+no_more : (mons : List ℕ) → publications (map (λ mon. n.Sent (record { 0 = mon }) g.Stop) mons) ≡ []
+no_more [] = refl
+no_more (mon ∷ mons) = no_more mons
+
+last_push : (ps : List Publication) (p : Publication) → last_of (ps ++ p ∷ []) ≡ Some p
+last_push ps p = fold-append (λ _ e. Some e) None ps (p ∷ [])
+
+-- the final publication of a finished story is its last one
+pub final_is : (s : StoryView) → IsFinished s → is_final (last_of (publications s.journal)) ≡ true
+final_is s is =
+    let last : publications s.journal ≡ publications is.front ++ is.final ∷ [] =
+    ap publications is.is ∙ filter_map-append published_in is.front (n.Published is.final ∷ stops s.settings)
+    ∙ ap (λ (more : List Publication). publications is.front ++ is.final ∷ more) (no_more (monitors s.settings)) in
+    ap (λ (ps : List Publication). is_final (last_of ps)) last ∙ ap is_final (last_push (publications is.front) is.final) ∙ is.last
+
+-- ---- one fault
+
+module _ (one : (s : StoryView) (a b : Finding) → Finds s a → Finds s b → a ≡ b) (bytes : List ℕ) where
+  one_found : (a b : Finding) → IsFoundIn bytes a → IsFoundIn bytes b → as_found a ≡ as_found b
+  one_found a b wrong other = ap as_found (one (told wrong.run) a b wrong.found (here bytes wrong.run b wrong.trace other))
+
+  pub one_wrong_of : (a b : TraceFault) → Faults bytes a → Faults bytes b → a ≡ b
+  one_wrong_of t.NotATrace t.NotATrace is other = refl
+  one_wrong_of t.NotATrace (t.NotLegal part place) is other = absurd (is other.run other.trace)
+  one_wrong_of t.NotATrace (t.Links mon direction place) is other = absurd (is other.run other.trace)
+  one_wrong_of t.NotATrace t.NotFinal is other = absurd (is other.run other.trace)
+  one_wrong_of t.NotATrace t.NoMemory is other = absurd other
+  one_wrong_of (t.NotLegal part place) t.NotATrace is other = absurd (other is.run is.trace)
+  one_wrong_of (t.Links mon direction place) t.NotATrace is other = absurd (other is.run is.trace)
+  one_wrong_of t.NotFinal t.NotATrace is other = absurd (other is.run is.trace)
+  one_wrong_of t.NoMemory b is other = absurd is
+  one_wrong_of (t.NotLegal part place) (t.NotLegal part' place') is other = one_found (f.NotLegal part place) (f.NotLegal part' place') is other
+  one_wrong_of (t.NotLegal part place) (t.Links mon direction place') is other = one_found (f.NotLegal part place) (f.Links mon direction place') is other
+  one_wrong_of (t.NotLegal part place) t.NotFinal is other = one_found (f.NotLegal part place) f.NotFinal is other
+  one_wrong_of (t.NotLegal part place) t.NoMemory is other = absurd other
+  one_wrong_of (t.Links mon direction place) (t.NotLegal part' place') is other = one_found (f.Links mon direction place) (f.NotLegal part' place') is other
+  one_wrong_of (t.Links mon direction place) (t.Links mon' direction' place') is other = one_found (f.Links mon direction place) (f.Links mon' direction' place') is other
+  one_wrong_of (t.Links mon direction place) t.NotFinal is other = one_found (f.Links mon direction place) f.NotFinal is other
+  one_wrong_of (t.Links mon direction place) t.NoMemory is other = absurd other
+  one_wrong_of t.NotFinal (t.NotLegal part' place') is other = one_found f.NotFinal (f.NotLegal part' place') is other
+  one_wrong_of t.NotFinal (t.Links mon' direction' place') is other = one_found f.NotFinal (f.Links mon' direction' place') is other
+  one_wrong_of t.NotFinal t.NotFinal is other = refl
+  one_wrong_of t.NotFinal t.NoMemory is other = absurd other
+
+pub one_wrong : ((s : StoryView) (a b : Finding) → Finds s a → Finds s b → a ≡ b) → (bytes : List ℕ) (a b : TraceFault) → Faults bytes a → Faults bytes b → a ≡ b
+one_wrong one bytes a b is other = one_wrong_of one bytes a b is other

@@ -4,7 +4,8 @@ ghost use Rattle.std.specs.Prelude.{ℕ, ◌≡◌, ◌⊎◌, List, [], true, I
 ghost use Rattle.tk_base.specs.History.{last_of};
 ghost use Rattle.tk_journal.specs.Publishing.{publications};
 ghost use Rattle.tk_story.specs.Story.{IsStory, StoryView};
-ghost use Rattle.tk_verify.specs.Recorded.{IsFinished, beginnings, is_final};
+ghost use Rattle.tk_input.specs.Logs.{beginnings};
+ghost use Rattle.tk_verify.specs.Recorded.{IsFinished, is_final};
 ghost use Rattle.tk_trace.specs.Checked.{Faults, IsKeptOf, Refuses, told};
 ghost use Rattle.tk_trace.specs.Recorded.{recorded, recorded_of};
 ghost use Rattle.tk_trace.specs.Spelling.{IsRecorded, IsTrace};
@@ -25,7 +26,8 @@ fn checked(alloc: Global, run: Recording) -> Result<Trace, TraceFault>
     ensures succeeds { IsStory (told (recorded run)) → is_final (last_of (publications (recorded run).journal)) ≡ true
         → IfErr result (λ e. e ≡ Memory) }
     ensures found { (bytes : List ℕ) → IsTrace bytes (recorded run) → IfErr result (λ e. (e ≡ Memory) ⊎ Faults bytes e) }
-    ensures exact { (bytes : List ℕ) → IsTrace bytes (recorded run) → (fault : Fault) → Faults bytes fault → Refuses fault result }
+    ensures exact { (bytes : List ℕ) → IsTrace bytes (recorded run) → (fault : Fault) → Faults bytes fault
+        → Refuses fault result }
 {
     let Recording {
         names,

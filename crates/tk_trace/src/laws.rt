@@ -2,8 +2,15 @@
 
 ghost use Rattle.std.specs.Prelude.{◌≡◌, ℕ, List, Ok};
 ghost use Rattle.tk_input.specs.Catalog.{catalog_from, catalog_of};
-ghost use Rattle.tk_trace.specs.Recorded.{Recorded};
+ghost use Rattle.tk_input.specs.Logs.{beginnings};
+ghost use Rattle.tk_story.specs.Story.{IsStory, StoryView};
+ghost use Rattle.tk_verify.specs.Recorded.{IsFinished};
+ghost use Rattle.tk_trace.specs.Checked.{Faults};
+ghost use Rattle.tk_trace.specs.Recorded.{Recorded, recorded_of};
 ghost use Rattle.tk_trace.specs.Spelling.{IsTrace};
+ghost use Rattle.tk_trace.specs.declared.trace_fault.TraceFault.{TraceFault as Fault};
+
+use tk_verify::{nothing_is_found_of_a_finished_story, one_finding};
 
 /// A trace is of one run.
 pub fn a_trace_is_of_one_run()
@@ -16,3 +23,18 @@ pub fn a_catalogue_is_of_its_names()
         → catalog_from names ≡ Ok names }
     ensures made { (from names : List (List ℕ)) → catalog_from from ≡ Ok names → catalog_from names ≡ Ok names }
 {}
+
+/// One thing at most is wrong with some bytes.
+pub fn one_fault()
+    ensures { (bytes : List ℕ) (a b : Fault) → Faults bytes a → Faults bytes b → a ≡ b }
+{
+    one_finding();
+}
+
+/// Nothing is wrong with the trace of a legal story from the beginning of its logs to its end.
+pub fn nothing_is_wrong_with_a_finished_run()
+    ensures { (bytes : List ℕ) (names : List (List ℕ)) (s : StoryView) (fault : Fault) → IsTrace bytes (recorded_of names s)
+        → s.from ≡ beginnings s.logs → IsStory s → IsFinished s → Faults bytes fault → ⊥ }
+{
+    nothing_is_found_of_a_finished_story();
+}

@@ -18,7 +18,10 @@ mod writing;
 
 pub use checking::read;
 pub use fault::ParseFault;
-pub use laws::{a_catalogue_is_of_its_names, a_trace_is_of_one_run};
+pub use laws::{
+    a_catalogue_is_of_its_names, a_trace_is_of_one_run, nothing_is_wrong_with_a_finished_run,
+    one_fault,
+};
 pub use reading::parse;
 pub use recording::Recording;
 pub use trace::Trace;

@@ -2,7 +2,8 @@
 
 use std::alloc::Global;
 use std::test::Fail;
-use tk_trace::{ParseFault, parse};
+use tk_input::VecSink;
+use tk_trace::{ParseFault, TraceFault, parse, read, write};
 
 const TRACE: [u8; 376] = [
     84, 79, 80, 75, 84, 82, 67, 49, 0, 0, 0, 1, 0, 0, 0, 0, 0, 0, 0, 0, 0, 0, 0, 0, 0, 0, 0, 0, 0,
@@ -19,6 +20,9 @@ const TRACE: [u8; 376] = [
     0, 1, 0, 0, 0, 0, 3, 0, 0, 0, 18, 6, 0, 0, 0, 0, 0, 0, 0, 1, 1, 0, 0, 0, 1, 0, 0, 0, 0, 2, 0,
     0, 0, 1, 7,
 ];
+
+/// Where the member of the publication ends.
+const MEMBER: usize = 213;
 
 /// How many names, entries of the journal, and trails the bytes are a trace of.
 fn shape_of(alloc: Global, bytes: &[u8]) -> Result<(usize, usize, usize), ParseFault> {
@@ -65,5 +69,38 @@ fn a_count_past_the_bytes_is_no_trace(rt: HostRuntime) -> Result<(), Fail> {
     claims.extend_from_slice(&[255; 8])?;
     claims.extend_from_slice(&TRACE[62..])?;
     assert!(rt; is_no_trace(rt.alloc(), &claims));
+    Ok(())
+}
+
+/// Whether the story that the bytes tell was written.
+fn is_written(alloc: Global, bytes: &[u8], out: &mut VecSink) -> bool {
+    match read(alloc, bytes) {
+        Ok(trace) => write(alloc, &trace.story, &trace.names, out).is_ok(),
+        Err(_) => false,
+    }
+}
+
+/// What is wrong with the bytes, if anything is.
+fn fault_of(alloc: Global, bytes: &[u8]) -> Option<TraceFault> {
+    read(alloc, bytes).err()
+}
+
+#[test]
+fn the_story_of_a_trace_gives_it_again(rt: HostRuntime) -> Result<(), Fail> {
+    let alloc = rt.alloc();
+    let mut sink = VecSink::new(alloc, 400, Vec::new(alloc))?;
+    assert!(rt; is_written(alloc, &TRACE, &mut sink));
+    assert_eq!(rt; sink.written(), TRACE.as_slice());
+    Ok(())
+}
+
+/// The coordinator publishes the other object by itself, so the fifth entry of the journal is not allowed.
+#[test]
+fn another_member_is_not_legal(rt: HostRuntime) -> Result<(), Fail> {
+    let mut altered = Vec::from_slice(rt.alloc(), &TRACE[..MEMBER])?;
+    altered.push(2)?;
+    altered.extend_from_slice(&TRACE[MEMBER + 1..])?;
+    let fault = fault_of(rt.alloc(), &altered);
+    assert_eq!(rt; fault, Some(TraceFault::NotLegal { part: 3, place: 4 }));
     Ok(())
 }

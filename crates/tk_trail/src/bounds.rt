@@ -12,12 +12,14 @@ ghost use Rattle.tk_trail.specs.declared.entry.Entry.TheVariants.{Sent, Took};
 
 /// Each entry is allowed after those in front of it.
 pub fn each_entry_is_allowed()
-    ensures { (setup : MonitorSetup) (before after : List Entry) (e : Entry) → IsLegal setup (before ++ e ∷ after) → Allowed setup before e }
+    ensures { (setup : MonitorSetup) (before after : List Entry) (e : Entry) → IsLegal setup (before ++ e ∷ after)
+        → Allowed setup before e }
 {}
 
 /// No value passes 2^100 in size.
 pub fn values_are_small()
-    ensures { (setup : MonitorSetup) (trail : List Entry) (o : ℕ) → IsSetup setup → unsigned_abs (value_of_object setup trail o) ≤ 2 ^ 100 }
+    ensures { (setup : MonitorSetup) (trail : List Entry) (o : ℕ) → IsSetup setup
+        → unsigned_abs (value_of_object setup trail o) ≤ 2 ^ 100 }
 {}
 
 /// The changes of a taken Assign are of objects of the catalogue, and each is a factor.

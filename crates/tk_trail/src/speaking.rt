@@ -13,9 +13,14 @@ ghost use Rattle.tk_frames.specs.declared.frame.Frame.TheVariants as f;
 
 /// A sent frame says what there is to say at its place: a Settled where nothing is broken, a Report where something is.
 pub fn frames_speak_of_their_places()
-    ensures settled { (setup : MonitorSetup) (before after : List Entry) (seq : ℕ) (last : Bool) (places : List ℕ) → IsLegal setup (before ++ Sent (f.Settled seq last places) ∷ after) → SaysSettled setup before seq last places }
-    ensures report { (setup : MonitorSetup) (before after : List Entry) (seq : ℕ) (border : ℤ) (failed : List ℕ) (values : List (ℕ × ℤ)) → IsLegal setup (before ++ Sent (f.Report seq border failed values) ∷ after) → SaysReport setup before seq border failed values }
-    ensures values { (setup : MonitorSetup) (before after : List Entry) (round seq : ℕ) (border : ℤ) (values : List (ℕ × ℤ)) → IsLegal setup (before ++ Sent (f.Values round seq border values) ∷ after) → SaysValues setup before round seq border values }
+    ensures settled { (setup : MonitorSetup) (before after : List Entry) (seq : ℕ) (last : Bool) (places : List ℕ)
+        → IsLegal setup (before ++ Sent (f.Settled seq last places) ∷ after) → SaysSettled setup before seq last places }
+    ensures report { (setup : MonitorSetup) (before after : List Entry) (seq : ℕ) (border : ℤ) (failed : List ℕ) (values : List (ℕ × ℤ))
+        → IsLegal setup (before ++ Sent (f.Report seq border failed values) ∷ after)
+        → SaysReport setup before seq border failed values }
+    ensures values { (setup : MonitorSetup) (before after : List Entry) (round seq : ℕ) (border : ℤ) (values : List (ℕ × ℤ))
+        → IsLegal setup (before ++ Sent (f.Values round seq border values) ∷ after)
+        → SaysValues setup before round seq border values }
 {}
 
 /// Behind a Report, or a Settled with `last`, nothing but Values is sent until the next Assign.
@@ -26,15 +31,18 @@ pub fn only_values_follow_until_the_next_assign()
 
 /// At the ends the places are the lengths of the parts.
 pub fn the_ends_are_the_lengths()
-    ensures { (setup : MonitorSetup) (trail : List Entry) → length setup.from ≡ length setup.parts → at_ends setup trail ≡ true → places_at setup trail ≡ map length setup.parts }
+    ensures { (setup : MonitorSetup) (trail : List Entry) → length setup.from ≡ length setup.parts
+        → at_ends setup trail ≡ true → places_at setup trail ≡ map length setup.parts }
 {}
 
 pub fn two_answers_under_each_number()
-    ensures { (setup : MonitorSetup) → length setup.from ≡ length setup.parts → (trail : List Entry) → IsLegal setup trail → (a : ℕ) → answers_under a trail ≤ 2 }
+    ensures { (setup : MonitorSetup) → length setup.from ≡ length setup.parts → (trail : List Entry) → IsLegal setup trail
+        → (a : ℕ) → answers_under a trail ≤ 2 }
 {}
 
 pub fn what_is_still_is_said_of_now()
-    ensures { (setup : MonitorSetup) (x z : List Entry) → seq_of (x ++ z) ≡ seq_of x → is_still (x ++ z) ≡ true → Same setup x (x ++ z) }
+    ensures { (setup : MonitorSetup) (x z : List Entry) → seq_of (x ++ z) ≡ seq_of x → is_still (x ++ z) ≡ true
+        → Same setup x (x ++ z) }
 {}
 
 /// Where nothing is broken, each member's level is at least that of each outsider.

@@ -2,5 +2,4 @@ pub mod FrontLemmas
 pub mod JournalLemmas
 pub mod RecordLemmas
 pub mod RunLemmas
-pub mod StartLemmas
 pub mod TrailLemmas

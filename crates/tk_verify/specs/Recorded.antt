@@ -4,7 +4,7 @@ use Rattle.std.specs.Global.{Vec}
 use Rattle.tk_base.specs.History.{last_of}
 use Rattle.tk_base.specs.Settings.{Setup}
 use Rattle.tk_frames.specs.declared.frame.Frame.{Frame}
-use Rattle.tk_input.specs.Logs.{LogSet, full_cut}
+use Rattle.tk_input.specs.Logs.{LogSet, beginnings, full_cut}
 use Rattle.tk_journal.specs.Laws.{IsMonitor}
 use Rattle.tk_journal.specs.Legal.{IsLegal, start}
 use Rattle.tk_journal.specs.Publishing.{publications, stops}
@@ -28,10 +28,6 @@ use Rattle.tk_verify.specs.declared.finding.Finding.TheVariants as f
 pub record AreAgreed (settings : Setup) (logs : LogSet) : Type 0 where
   pub objects : logs.objects ≡ settings.objects
   pub monitors : length logs.logs ≡ settings.monitors
-
--- the places before the first change of each part
-abbrev pub beginnings : LogSet → List (List ℕ)
-beginnings logs = map (λ parts. map (λ part. 0) parts) logs.logs
 
 -- the story that a record tells of a run from some places, legal or not
 abbrev pub recorded_from : List (List ℕ) → Setup → LogSet → List Noted → List (List Entry) → StoryView

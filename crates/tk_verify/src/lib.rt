@@ -10,7 +10,6 @@ mod halt;
 mod journals;
 mod laws;
 mod same;
-mod start;
 mod trails;
 mod verifying;
 

@@ -59,7 +59,8 @@ fn take(monitor: &mut Monitor, frame: &Frame) -> Result<(), NoMemory>
 /// Lets the monitor say what is due.
 fn check(monitor: &mut Monitor) -> Result<(), NoMemory>
     ensures made { as_made monitor.new ≡ as_made monitor.old }
-    ensures leads { (frame : Told) → OnOk result (Leads (IsLegal monitor.old.setup) monitor.old.trail (e.Sent frame) monitor.new.trail) }
+    ensures leads { (frame : Told)
+        → OnOk result (Leads (IsLegal monitor.old.setup) monitor.old.trail (e.Sent frame) monitor.new.trail) }
 {
     let _ = monitor.trail();
     monitor.check()?;

@@ -16,7 +16,6 @@ use crate::finding::Finding;
 use crate::halt::Halt;
 use crate::journals::{drive_coordinator, is_over};
 use crate::laws::{nothing_is_found_of_a_finished_story, one_finding};
-use crate::start::start_of;
 use crate::trails::drive_monitor;
 use std::alloc::Global;
 use tk_base::{Cut, Mon, NoMemory, Settings};
@@ -69,8 +68,10 @@ fn drive_monitors(
     requires trails { length trails.now ≡ settings.now.monitors }
     ensures made { IfOk result (λ ms. map as_made ms.items ≡ map (made_for settings.now logs.now from.now) (monitors settings.now)) }
     ensures trails { IfOk result (λ ms. map (λ m. m.trail) ms.items ≡ trails_in trails.now) }
-    ensures legal { (journal : List Said) → OnOk result (AreLegalTrails (recorded_from from.now settings.now logs.now journal (trails_in trails.now))) }
-    ensures found { (journal : List Said) → IfErr result (λ e. (e ≡ Memory) ⊎ Finds (recorded_from from.now settings.now logs.now journal (trails_in trails.now)) e) }
+    ensures legal { (journal : List Said)
+        → OnOk result (AreLegalTrails (recorded_from from.now settings.now logs.now journal (trails_in trails.now))) }
+    ensures found { (journal : List Said)
+        → IfErr result (λ e. (e ≡ Memory) ⊎ Finds (recorded_from from.now settings.now logs.now journal (trails_in trails.now)) e) }
 {
     let mut monitors = Vec::new(alloc);
     for j in 0..settings.monitors() {
@@ -182,11 +183,12 @@ pub fn verify(
         → is_final (last_of (publications journal.now)) ≡ true → IfErr result (λ e. e ≡ Memory) }
     // Else what is found is told, exactly where it is found, unless there is no memory.
     ensures found { IfErr result (λ e. (e ≡ Memory) ⊎ Finds (recorded settings logs journal.now (trails_in trails.now)) e) }
-    ensures exact { (finding : Found) → Finds (recorded settings logs journal.now (trails_in trails.now)) finding → Answers finding result }
+    ensures exact { (finding : Found) → Finds (recorded settings logs journal.now (trails_in trails.now)) finding
+        → Answers finding result }
 {
     one_finding();
     nothing_is_found_of_a_finished_story();
-    match start_of(alloc, &logs) {
+    match logs.start(alloc) {
         Ok(from) => judge(alloc, settings, logs, from, journal, trails),
         Err(NoMemory) => Err(Finding::NoMemory),
     }

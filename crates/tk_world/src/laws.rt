@@ -34,10 +34,14 @@ pub fn where_nothing_moves_the_members_are_valid()
 /// Two stories that the same events lead to from the same beginning are one; a story that runs by the reader's form is
 /// where its events lead; so two stories that begin alike and run by the same events are one.
 pub fn one_story()
-    ensures reached { (b s t : StoryView) (events : List Event) → after (Some b) events ≡ Some s → after (Some b) events ≡ Some t → s ≡ t }
-    ensures runs { (s : StoryView) (events : List Event) → IsStory s → RunsBy s events → after (Some (begin s.settings s.logs s.from)) events ≡ Some s }
-    ensures reads { (s : StoryView) (events : List Event) → IsStory s → after (Some (begin s.settings s.logs s.from)) events ≡ Some s → RunsBy s events }
-    ensures alone { (s t : StoryView) (events : List Event) → IsStory s → IsStory t → s.settings ≡ t.settings → s.logs ≡ t.logs → s.from ≡ t.from → RunsBy s events → RunsBy t events → s ≡ t }
+    ensures reached { (b s t : StoryView) (events : List Event) → after (Some b) events ≡ Some s
+        → after (Some b) events ≡ Some t → s ≡ t }
+    ensures runs { (s : StoryView) (events : List Event) → IsStory s → RunsBy s events
+        → after (Some (begin s.settings s.logs s.from)) events ≡ Some s }
+    ensures reads { (s : StoryView) (events : List Event) → IsStory s
+        → after (Some (begin s.settings s.logs s.from)) events ≡ Some s → RunsBy s events }
+    ensures alone { (s t : StoryView) (events : List Event) → IsStory s → IsStory t → s.settings ≡ t.settings
+        → s.logs ≡ t.logs → s.from ≡ t.from → RunsBy s events → RunsBy t events → s ≡ t }
 {}
 
 /// Each story is reached: the events of its order lead there from its beginning, by the reader's form and by `after`.

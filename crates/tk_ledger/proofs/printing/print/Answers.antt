@@ -1,52 +1,38 @@
-use Rattle.std.proofs.Common.{List, subst}
+use Rattle.std.proofs.Common.{subst}
 use Rattle.std.specs.Prelude.{OnErr, OnOk}
-use Rattle.std.specs.List.{concat}
 use Rattle.tk_input.specs.Sink.{Grows, GrowsByFront}
-use Rattle.tk_journal.specs.declared.noted.Noted.{Noted}
 use Rattle.tk_ledger.specs.Ledger.{ledger_of}
-use Rattle.tk_ledger.specs.Text.{ledger_text, lines_of, text_of}
+use Rattle.tk_ledger.specs.Text.{ledger_text, sets_text, text_of}
 use Rattle.tk_ledger.specs.declared.ledger.Ledger.{Ledger}
-use Rattle.tk_ledger.proofs.LineLemmas.{named_at}
 use Rattle.tk_ledger.proofs.SinkLemmas.{front_longer, front_of, on_err, then_err, then_ok}
 use Rattle.tk_ledger.proofs.printing.print.Goals as goal
 
-pub print_publications-requires : goal.print_publications-requires
-print_publications-requires g c = named_at c.args.story.now.story c.args.names.now c.journal.result.now c.journal.ensures.legal c.requires.names c.journal.ensures.value
-
-pub returns-in_err-print_publications-clause-err : goal.returns-in_err-print_publications-clause-err
-unfolding text_of lines_of
-returns-in_err-print_publications-clause-err g c =
+pub returns-in_err-print_sets-clause-err : goal.returns-in_err-print_sets-clause-err
+unfolding text_of
+returns-in_err-print_sets-clause-err g c =
     let w = g.O.Sink.written in
     let s = c.args.story.now.story in
-    let names = c.args.names.now in
-    on_err _ _ (front_longer (w c.args.out.now) (w c.print_publications.new.out) (concat (lines_of names s.journal)) (ledger_text (ledger_of s.settings s.journal))
-    (subst (λ (j : List Noted). GrowsByFront (w c.args.out.now) (w c.print_publications.new.out) (concat (lines_of names j))) c.journal.ensures.value c.in_err-print_publications.ensures.err))
+    on_err _ _ (front_longer (w c.args.out.now) (w c.print_sets.new.out) (sets_text c.args.names.now s) (ledger_text (ledger_of s.settings s.journal)) c.in_err-print_sets.ensures.err)
 
 pub returns-in_err-of-clause-err : goal.returns-in_err-of-clause-err
-unfolding text_of lines_of
+unfolding text_of
 returns-in_err-of-clause-err g c =
     let w = g.O.Sink.written in
     let s = c.args.story.now.story in
-    let names = c.args.names.now in
-    on_err _ _ (front_of (w c.args.out.now) (w c.print_publications.new.out) (concat (lines_of names s.journal)) (ledger_text (ledger_of s.settings s.journal))
-    (subst (λ (j : List Noted). Grows (w c.args.out.now) (w c.print_publications.new.out) (concat (lines_of names j))) c.journal.ensures.value c.in_ok-print_publications.ensures.ok))
+    on_err _ _ (front_of (w c.args.out.now) (w c.print_sets.new.out) (sets_text c.args.names.now s) (ledger_text (ledger_of s.settings s.journal)) c.in_ok-print_sets.ensures.ok)
 
 pub returns-clause-ok : goal.returns-clause-ok
-unfolding text_of lines_of
+unfolding text_of
 returns-clause-ok g c =
     let w = g.O.Sink.written in
     let s = c.args.story.now.story in
-    let names = c.args.names.now in
-    let first = subst (λ (j : List Noted). Grows (w c.args.out.now) (w c.print_publications.new.out) (concat (lines_of names j))) c.journal.ensures.value c.in_ok-print_publications.ensures.ok in
-    let ledger = subst (λ (l : Ledger). OnOk c.print_ledger.result (Grows (w c.print_publications.new.out) (w c.print_ledger.new.out) (ledger_text l))) c.in_ok-of.ensures c.print_ledger.ensures.ok in
-    then_ok c.print_ledger.result (w c.args.out.now) (w c.print_publications.new.out) (w c.print_ledger.new.out) (concat (lines_of names s.journal)) (ledger_text (ledger_of s.settings s.journal)) first ledger
+    let ledger = subst (λ (l : Ledger). OnOk c.print_ledger.result (Grows (w c.print_sets.new.out) (w c.print_ledger.new.out) (ledger_text l))) c.in_ok-of.ensures c.print_ledger.ensures.ok in
+    then_ok c.print_ledger.result (w c.args.out.now) (w c.print_sets.new.out) (w c.print_ledger.new.out) (sets_text c.args.names.now s) (ledger_text (ledger_of s.settings s.journal)) c.in_ok-print_sets.ensures.ok ledger
 
 pub returns-clause-err : goal.returns-clause-err
-unfolding text_of lines_of
+unfolding text_of
 returns-clause-err g c =
     let w = g.O.Sink.written in
     let s = c.args.story.now.story in
-    let names = c.args.names.now in
-    let first = subst (λ (j : List Noted). Grows (w c.args.out.now) (w c.print_publications.new.out) (concat (lines_of names j))) c.journal.ensures.value c.in_ok-print_publications.ensures.ok in
-    let ledger = subst (λ (l : Ledger). OnErr c.print_ledger.result (GrowsByFront (w c.print_publications.new.out) (w c.print_ledger.new.out) (ledger_text l))) c.in_ok-of.ensures c.print_ledger.ensures.err in
-    then_err c.print_ledger.result (w c.args.out.now) (w c.print_publications.new.out) (w c.print_ledger.new.out) (concat (lines_of names s.journal)) (ledger_text (ledger_of s.settings s.journal)) first ledger
+    let ledger = subst (λ (l : Ledger). OnErr c.print_ledger.result (GrowsByFront (w c.print_sets.new.out) (w c.print_ledger.new.out) (ledger_text l))) c.in_ok-of.ensures c.print_ledger.ensures.err in
+    then_err c.print_ledger.result (w c.args.out.now) (w c.print_sets.new.out) (w c.print_ledger.new.out) (sets_text c.args.names.now s) (ledger_text (ledger_of s.settings s.journal)) c.in_ok-print_sets.ensures.ok ledger

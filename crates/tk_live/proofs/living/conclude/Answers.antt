@@ -1,7 +1,7 @@
 use Rattle.std.proofs.Common.{refl, sym, ap, ◌∙◌, subst, inl, inr, map}
 use Rattle.tk_story.specs.declared.ends.mon_end.MonEnd.{MonEnd}
 use Rattle.tk_base.specs.Settings.{Setup}
-use Rattle.tk_run.specs.Ends.{beginnings}
+use Rattle.tk_input.specs.Logs.{beginnings}
 use Rattle.tk_story.specs.Ends.{made_for}
 use Rattle.tk_live.specs.Odd.{IsSomeOdd}
 use Rattle.tk_live.specs.declared.verdict.Verdict.TheVariants as v

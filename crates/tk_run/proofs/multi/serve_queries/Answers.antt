@@ -26,7 +26,7 @@ returns-in-Ok-print_queries-clause-ran g c = λ done.
     let same : queries_text input.queries c.as_slice.result.now c.as_slice-2.result.now ≡ multi_text input stories =
     ap (λ (n : List (List (List ℕ))). queries_text input.queries n c.as_slice-2.result.now) (c.as_slice.ensures.value ∙ c.in-Ok-tell.ensures.names) ∙ ap (λ (s : List KeptStory). multi_text input s) c.as_slice-2.ensures.value in
     let ran : HasRun gives AreAnswersOf multi_text (w c.args.out.now) (w c.print_queries.new.out) stories =
-    has_run gives AreAnswersOf multi_text (w c.args.out.now) (w c.print_queries.new.out) input c.in-Ok.ensures.read stories (are_sound input stories c.in-Ok-tell.ensures.stories c.a_finished_run_is_sound.ensures) _ same c.in-Ok-print_queries.ensures.ok in
+    has_run gives AreAnswersOf multi_text (w c.args.out.now) (w c.print_queries.new.out) input c.in-Ok.ensures.read stories (are_sound input stories c.in-Ok-tell.ensures.stories c.a_finished_run_is_sound.ensures.over) _ same c.in-Ok-print_queries.ensures.ok in
     record {
       none = c.several.ensures.story;
       holds = subst (λ (s : List KeptStory). HasRun gives AreAnswersOf multi_text (w c.args.out.now) (w c.print_queries.new.out) s) (sym c.several.ensures.stories) ran;
@@ -41,7 +41,7 @@ returns-in-Err-WriteFailed-clause-ends g c =
     let same : queries_text input.queries c.as_slice.result.now c.as_slice-2.result.now ≡ multi_text input stories =
     ap (λ (n : List (List (List ℕ))). queries_text input.queries n c.as_slice-2.result.now) (c.as_slice.ensures.value ∙ c.in-Ok-tell.ensures.names) ∙ ap (λ (s : List KeptStory). multi_text input s) c.as_slice-2.ensures.value in
     rw c.ended-in-Err-WriteFailed.ensures.status
-    (cut_short gives AreAnswersOf multi_text (w c.args.out.now) (w c.print_queries.new.out) input c.in-Ok.ensures.read stories (are_sound input stories c.in-Ok-tell.ensures.stories c.a_finished_run_is_sound.ensures) _ same c.in-Err-WriteFailed.ensures.err)
+    (cut_short gives AreAnswersOf multi_text (w c.args.out.now) (w c.print_queries.new.out) input c.in-Ok.ensures.read stories (are_sound input stories c.in-Ok-tell.ensures.stories c.a_finished_run_is_sound.ensures.over) _ same c.in-Err-WriteFailed.ensures.err)
 
 pub returns-clause-ends : goal.returns-clause-ends
 returns-clause-ends g c =
@@ -52,4 +52,4 @@ returns-clause-ends g c =
     let same : queries_text input.queries c.as_slice.result.now c.as_slice-2.result.now ≡ multi_text input stories =
     ap (λ (n : List (List (List ℕ))). queries_text input.queries n c.as_slice-2.result.now) (c.as_slice.ensures.value ∙ c.in-Ok-tell.ensures.names) ∙ ap (λ (s : List KeptStory). multi_text input s) c.as_slice-2.ensures.value in
     rw c.ended-in-Err-NoMemory.ensures.status
-    (inr (cut_short gives AreAnswersOf multi_text (w c.args.out.now) (w c.print_queries.new.out) input c.in-Ok.ensures.read stories (are_sound input stories c.in-Ok-tell.ensures.stories c.a_finished_run_is_sound.ensures) _ same c.in-Err-NoMemory.ensures.err))
+    (inr (cut_short gives AreAnswersOf multi_text (w c.args.out.now) (w c.print_queries.new.out) input c.in-Ok.ensures.read stories (are_sound input stories c.in-Ok-tell.ensures.stories c.a_finished_run_is_sound.ensures.over) _ same c.in-Err-NoMemory.ensures.err))

@@ -4,14 +4,15 @@ use Rattle.tk_story.specs.Kept.{KeptStory}
 use Rattle.tk_drain.specs.Drive.{Drives, IsReached}
 use Rattle.tk_drain.specs.Resting.{RunsFrom}
 use Rattle.tk_world.specs.Events.{begin}
-use Rattle.tk_run.specs.Ends.{IsStoryOf, beginnings, events_in}
+use Rattle.tk_input.specs.Logs.{beginnings}
+use Rattle.tk_run.specs.Ends.{IsStoryOf, events_in}
 use Rattle.tk_run.specs.Headline.{IsSound}
 use Rattle.tk_run.proofs.playing.story_of.Goals as goal
 
 pub returns-clause-sound : goal.returns-clause-sound
 returns-clause-sound c =
     let world = c.play.new.world in
-    subst (λ (k : KeptStory). IsSound k.story) (sym c.in_ok-story.ensures) (c.a_finished_run_is_sound.ensures world.story c.in_ok-play.ensures.legal c.in_ok-play.ensures.over)
+    subst (λ (k : KeptStory). IsSound k.story) (sym c.in_ok-story.ensures) (c.a_finished_run_is_sound.ensures.over world.story c.in_ok-play.ensures.legal c.in_ok-play.ensures.over)
 
 -- the drive from places 0, and the events that it keeps
 pub returns-clause-story : goal.returns-clause-story
@@ -23,7 +24,7 @@ returns-clause-story c =
     let driven : Drives (events_in input.order) begun world = subst (λ (k : KeptStory). Drives (events_in input.order) k world) begins c.in_ok-play.ensures.driven in
     let reached = c.a_drive_is_reached.ensures.driven (events_in input.order) begun world driven in
     let ran = c.what_is_reached_runs.ensures input.settings input.logs (beginnings input.logs) world c.in_ok-play.ensures.legal reached in
-    subst (λ (k : KeptStory). IsStoryOf input k) (sym c.in_ok-story.ensures) (record { runs = ran; driven = driven })
+    subst (λ (k : KeptStory). IsStoryOf input k) (sym c.in_ok-story.ensures) (record { runs = ran; driven = driven; over = c.in_ok-play.ensures.over })
 
 pub returns-clause-names : goal.returns-clause-names
 returns-clause-names c =

@@ -1,7 +1,7 @@
 use Rattle.std.proofs.Common.{◌≡◌, ◌∙◌, Option, Some, ap, inr}
 use Rattle.tk_words.specs.Asked.{asked_by, asked_generate, asked_multi, asked_replay, asked_sources}
 use Rattle.tk_words.specs.Words.{Asked}
-use Rattle.tk_words.specs.Words.Asked.{Generates, Queries, Replays, Restarts}
+use Rattle.tk_words.specs.Words.Asked.{Checks, Generates, Queries, Replays, Restarts, Traces}
 use Rattle.tk_words.specs.declared.command.Command.{Command}
 use Rattle.tk_run.specs.Ends.{served}
 use Rattle.tk_run.proofs.serving.run.Goals as goal
@@ -49,3 +49,23 @@ pub returns-in-Ok-Multi-clause-ends : goal.returns-in-Ok-Multi-clause-ends
 returns-in-Ok-Multi-clause-ends g c =
     let read = c.in-Ok-Multi in
     inr (record { asked = Queries (asked_multi read.words); understood = here _ _ _ read.ensures.ok read.field-0-is; ends = c.serve_queries.ensures.ends })
+
+pub returns-in-Ok-Trace-clause-ran : goal.returns-in-Ok-Trace-clause-ran
+returns-in-Ok-Trace-clause-ran g c =
+    let read = c.in-Ok-Trace in
+    λ done. record { asked = Traces (asked_replay read.words); understood = here _ _ _ read.ensures.ok read.field-0-is; ran = c.serve_trace.ensures.ran done }
+
+pub returns-in-Ok-Trace-clause-ends : goal.returns-in-Ok-Trace-clause-ends
+returns-in-Ok-Trace-clause-ends g c =
+    let read = c.in-Ok-Trace in
+    inr (record { asked = Traces (asked_replay read.words); understood = here _ _ _ read.ensures.ok read.field-0-is; ends = c.serve_trace.ensures.ends })
+
+pub returns-in-Ok-Check-clause-ran : goal.returns-in-Ok-Check-clause-ran
+returns-in-Ok-Check-clause-ran g c =
+    let read = c.in-Ok-Check in
+    λ done. record { asked = Checks read.file.now; understood = here _ _ _ read.ensures.ok read.field-0-is; ran = c.serve_check.ensures.ran done }
+
+pub returns-in-Ok-Check-clause-ends : goal.returns-in-Ok-Check-clause-ends
+returns-in-Ok-Check-clause-ends g c =
+    let read = c.in-Ok-Check in
+    inr (record { asked = Checks read.file.now; understood = here _ _ _ read.ensures.ok read.field-0-is; ends = c.serve_check.ensures.ends })

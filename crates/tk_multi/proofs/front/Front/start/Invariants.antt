@@ -1,5 +1,5 @@
 use Rattle.std.proofs.Common.{◌≡◌, take}
-use Rattle.tk_multi.specs.Alone.{beginnings}
+use Rattle.tk_input.specs.Logs.{beginnings}
 use Rattle.tk_multi.proofs.WatchLemmas.{rows_in}
 use Rattle.tk_multi.proofs.front.Front.start.Given as goal
 

@@ -1,0 +1,19 @@
+use Rattle.std.proofs.Common.{◌≡◌, List, Ok, ℕ, ap, subst, sym}
+use Rattle.tk_load.specs.Traced.{TracesBytes, TracesRead}
+use Rattle.tk_load.proofs.TracedLemmas.{unread}
+use Rattle.tk_load.proofs.traced.load_trace.Goals as goal
+
+pub returns-in-Ok-clause-read : goal.returns-in-Ok-clause-read
+returns-in-Ok-clause-read g c =
+    let given = c.in-Ok.ensures.read in
+    let traces = subst (λ (bytes : List ℕ). TracesBytes c.args.file.now bytes c.trace_of.result) c.as_slice.ensures.value c.trace_of.ensures.traces in
+    record {
+      content = given.content;
+      read = given.read;
+      traces = subst (λ meant. TracesRead c.args.file.now meant c.trace_of.result) (sym given.meets) traces;
+    }
+
+pub returns-in-Err-clause-read : goal.returns-in-Err-clause-read
+returns-in-Err-clause-read g c =
+    let given = c.in-Err.ensures.read in
+    record { content = given.content; read = given.read; traces = unread c.args.file.now c.in-Err.status _ given.meets }

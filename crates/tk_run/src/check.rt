@@ -1,0 +1,64 @@
+//! A trace that is checked.
+
+ghost use Rattle.std.specs.Prelude.{◌≡◌, IfSome, IsErrOf, OnErr, OnOk, length};
+ghost use Rattle.tk_input.specs.Files.{HasRisen};
+ghost use Rattle.tk_input.specs.Sink.{Grows, GrowsByFront};
+ghost use Rattle.tk_load.specs.declared.status.Status.TheVariants.{Done, WriteFault as NotWritten};
+ghost use Rattle.tk_run.specs.Ends.{EndsAsked, RunsAsked, yes_text};
+ghost use Rattle.tk_run.specs.Headline.{IsSound};
+ghost use Rattle.tk_run.specs.Outcome.{IsWithout};
+ghost use Rattle.tk_words.specs.Words.Asked.{Checks};
+
+use crate::headline::a_finished_run_is_sound;
+use crate::outcome::Outcome;
+use std::alloc::Global;
+use tk_input::{Catalog, Files, Sink};
+use tk_ledger::{PrintFault, print_sets};
+use tk_load::{Status, load_trace};
+use tk_story::Story;
+use tk_trace::Trace;
+
+/// Writes the sets that a run published, and that all of it is legal.
+fn print_yes<O: Sink>(
+    alloc: Global,
+    story: &Story,
+    names: &Catalog,
+    out: &mut O,
+) -> Result<(), PrintFault>
+    requires { length names.now ≡ story.now.story.settings.objects }
+    ensures ok { OnOk result (Grows (O.written out.old) (O.written out.new) (yes_text names.now story.now.story)) }
+    ensures err { OnErr result (GrowsByFront (O.written out.old) (O.written out.new) (yes_text names.now story.now.story)) }
+    ensures failed { IsErrOf result PrintFault.WriteFailed → HasRisen (O.fault_count out.old) (O.fault_count out.new) }
+{
+    print_sets(alloc, story, names, out)?;
+    out.put(b"yes\n")?;
+    Ok(())
+}
+
+/// Serves `check`. Nothing is written before all of the file is found to be legal.
+pub fn serve_check<F: Files, O: Sink>(
+    alloc: Global,
+    file: &str,
+    files: &mut F,
+    out: &mut O,
+) -> Outcome
+    ensures ran { result.status ≡ Done → RunsAsked (Checks file.now)
+        (F.content files.old) (F.fault_count files.old) (F.fault_count files.new)
+        (O.written out.old) (O.written out.new) result.story result.stories.items }
+    ensures sound { IfSome result.story (λ s. IsSound s.story) }
+    ensures ends { EndsAsked (Checks file.now) (F.content files.old) (F.fault_count files.old)
+        (F.fault_count files.new) (O.written out.old) (O.written out.new) result.status }
+    ensures without { (result.status ≡ Done → ⊥) → IsWithout result }
+    ensures unwritten { result.status ≡ NotWritten → HasRisen (O.fault_count out.old) (O.fault_count out.new) }
+{
+    let Trace { names, story } = match load_trace(alloc, file, files) {
+        Ok(trace) => trace,
+        Err(status) => return Outcome::ended(alloc, status),
+    };
+    a_finished_run_is_sound();
+    match print_yes(alloc, &story, &names, out) {
+        Ok(()) => Outcome::done(alloc, story),
+        Err(PrintFault::WriteFailed) => Outcome::ended(alloc, Status::WriteFault),
+        Err(PrintFault::NoMemory) => Outcome::ended(alloc, Status::NoMemory),
+    }
+}

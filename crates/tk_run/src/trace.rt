@@ -1,0 +1,51 @@
+//! The trace of a run, in place of its text.
+
+ghost use Rattle.std.specs.Prelude.{◌≡◌, IfSome};
+ghost use Rattle.tk_input.specs.Files.{HasRisen};
+ghost use Rattle.tk_load.specs.declared.status.Status.TheVariants.{Done, WriteFault as NotWritten};
+ghost use Rattle.tk_run.specs.Ends.{EndsAsked, RunsAsked};
+ghost use Rattle.tk_run.specs.Headline.{IsSound};
+ghost use Rattle.tk_run.specs.Outcome.{IsWithout};
+ghost use Rattle.tk_words.specs.Asked.{AreOfMonitors, IsCarriage, asked_replay};
+ghost use Rattle.tk_words.specs.Words.Asked.{Traces};
+
+use crate::outcome::Outcome;
+use crate::playing::{Played, story_of};
+use std::alloc::Global;
+use tk_input::{Files, Sink};
+use tk_ledger::PrintFault;
+use tk_load::{Status, load};
+use tk_trace::write;
+use tk_words::Replay;
+
+/// Serves `trace`. Nothing is written before the input stands and its story is over.
+pub fn serve_trace<F: Files, O: Sink>(
+    alloc: Global,
+    words: &Replay<'_>,
+    files: &mut F,
+    out: &mut O,
+) -> Outcome
+    requires monitors { AreOfMonitors words.now.sources.logs.items }
+    requires carriage { IsCarriage words.now.carriage }
+    ensures ran { result.status ≡ Done → RunsAsked (Traces (asked_replay words.now))
+        (F.content files.old) (F.fault_count files.old) (F.fault_count files.new)
+        (O.written out.old) (O.written out.new) result.story result.stories.items }
+    ensures sound { IfSome result.story (λ s. IsSound s.story) }
+    ensures ends { EndsAsked (Traces (asked_replay words.now)) (F.content files.old) (F.fault_count files.old)
+        (F.fault_count files.new) (O.written out.old) (O.written out.new) result.status }
+    ensures without { (result.status ≡ Done → ⊥) → IsWithout result }
+    ensures unwritten { result.status ≡ NotWritten → HasRisen (O.fault_count out.old) (O.fault_count out.new) }
+{
+    let input = match load(alloc, &words.sources, files) {
+        Ok(input) => input,
+        Err(status) => return Outcome::ended(alloc, status),
+    };
+    let Ok(Played { story, names, .. }) = story_of(alloc, input, words.carriage) else {
+        return Outcome::ended(alloc, Status::NoMemory);
+    };
+    match write(alloc, &story, &names, out) {
+        Ok(()) => Outcome::done(alloc, story),
+        Err(PrintFault::WriteFailed) => Outcome::ended(alloc, Status::WriteFault),
+        Err(PrintFault::NoMemory) => Outcome::ended(alloc, Status::NoMemory),
+    }
+}
