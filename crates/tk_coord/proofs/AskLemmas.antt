@@ -23,6 +23,7 @@ use Rattle.tk_journal.proofs.Sound.{new_values, new_asked}
 use Rattle.tk_coord.specs.declared.link.Link.{Link}
 use Rattle.tk_coord.specs.declared.round.Round.{Round}
 use Rattle.tk_coord.specs.declared.state.State.{State}
+use Rattle.tk_coord.specs.Board.{BoardView}
 use Rattle.tk_coord.specs.Keeping.{AreChanged, is_but}
 use Rattle.tk_coord.specs.State.{kind_in, link_at, AreLinks, IsRound, Holds}
 use Rattle.tk_coord.specs.Steps.{IsAsked, is_opener, asked_mons}
@@ -193,8 +194,7 @@ round_asked s j entries round opener old gathered a h =
 
 -- what the Collects of a new round leave of the state
 pub record IsAskedOf (asks : Round) (opener : Option Reported) (but : Option ℕ) (old new : State) : Type 0 where
-  pub members : new.members ≡ old.members
-  pub table : new.table ≡ old.table
+  pub board : new.board ≡ old.board
   pub same : (i : ℕ) → is_but but i ≡ is_opener opener (suc i)
   pub links : List Link
   pub are : new.links.items ≡ links
@@ -212,8 +212,8 @@ holds_asked s j entries round opener but old new a n h =
     let after = j ++ collects round.number round.asked mons in
     let k = is_new s j round.number round.asked mons a.some.0 a.some.1 a.some.2 a.counted a.new in
     subst (λ (es : List Noted). Holds s (j ++ es) new) (sym a.sends) (record {
-      members = n.members ∙ h.members ∙ sym (plain_members j (λ m. m) (λ _. f.Collect round.number round.asked) mons (λ _. refl));
-      table = n.table ∙ h.table ∙ sym (table_by s j after (assigns_now j round.number round.asked mons));
+      members = ap (λ (b : BoardView). b.members) n.board ∙ h.members ∙ sym (plain_members j (λ m. m) (λ _. f.Collect round.number round.asked) mons (λ _. refl));
+      table = ap (λ (b : BoardView). b.table) n.board ∙ h.table ∙ sym (table_by s j after (assigns_now j round.number round.asked mons));
       links = subst (λ (ls : List Link). AreLinks s after ls) (sym n.are) (links_asked s j round.number round.asked opener but old.links.items n.links k n.same n.count n.each h.links);
       round = subst (λ (r : Round). IsRound s after r new.gathered.items) (sym n.round)
           (subst (λ (g : List Reported). IsRound s after round g) (sym n.gathered) (round_asked s j entries round opener old.round old.gathered.items a h.round));

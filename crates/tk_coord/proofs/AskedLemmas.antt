@@ -1,5 +1,5 @@
 -- The Collects that open a round over a journal in which none is open.
-use Rattle.std.proofs.Common.{◌≡◌, ℕ, suc, true, false, not, ◌+◌, ◌≤◌, ◌<◌, ◌==◌, ◌||◌, ◌&&◌, List, [], ◌∷◌, ◌++◌, Option, Bool, zero, Some, None, refl, sym, ap, ◌∙◌, subst, arith}
+use Rattle.std.proofs.Common.{◌≡◌, ℕ, suc, true, false, not, ◌+◌, ◌≤◌, ◌<◌, ◌==◌, ◌&&◌, List, [], ◌∷◌, ◌++◌, Option, Bool, zero, Some, None, refl, sym, ap, ◌∙◌, subst, arith}
 use Rattle.std.proofs.Math.Bool.{and-false}
 use Rattle.std.specs.Prelude.{ℤ, is_some, filter, if◌then◌else◌}
 use Rattle.std.specs.List.{range_with_len}
@@ -11,7 +11,7 @@ use Rattle.tk_border.proofs.RisingLemmas.{is_in-filter}
 use Rattle.tk_frames.specs.declared.frame.Frame.{Frame}
 use Rattle.tk_frames.specs.declared.frame.Frame.TheVariants as f
 use Rattle.tk_alloc.specs.declared.reported.Reported.{Reported}
-use Rattle.tk_journal.specs.Readings.{monitors, assigns_sent, answer_of, last_round, asked_of, values_of, waits_for, is_open}
+use Rattle.tk_journal.specs.Readings.{monitors, assigns_sent, answer_of, last_round, asked_of, is_open}
 use Rattle.tk_journal.specs.Deciding.{answered_report}
 use Rattle.tk_journal.specs.Laws.{AreRoundsCounted, IsMonitor}
 use Rattle.tk_journal.specs.Turns.{collects, wide_collects, is_wide, rounds}
@@ -22,12 +22,13 @@ use Rattle.tk_journal.proofs.Batches.{collects_round}
 use Rattle.tk_journal.proofs.Counting.{AreCounted, counted_got}
 use Rattle.tk_journal.proofs.LawLemmas.{one_less}
 use Rattle.tk_journal.proofs.Orderly.{IsOrderly, others_of}
-use Rattle.tk_journal.proofs.Rounding.{is_in_range}
-use Rattle.tk_journal.proofs.Sound.{new_asked, new_values}
-use Rattle.tk_journal.proofs.Turning.{any_range, closed_got}
+use Rattle.tk_journal.proofs.GrowLemmas.{asks_open}
+use Rattle.tk_journal.proofs.Sound.{new_asked}
+use Rattle.tk_journal.proofs.SoundLemmas.{collects_wide}
+use Rattle.tk_journal.proofs.Turning.{closed_got}
 use Rattle.tk_coord.specs.declared.round.Round.{Round}
 use Rattle.tk_coord.specs.Steps.{with_got, asked_mons, is_opener, IsAsked}
-use Rattle.tk_coord.proofs.RangeLemmas.{all_of_range, one_fails}
+use Rattle.tk_coord.proofs.RangeLemmas.{one_fails}
 use Rattle.tk_coord.proofs.TellLemmas.{fresh_answered}
 
 -- the counts of rounds, as the laws say them
@@ -35,18 +36,6 @@ pub rounds_counted : (s : Setup) (j : List Noted) → AreCounted s j → AreRoun
 rounds_counted s j c = record { last = c.last; asked = c.asked; values = c.values }
 
 -- ---- a round is open
-
--- Collects to a monitor open a round
-pub collects_open : (s : Setup) (b : List Noted) (round : ℕ) (all : List ℕ) (q : ℕ) (mons : List ℕ) → AreCounted s b → last_round b < round → IsMonitor s q
-    → is_open s (b ++ collects round all (q ∷ mons)) ≡ true
-unfolding is_open waits_for
-collects_open s b round all q mons counted new m =
-    let after = b ++ collects round all (q ∷ mons) in
-    any_range (λ mon. waits_for (last_round after) mon after) 1 s.monitors q m.from_one (let w = m.within in omega (arith, w))
-    (ap (λ r. is_some (asked_of r q after) && not (is_some (values_of r q after))) (collects_round b round all q mons)
-    ∙ ap (λ x. is_some x && not (is_some (values_of round q after))) (new_asked s b round all (q ∷ mons) q counted new)
-    ∙ ap (λ y. is_some (if is_in (q ∷ mons) q then Some all else None) && not (is_some y)) (new_values s b round all (q ∷ mons) q counted new)
-    ∙ ap (λ c. is_some (if c || is_in mons q then Some all else None) && true) (eq-eqb q q refl))
 
 -- the first of some numbers of a range is one of them
 first_by : (b : Bool) (a k q : ℕ) (xs rest : List ℕ) → ((r : List ℕ) → xs ≡ q ∷ r → (a + 1 ≤ q) × (q < a + 1 + k)) → (if b then a ∷ xs else xs) ≡ q ∷ rest → (a ≤ q) × (q < a + suc k)
@@ -64,7 +53,7 @@ asked_open s now entries round opener counted a =
     let some = a.some in
     let first = first_within (λ mon. not (is_opener opener mon)) 1 s.monitors some.0 some.1 some.2 in
     let range : IsMonitor s some.0 = record { from_one = first.0; within = (let high = first.1 in omega (arith, high)) } in
-    ap (λ xs. is_open s (now ++ xs)) (a.sends ∙ ap (collects round.number round.asked) some.2) ∙ collects_open s now round.number round.asked some.0 some.1 counted a.new range
+    ap (λ xs. is_open s (now ++ xs)) (a.sends ∙ ap (collects round.number round.asked) some.2) ∙ asks_open s now round.number round.asked some.0 some.1 range counted a.new
 
 -- ---- a wide round
 
@@ -81,14 +70,6 @@ asked_now s j round asked mons q rest mon some c new =
     let last : last_round after ≡ round = ap (λ xs. last_round (j ++ collects round asked xs)) some ∙ collects_round j round asked q rest in
     ap (λ r. is_some (asked_of r mon after)) last ∙ ap is_some (new_asked s j round asked mons mon c new)
 
--- it asks every monitor
-opens_wide : (s : Setup) (j : List Noted) (round : ℕ) (q : ℕ) (rest : List ℕ) → monitors s ≡ q ∷ rest → AreCounted s j → last_round j < round → is_wide s (j ++ wide_collects s round) ≡ true
-unfolding is_wide
-opens_wide s j round q rest some c new =
-    let after = j ++ wide_collects s round in
-    all_of_range (λ mon. is_some (asked_of (last_round after) mon after)) 1 s.monitors (λ mon low high.
-    asked_now s j round (objects s.objects) (monitors s) q rest mon some c new ∙ ap (λ b. is_some (if b then Some (objects s.objects) else None)) (is_in_range 1 s.monitors mon low high))
-
 -- the Collects of a wide round, over all objects to every monitor
 pub wide_is_asked : (s : Setup) (now : List Noted) (number : ℕ) → 0 < s.monitors → is_open s now ≡ false → AreCounted s now → last_round now < number
     → IsAsked s now (wide_collects s number) (record { number = number; waiting = true; wide = true; asked = objects s.objects }) None
@@ -103,7 +84,7 @@ wide_is_asked s now number some closed c new =
       counted = rounds_counted s now c;
       new = new;
       waiting = refl;
-      wide = sym (opens_wide s now number 1 (range_with_len (1 + 1) k.0) mons c new);
+      wide = sym (collects_wide s now number k.0 k.1 c new);
       report = λ r is. cc;
     }
 

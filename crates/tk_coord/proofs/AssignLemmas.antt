@@ -191,8 +191,8 @@ round_sent s j members rows round gathered closed h =
 
 -- what the Assigns leave of the state
 pub record AreAssignedOf (change : Reallocation) (old new : State) : Type 0 where
-  pub members : new.members ≡ change.members
-  pub table : IsReplaced old.table change new.table
+  pub members : new.board.members ≡ change.members
+  pub table : IsReplaced old.board.table change new.board.table
   pub links : List Link
   pub are : new.links.items ≡ links
   pub count : length links ≡ length old.links.items
@@ -207,7 +207,7 @@ holds_assigned s j entries change old new a n h =
     let after = j ++ sends j change.members (by_monitor change.at.items) in
     record {
       members = n.members ∙ sym a.members;
-      table = a.table new.table (subst (λ (g : Grid). IsReplaced g change new.table) h.table n.table);
+      table = a.table new.board.table (subst (λ (g : Grid). IsReplaced g change new.board.table) h.table n.table);
       links = subst (λ (es : List Noted). AreLinks s (j ++ es) new.links.items) (sym a.sends)
           (subst (λ (ls : List Link). AreLinks s after ls) (sym n.are)
           (links_sent s j change.members change.at.items old.links.items n.links a.fits.order a.room n.count n.each h.links));

@@ -1,5 +1,5 @@
 -- A frame to each monitor: one monitor more, and the beginning of a journal.
-use Rattle.std.proofs.Common.{◌≡◌, ℕ, suc, zero, ◌+◌, ℤ, List, [], ◌∷◌, ◌++◌, map, ◌<◌, true, false, Option, None, refl, sym, ap, ◌∙◌, arith, subst}
+use Rattle.std.proofs.Common.{◌≡◌, ℕ, suc, zero, ◌+◌, ℤ, List, [], ◌∷◌, ◌++◌, map, ◌<◌, true, false, Option, None, refl, sym, ap, ◌∙◌, arith}
 use Rattle.std.specs.Prelude.{replicate}
 use Rattle.tk_journal.specs.declared.publication.Publication.{Publication}
 use Rattle.std.specs.List.{range_with_len, enumerate_from, filter_map, cons_option}
@@ -12,7 +12,7 @@ use Rattle.tk_base.specs.Settings.{Setup}
 use Rattle.tk_base.specs.Objects.{objects}
 use Rattle.tk_frames.specs.declared.frame.Frame.{Frame}
 use Rattle.tk_frames.specs.declared.frame.Frame.TheVariants as f
-use Rattle.tk_journal.specs.Legal.{Opening, AreAccepted, IsLegal, inputs_of, opened, played_from, start}
+use Rattle.tk_journal.specs.Legal.{Opening, opened, start}
 use Rattle.tk_journal.specs.declared.noted.Noted.{Noted}
 use Rattle.tk_journal.specs.declared.noted.Noted.TheVariants as n
 use Rattle.tk_coord.specs.Batches.{to_each}
@@ -45,22 +45,6 @@ no_factors members first (suc k) = ap (λ xs. to_one (f.Assign 1 members []) fir
 -- the journal of a start: Assign 1 to each monitor
 pub started : (s : Setup) → to_each (f.Assign 1 (objects s.k) []) s.monitors ≡ opened (start s)
 started s = sym (no_factors (objects s.k) 1 s.monitors)
-
--- ---- a journal that has only begun is legal
-
--- Assigns take nothing in
-nothing_taken : (rows : List (ℕ × List (ℕ × ℤ))) (members : List ℕ) → inputs_of (map (λ p. n.Sent (record { 0 = p.0 }) (f.Assign 1 members p.1)) rows) ≡ []
-nothing_taken [] members = refl
-nothing_taken (p ∷ rows) members = nothing_taken rows members
-
--- a journal that has only begun is legal
-pub opened_legal : (o : Opening) → IsLegal o (opened o)
-opened_legal o =
-    let none : inputs_of (opened o) ≡ [] = nothing_taken (enumerate_from 1 o.factors) o.members in
-    record {
-      played = ap (played_from o.settings (opened o)) (sym none);
-      accepted = subst (AreAccepted o.settings (opened o)) (sym none) tt;
-    }
 
 -- ---- the members that entries name, and whether they end the journal
 

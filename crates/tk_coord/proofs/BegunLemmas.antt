@@ -1,6 +1,6 @@
 -- What is kept of a journal that has only begun.
-use Rattle.std.proofs.Common.{◌≡◌, ℕ, suc, Bool, true, false, ◌+◌, ◌≤◌, ◌<◌, ℤ, List, [], ◌∷◌, ◌++◌, length, map, Option, Some, None, refl, sym, ap, ◌∙◌, subst, arith}
-use Rattle.std.specs.Prelude.{IfOk, Result, slice_get, if◌then◌else◌}
+use Rattle.std.proofs.Common.{◌≡◌, ℕ, suc, Bool, false, ◌+◌, ◌≤◌, ◌<◌, ℤ, List, [], ◌∷◌, length, Option, Some, None, refl, sym, ap, ◌∙◌, subst, arith}
+use Rattle.std.specs.Prelude.{IfOk, Result, slice_get}
 use Rattle.std.specs.List.{All, range_with_len, enumerate_from}
 use Rattle.std.proofs.lemmas.Bool.{true≢false}
 use Rattle.std.proofs.lemmas.List.Elements.{All-cons, All-nil}
@@ -8,35 +8,35 @@ use Rattle.std.proofs.lemmas.Option.{slice_get_within}
 use Rattle.std.proofs.lemmas.Result.{IfOk-weaker}
 use Rattle.tk_base.specs.Objects.{objects}
 use Rattle.tk_base.specs.Settings.{Setup}
-use Rattle.tk_frames.specs.Assigns.{Assign}
 use Rattle.tk_frames.specs.declared.frame.Frame.{Frame}
 use Rattle.tk_frames.specs.declared.frame.Frame.TheVariants as f
-use Rattle.tk_border.specs.Levels.{AreMembers}
 use Rattle.tk_rows.specs.Factors.{Grid}
 use Rattle.tk_journal.specs.Entries.{IsEntryOf}
 use Rattle.tk_journal.specs.Laws.{IsMonitor, IsSetUp}
 use Rattle.tk_journal.specs.Legal.{IsLegal, Opening, opened}
-use Rattle.tk_journal.specs.Readings.{Progress, assigns_sent, tuned_to, in_force, last_round, members_at, progress_of, answer_of, table_at, waits_for, is_calm}
-use Rattle.tk_journal.specs.Turns.{failures_after, rounds, streak, unless_calm}
+use Rattle.tk_journal.specs.Readings.{Progress, assigns_sent, tuned_to, last_round, members_at, progress_of, answer_of, table_at, waits_for}
 use Rattle.tk_base.specs.History.{last_of}
-use Rattle.tk_journal.specs.Walks.{walk}
 use Rattle.tk_journal.specs.declared.noted.Noted.{Noted}
 use Rattle.tk_journal.specs.declared.noted.Noted.TheVariants as n
-use Rattle.tk_journal.proofs.Batches.{named, named_answer, named_assigns, named_members}
-use Rattle.tk_journal.proofs.Counting.{named_count, named_round}
-use Rattle.tk_journal.proofs.Ending.{sent_force, sent_tunings}
+use Rattle.tk_journal.proofs.Batches.{named, named_answer, named_members}
+use Rattle.tk_journal.proofs.Counting.{named_round}
+use Rattle.tk_journal.proofs.Ending.{sent_tunings}
+use Rattle.tk_journal.proofs.HeardLemmas.{first_sent}
 use Rattle.tk_journal.proofs.LegalLemmas.{numbered_factors, opened_closed}
-use Rattle.tk_journal.proofs.Naming.{IsRow, one_row}
+use Rattle.tk_journal.proofs.Naming.{one_row}
 use Rattle.tk_journal.proofs.Pieces.{batch, batch_progress}
 use Rattle.tk_journal.proofs.Reports.{closed_waits}
+use Rattle.tk_journal.proofs.SoundLemmas.{opened_firm}
 use Rattle.tk_journal.proofs.Tables.{rows_count}
+use Rattle.tk_journal.proofs.Tuning.{force_closed}
+use Rattle.tk_journal.proofs.WholeLemmas.{opened_legal}
 use Rattle.tk_coord.specs.Coordinator.{Begins, IsJournal, CoordinatorView}
-use Rattle.tk_coord.specs.State.{Holds, Stands, kind_in, link_at, next_settings, up_to_eight}
+use Rattle.tk_coord.specs.State.{Holds, Stands, kind_in, link_at, next_settings}
 use Rattle.tk_coord.specs.declared.link.Link.{Link}
 use Rattle.tk_coord.specs.declared.round.Round.{Round}
 use Rattle.tk_coord.specs.declared.standing.Standing.{Standing}
 use Rattle.tk_coord.specs.declared.state.State.{State}
-use Rattle.tk_coord.proofs.BatchLemmas.{opened_legal, opened_running}
+use Rattle.tk_coord.proofs.BatchLemmas.{opened_running}
 use Rattle.tk_coord.proofs.BeginLemmas.{Given, changes_in}
 
 -- ---- the readings of a journal that has only begun
@@ -49,13 +49,6 @@ some_named (x ∷ factors) members some = named_members [] (λ (p : Given). p.0)
 -- the members are those that it names
 begun_members : (o : Opening) → IsSetUp o → members_at (opened o) ≡ o.members
 begun_members o set = some_named o.factors o.members (let l = set.factors in let m = set.limits.some_monitor in omega (arith, l, m))
-
--- each monitor was sent one Assign
-begun_sent : (o : Opening) (mon : ℕ) → IsRow (λ (p : Given). p.0) (enumerate_from 1 o.factors) mon → assigns_sent mon (opened o) ≡ 1
-unfolding assigns_sent
-begun_sent o mon one =
-    ap length (named_assigns mon [] (λ (p : Given). p.0) (λ _. 1) o.members changes_in (enumerate_from 1 o.factors))
-    ∙ ap (λ (ps : List Given). length {A = Assign} (map (λ p. record { members = o.members; changes = p.1 }) ps)) one.alone
 
 -- at first nobody told anything
 none_told : (mon : ℕ) → progress_of mon [] ≡ None
@@ -87,7 +80,7 @@ begun_link o mon set m =
     let one = one_row (λ (p : Given). p.0) 1 o.settings.monitors rows mon (numbered_factors 1 o.factors ∙ ap (range_with_len 1) set.factors) m.from_one (omega (arith, high)) in
     let answer : answer_of mon (opened o) ≡ None = named_answer mon [] (λ (p : Given). p.0) (λ _. 1) o.members changes_in rows one.row [] one.alone in
     let progress : progress_of mon (opened o) ≡ None = batch_progress mon [] (λ (p : Given). p.0) (named (λ _. 1) o.members changes_in) rows ∙ none_told mon in
-    let sent = begun_sent o mon one in
+    let sent = first_sent o mon set m in
     let waits = begun_waits o mon m in
     ap (λ (k : ℕ). record { assigns = k; answer = None; progress = None; waits = false }) (sym sent)
     ∙ ap (λ (a : Option Frame). record { assigns = assigns_sent mon (opened o); answer = kind_in a; progress = None; waits = false }) (sym answer)
@@ -104,7 +97,7 @@ pub record IsNew (monitors : ℕ) (state : State) : Type 0 where
   pub reports : length state.gathered.items ≡ monitors
 
 -- what is kept over the first Assigns
-opened_holds : (o : Opening) (state : State) → IsSetUp o → state.members ≡ o.members → state.table ≡ table_at o.settings (opened o)
+opened_holds : (o : Opening) (state : State) → IsSetUp o → state.board.members ≡ o.members → state.board.table ≡ table_at o.settings (opened o)
     → IsNew o.settings.monitors state → Holds o.settings (opened o) state
 opened_holds o state set members table new =
     let s = o.settings in
@@ -131,7 +124,7 @@ opened_holds o state set members table new =
 
 -- what is kept of the frames at the beginning
 pub begun_holds : (s : Setup) (members : List ℕ) (table : Grid) (j : List Noted) (state : State) → Begins s members table j
-    → state.members ≡ members → state.table ≡ table → IsNew s.monitors state → Holds s j state
+    → state.board.members ≡ members → state.board.table ≡ table → IsNew s.monitors state → Holds s j state
 begun_holds s members table j state b same_members same_table new =
     let o = b.opening in
     subst (λ (x : Setup). Holds x j state) b.settings
@@ -142,59 +135,27 @@ begun_holds s members table j state b same_members same_table new =
 
 -- ---- what stands
 
--- at first no round is counted
-none_counted : (s : Setup) → rounds s [] ≡ 0
-unfolding rounds
-none_counted s = refl
-
--- at first k and epsilon are those of the settings
-none_tuned : (s : Setup) → in_force s [] ≡ s
-unfolding in_force
-none_tuned s = refl
-
--- the first Assigns leave them in force
-begun_force : (o : Opening) → in_force o.settings (opened o) ≡ o.settings
-unfolding assigns_sent
-begun_force o = sent_force o.settings [] o.members (enumerate_from 1 o.factors) ∙ none_tuned o.settings
-
 -- no retune stands among them
 begun_next : (o : Opening) → next_settings o.settings (opened o) ≡ o.settings
 unfolding assigns_sent
 begun_next o = ap (λ ts. tuned_to o.settings (last_of ts)) (sent_tunings [] o.members (enumerate_from 1 o.factors))
 
--- Assigns are no short test that failed
-none_failed : (s : Setup) (front : List Noted) (members : List ℕ) (rows : List Given) → walk (failures_after s) front 0 (batch (λ (p : Given). p.0) (named (λ _. 1) members changes_in) rows) ≡ 0
-none_failed s front members [] = refl
-none_failed s front members (p ∷ rows) = none_failed s (front ++ n.Sent (record { 0 = p.0 }) (f.Assign 1 members p.1) ∷ []) members rows
-
--- both ways lead to the same
-either_same : (b : Bool) (k : ℕ) → (if b then k else k) ≡ k
-either_same true k = refl
-either_same false k = refl
-
--- so there is no streak
-begun_streak : (o : Opening) → streak o.settings (opened o) ≡ 0
-unfolding streak
-begun_streak o = ap (unless_calm o.settings (opened o)) (none_failed o.settings [] o.members (enumerate_from 1 o.factors)) ∙ either_same (is_calm o.settings (opened o)) 0
-
 -- what stands over the first Assigns
-opened_stands : (o : Opening) → Stands o.settings (opened o) (record { settings = o.settings; next = o.settings; rounds = 0; streak = 0; stopped = false })
-opened_stands o = record {
-  settings = sym (begun_force o);
+opened_stands : (o : Opening) → IsSetUp o → Stands o.settings (opened o) (record { settings = o.settings; next = o.settings; stopped = false })
+opened_stands o set = record {
+  settings = sym (force_closed o.settings (opened o) (opened_closed o) (opened_firm o set).tuned ∙ begun_next o);
   next = sym (begun_next o);
-  rounds = sym (named_count o.settings [] (λ (p : Given). p.0) (λ _. 1) o.members changes_in (enumerate_from 1 o.factors) ∙ none_counted o.settings);
-  streak = sym (ap up_to_eight (begun_streak o));
   stopped = sym (opened_running o);
 }
 
 -- what stands at the beginning
 pub begun_stands : (s : Setup) (members : List ℕ) (table : Grid) (j : List Noted) (standing : Standing) → Begins s members table j
-    → standing ≡ record { settings = s; next = s; rounds = 0; streak = 0; stopped = false } → Stands s j standing
+    → standing ≡ record { settings = s; next = s; stopped = false } → Stands s j standing
 begun_stands s members table j standing b is =
     let o = b.opening in
     subst (Stands s j) (sym is)
-    (subst (λ (x : Setup). Stands x j (record { settings = x; next = x; rounds = 0; streak = 0; stopped = false })) b.settings
-    (subst (λ (l : List Noted). Stands o.settings l (record { settings = o.settings; next = o.settings; rounds = 0; streak = 0; stopped = false })) (sym b.is) (opened_stands o)))
+    (subst (λ (x : Setup). Stands x j (record { settings = x; next = x; stopped = false })) b.settings
+    (subst (λ (l : List Noted). Stands o.settings l (record { settings = o.settings; next = o.settings; stopped = false })) (sym b.is) (opened_stands o b.set_up)))
 
 -- ---- the entries
 
@@ -231,12 +192,3 @@ begun_so r seen Q is q = IfOk-weaker r (λ x. x ≡ seen) Q (λ x e. subst Q (sy
 -- the table has as many objects as the settings
 pub begun_rows : (s : Setup) (members : List ℕ) (table : Grid) (j : List Noted) → Begins s members table j → length table.rows ≡ s.objects
 begun_rows s members table j b = ap (λ (g : Grid). length g.rows) b.dealt ∙ rows_count s j
-
--- the members are some of them
-pub begun_chosen : (s : Setup) (members : List ℕ) (table : Grid) (j : List Noted) → Begins s members table j → AreMembers s.objects members
-begun_chosen s members table j b =
-    let set = b.set_up in
-    let some = set.limits.some_member in
-    let count = set.count in
-    subst (λ (x : Setup). AreMembers x.objects members) b.settings
-    (subst (λ (ms : List ℕ). AreMembers b.opening.settings.objects ms) (sym b.named) (record { some_member = omega (arith, some, count); in_range = set.within }))

@@ -8,7 +8,7 @@ use Rattle.tk_frames.specs.declared.frame.Frame.{Frame}
 use Rattle.tk_frames.specs.declared.frame.Frame.TheVariants as f
 use Rattle.tk_rows.specs.Factors.{Grid}
 use Rattle.tk_alloc.specs.declared.reported.Reported.{Reported}
-use Rattle.tk_journal.specs.Deciding.{Decided, full_decides, is_within_limit, passes_short_test, reports_at, short_decides, wide_decides}
+use Rattle.tk_journal.specs.Deciding.{Decided, full_decides, is_within_limit, reports_at, short_decides, wide_decides}
 use Rattle.tk_journal.specs.Kinds.{opens_wide, report_widens, values_widen}
 use Rattle.tk_journal.specs.Readings.{assigns_sent, is_open}
 use Rattle.tk_journal.specs.Refusal.{refusal_of}
@@ -17,19 +17,17 @@ use Rattle.tk_journal.specs.declared.noted.Noted.{Noted}
 use Rattle.tk_journal.specs.declared.turn.Turn.{Turn}
 use Rattle.tk_journal.specs.declared.turn.TurnKind.{TurnKind}
 use Rattle.tk_journal.specs.declared.turn.TurnKind.TheVariants.{Stale, Note, Short, Wide, Full, End}
-use Rattle.tk_coord.specs.Dealing.{Ends, IsAssigned, OpensOrEnds, OpensWide}
+use Rattle.tk_coord.specs.Dealing.{Ends, IsAssigned, OpensOrEnds, OpensWide, closed}
+use Rattle.tk_coord.specs.Grounds.{IsAnswered, IsGrounded}
 use Rattle.tk_coord.specs.Steps.{IsCounted, asks_wide, quiet_turn, report_frame}
-use Rattle.tk_coord.specs.State.{IsRound}
 use Rattle.tk_coord.specs.declared.link.Link.{Link}
-use Rattle.tk_coord.specs.declared.round.Round.{Round}
+use Rattle.tk_coord.specs.declared.outcomes.Grounds.{Grounds}
 use Rattle.tk_coord.specs.declared.standing.Standing.{Standing}
 use Rattle.tk_coord.specs.declared.step.Outcome.{Outcome}
-use Rattle.tk_coord.proofs.GroundLemmas.{IsGrounded, force_large}
-use Rattle.tk_coord.proofs.ReportTurns.{IsAnswered, failed_once, late_never, same_full, same_short, same_test}
-use Rattle.tk_coord.proofs.StandRounds.{report_kind}
-use Rattle.tk_coord.proofs.StandTurns.{fails_fresh, few_tests}
-use Rattle.tk_coord.proofs.StandValues.{with_values}
-use Rattle.tk_coord.proofs.ValuesTurns.{AreLast, decided_over, fields_after, kept_wide}
+use Rattle.tk_coord.proofs.DemandLemmas.{fails_fresh, report_kind, with_values}
+use Rattle.tk_coord.proofs.GroundLemmas.{force_large}
+use Rattle.tk_coord.proofs.ReportTurns.{late_never, same_full, same_short}
+use Rattle.tk_coord.proofs.ValuesTurns.{AreLast, Values, frame_of, full_same, heard}
 
 -- ---- by the kind
 
@@ -101,108 +99,85 @@ end_counts s j mon number seq border values wide closed is =
 -- ---- a fresh Report that finds no round open
 
 -- the end of a round opens a wide one where a factor would be past its limit
-ends_wide : (grid : Grid) (links : List Link) (standing : Standing) (decided : Decided) (outcome : Outcome) (within : Bool) → is_within_limit decided ≡ within → Ends grid links standing decided outcome
-    → asks_wide outcome.reply ≡ not within
-ends_wide grid links standing decided outcome true fits ends = ap asks_wide (ends.within fits).reply
-ends_wide grid links standing decided outcome false fits ends = ap asks_wide (ends.past fits).reply
+ends_wide : (grid : Grid) (links : List Link) (standing : Standing) (rounds : ℕ) (decided : Decided) (outcome : Outcome) (within : Bool) → is_within_limit decided ≡ within
+    → Ends grid links standing rounds decided outcome → asks_wide outcome.reply ≡ not within
+ends_wide grid links standing rounds decided outcome true fits ends = ap asks_wide (ends.within fits).reply
+ends_wide grid links standing rounds decided outcome false fits ends = ap asks_wide (ends.past fits).reply
 
 -- it fails the short test where it does not pass it
-fails_by : (s : Setup) (j : List Noted) (report : Reported) (failed : List ℕ) (passes : Bool) → IsAnswered s j report failed → passes_at s j report ≡ passes
-    → fails_at s j report.mon.0 (report_frame j report failed) ≡ not passes
-fails_by s j report failed passes a passed =
-    fails_fresh s j report.mon (assigns_sent report.mon.0 j) report.border failed report.values a.taken (late_never (assigns_sent report.mon.0 j))
+fails_by : (s : Setup) (j : List Noted) (report : Reported) (frame : Frame) (passes : Bool) → (a : IsAnswered s j frame report) → passes_at s j report ≡ passes
+    → fails_at s j report.mon.0 (report_frame j report a.failed) ≡ not passes
+fails_by s j report frame passes a passed =
+    fails_fresh s j report.mon (assigns_sent report.mon.0 j) report.border a.failed report.values a.taken (late_never (assigns_sent report.mon.0 j))
     ∙ ap (λ b. not b && not (passes_at s j report)) a.closed ∙ ap not passed
 
 -- how it counts, by its kind
-answered_counts : (s : Setup) (j : List Noted) (report : Reported) (failed : List ℕ) (passes within few wide : Bool) (kind : TurnKind) → IsAnswered s j report failed → passes_at s j report ≡ passes
+answered_counts : (s : Setup) (j : List Noted) (report : Reported) (frame : Frame) (passes within few wide : Bool) (kind : TurnKind) → (a : IsAnswered s j frame report) → passes_at s j report ≡ passes
     → is_within_limit (short_at s j report) ≡ within → nat_lt (streak s j) 8 ≡ few → (if passes then (if within then Short else Wide) else (if few then Full else Wide)) ≡ kind
-    → wide ≡ report_widens s j report kind → IsCounted s j report.mon.0 (report_frame j report failed) kind (not passes) wide
-answered_counts s j report failed passes within few wide kind a passed fits left is widens =
+    → wide ≡ report_widens s j report kind → IsCounted s j report.mon.0 (report_frame j report a.failed) kind (not passes) wide
+answered_counts s j report frame passes within few wide kind a passed fits left is widens =
     let seq = assigns_sent report.mon.0 j in
-    let same = report_kind s j report.mon.0 seq report.border failed report.values passes within few (late_never seq) a.closed passed fits left ∙ is in
+    let same = report_kind s j report.mon.0 seq report.border a.failed report.values passes within few (late_never seq) a.closed passed fits left ∙ is in
     record {
       kind_is = sym same;
-      fails_is = sym (fails_by s j report failed passes a passed);
-      wide_is = widens ∙ sym (report_wide s j report.mon.0 seq report.border failed report.values kind same);
+      fails_is = sym (fails_by s j report frame passes a passed);
+      wide_is = widens ∙ sym (report_wide s j report.mon.0 seq report.border a.failed report.values kind same);
     }
 
 -- it passes the short test
-short_counts_as : (s : Setup) (j : List Noted) (report : Reported) (failed : List ℕ) (wide within : Bool) → IsAnswered s j report failed → passes_at s j report ≡ true
-    → is_within_limit (short_at s j report) ≡ within → wide ≡ not within → IsCounted s j report.mon.0 (report_frame j report failed) (if wide then Wide else Short) false wide
-short_counts_as s j report failed true true a passed fits is = absurd (cc)
-short_counts_as s j report failed false true a passed fits is = answered_counts s j report failed true true (nat_lt (streak s j) 8) false Short a passed fits refl refl refl
-short_counts_as s j report failed true false a passed fits is = answered_counts s j report failed true false (nat_lt (streak s j) 8) true Wide a passed fits refl refl refl
-short_counts_as s j report failed false false a passed fits is = absurd (cc)
+short_counts_as : (s : Setup) (j : List Noted) (report : Reported) (frame : Frame) (wide within : Bool) → (a : IsAnswered s j frame report) → passes_at s j report ≡ true
+    → is_within_limit (short_at s j report) ≡ within → wide ≡ not within → IsCounted s j report.mon.0 (report_frame j report a.failed) (if wide then Wide else Short) false wide
+short_counts_as s j report frame true true a passed fits is = absurd (cc)
+short_counts_as s j report frame false true a passed fits is = answered_counts s j report frame true true (nat_lt (streak s j) 8) false Short a passed fits refl refl refl
+short_counts_as s j report frame true false a passed fits is = answered_counts s j report frame true false (nat_lt (streak s j) 8) true Wide a passed fits refl refl refl
+short_counts_as s j report frame false false a passed fits is = absurd (cc)
 
-pub short_counts : (s : Setup) (j : List Noted) (members : List ℕ) (table : Grid) (links : List Link) (standing : Standing) (report : Reported) (failed : List ℕ) (outcome : Outcome)
-    → IsGrounded s j members table links standing
-    → IsAnswered s j report failed → passes_short_test standing.settings table members report ≡ true → Ends table links standing (short_decides standing.settings table members report) outcome
-    → IsCounted s j report.mon.0 (report_frame j report failed) (if asks_wide outcome.reply then Wide else Short) false (asks_wide outcome.reply)
-short_counts s j members table links standing report failed outcome g a passed ends =
-    short_counts_as s j report failed (asks_wide outcome.reply) (is_within_limit (short_at s j report)) a
-    (sym (same_test s j members table standing.settings report g.stands.settings g.dealt g.named) ∙ passed) refl
-    (ends_wide table links standing (short_decides standing.settings table members report) outcome (is_within_limit (short_at s j report))
-    (ap is_within_limit (same_short s j members table standing.settings report g.stands.settings g.dealt g.named)) ends)
+pub short_counts : (s : Setup) (j : List Noted) (g : Grounds) (report : Reported) (frame : Frame) (outcome : Outcome) → IsGrounded s j g → (a : IsAnswered s j frame report) → passes_at s j report ≡ true
+    → Ends g.board.now.table g.links.now g.standing g.rounds (short_decides g.standing.settings g.board.now.table g.board.now.members report) outcome
+    → IsCounted s j report.mon.0 (report_frame j report a.failed) (if asks_wide outcome.reply then Wide else Short) false (asks_wide outcome.reply)
+short_counts s j g report frame outcome h a passed ends =
+    short_counts_as s j report frame (asks_wide outcome.reply) (is_within_limit (short_at s j report)) a passed refl
+    (ends_wide g.board.now.table g.links.now g.standing g.rounds (short_decides g.standing.settings g.board.now.table g.board.now.members report) outcome (is_within_limit (short_at s j report))
+    (ap is_within_limit (same_short s j g report h)) ends)
 
 -- it fails, and eight have failed before
-pub tired_counts : (s : Setup) (j : List Noted) (members : List ℕ) (table : Grid) (links : List Link) (standing : Standing) (report : Reported) (failed : List ℕ) (outcome : Outcome)
-    → IsGrounded s j members table links standing
-    → IsAnswered s j report failed → passes_short_test standing.settings table members report ≡ false → nat_lt standing.streak 8 ≡ false → OpensWide (failed_once standing) outcome
-    → IsCounted s j report.mon.0 (report_frame j report failed) Wide true (asks_wide outcome.reply)
-tired_counts s j members table links standing report failed outcome g a fails many o =
-    answered_counts s j report failed false (is_within_limit (short_at s j report)) false (asks_wide outcome.reply) Wide a
-    (sym (same_test s j members table standing.settings report g.stands.settings g.dealt g.named) ∙ fails) refl (sym (few_tests s j standing g.stands) ∙ many) refl (ap asks_wide o.reply)
+pub tired_counts : (s : Setup) (j : List Noted) (g : Grounds) (report : Reported) (frame : Frame) (outcome : Outcome) → (a : IsAnswered s j frame report) → passes_at s j report ≡ false
+    → nat_lt (streak s j) 8 ≡ false → OpensWide g.standing g.rounds outcome → IsCounted s j report.mon.0 (report_frame j report a.failed) Wide true (asks_wide outcome.reply)
+tired_counts s j g report frame outcome a failed many o =
+    answered_counts s j report frame false (is_within_limit (short_at s j report)) false (asks_wide outcome.reply) Wide a failed refl many refl (ap asks_wide o.reply)
 
 -- it fails, and fewer have failed before: with one monitor its full round ends at once
-full_wide : (s : Setup) (j : List Noted) (members : List ℕ) (table : Grid) (links : List Link) (standing : Standing) (report : Reported) (outcome : Outcome) (one : Bool)
-    → IsGrounded s j members table links standing → s.monitors == 1 ≡ one → OpensOrEnds table links (failed_once standing) members report outcome
+full_wide : (s : Setup) (j : List Noted) (g : Grounds) (report : Reported) (outcome : Outcome) (one : Bool) → IsGrounded s j g → s.monitors == 1 ≡ one
+    → OpensOrEnds g.board.now.table g.links.now g.standing g.rounds g.board.now.members report outcome
     → asks_wide outcome.reply ≡ ((s.monitors == 1) && not (is_within_limit (full_at s j (report ∷ []))))
-full_wide s j members table links standing report outcome true g one o =
-    let large = force_large s j standing.settings g.stands.settings in
-    ends_wide table links (record (failed_once standing) { rounds = standing.rounds + 1 }) (full_decides standing.settings table members (report ∷ [])) outcome (is_within_limit (full_at s j (report ∷ [])))
-    (ap is_within_limit (same_full s j members table standing.settings (report ∷ []) g.stands.settings g.dealt g.named)) (o.alone (ap (λ (k : ℕ). k == 1) large.monitors ∙ one))
+full_wide s j g report outcome true h one o =
+    let large = force_large s j g.standing.settings h.stands.settings in
+    ends_wide g.board.now.table g.links.now g.standing (g.rounds + 1) (full_decides g.standing.settings g.board.now.table g.board.now.members (report ∷ [])) outcome (is_within_limit (full_at s j (report ∷ [])))
+    (ap is_within_limit (same_full s j g (report ∷ []) h)) (o.alone (ap (λ (k : ℕ). k == 1) large.monitors ∙ one))
     ∙ sym (ap (λ b. b && not (is_within_limit (full_at s j (report ∷ [])))) one)
-full_wide s j members table links standing report outcome false g one o =
-    let large = force_large s j standing.settings g.stands.settings in
+full_wide s j g report outcome false h one o =
+    let large = force_large s j g.standing.settings h.stands.settings in
     ap asks_wide (o.others (ap (λ (k : ℕ). k == 1) large.monitors ∙ one)).reply ∙ sym (ap (λ b. b && not (is_within_limit (full_at s j (report ∷ [])))) one)
 
-pub full_counts : (s : Setup) (j : List Noted) (members : List ℕ) (table : Grid) (links : List Link) (standing : Standing) (report : Reported) (failed : List ℕ) (outcome : Outcome)
-    → IsGrounded s j members table links standing
-    → IsAnswered s j report failed → passes_short_test standing.settings table members report ≡ false → nat_lt standing.streak 8 ≡ true
-    → OpensOrEnds table links (failed_once standing) members report outcome
-    → IsCounted s j report.mon.0 (report_frame j report failed) Full true (asks_wide outcome.reply)
-full_counts s j members table links standing report failed outcome g a fails few o =
-    answered_counts s j report failed false (is_within_limit (short_at s j report)) true (asks_wide outcome.reply) Full a
-    (sym (same_test s j members table standing.settings report g.stands.settings g.dealt g.named) ∙ fails) refl (sym (few_tests s j standing g.stands) ∙ few) refl
-    (full_wide s j members table links standing report outcome (s.monitors == 1) g refl o)
+pub full_counts : (s : Setup) (j : List Noted) (g : Grounds) (report : Reported) (frame : Frame) (outcome : Outcome) → IsGrounded s j g → (a : IsAnswered s j frame report) → passes_at s j report ≡ false
+    → nat_lt (streak s j) 8 ≡ true → OpensOrEnds g.board.now.table g.links.now g.standing g.rounds g.board.now.members report outcome
+    → IsCounted s j report.mon.0 (report_frame j report a.failed) Full true (asks_wide outcome.reply)
+full_counts s j g report frame outcome h a failed few o =
+    answered_counts s j report frame false (is_within_limit (short_at s j report)) true (asks_wide outcome.reply) Full a failed refl few refl (full_wide s j g report outcome (s.monitors == 1) h refl o)
 
 -- ---- the end of a round
 
 -- the end of a wide round sends Assigns, and so does that of a full one, or it opens a wide one
-pub round_counts : (s : Setup) (j : List Noted) (table : Grid) (links : List Link) (standing : Standing) (mon : Mon) (number seq : ℕ) (border : ℤ) (values : List (ℕ × ℤ)) (outcome : Outcome) (wide : Bool)
-    (all some : Decided) → is_open s (with_values j mon number seq border values) ≡ false → wide ≡ is_wide s (with_values j mon number seq border values)
-    → some ≡ full_at s (with_values j mon number seq border values) (reports_at s (with_values j mon number seq border values))
-    → (wide ≡ true → IsAssigned table links standing all outcome) → (wide ≡ false → Ends table links standing some outcome)
-    → IsCounted s j mon.0 (f.Values number seq border values) End false (asks_wide outcome.reply)
-round_counts s j table links standing mon number seq border values outcome true all some closed same is wide full =
-    end_counts s j mon number seq border values (asks_wide outcome.reply) closed
-    (ap asks_wide (wide refl).reply
-    ∙ ap (λ b. not b && not (is_within_limit (full_at s (with_values j mon number seq border values) (reports_at s (with_values j mon number seq border values))))) same)
-round_counts s j table links standing mon number seq border values outcome false all some closed same is wide full =
-    let decided = full_at s (with_values j mon number seq border values) (reports_at s (with_values j mon number seq border values)) in
-    end_counts s j mon number seq border values (asks_wide outcome.reply) closed
-    (ends_wide table links standing some outcome (is_within_limit decided) (ap is_within_limit is) (full refl) ∙ ap (λ b. not b && not (is_within_limit decided)) same)
-
--- as the call that ends it tells
-pub end_is_counted : (s : Setup) (j : List Noted) (members : List ℕ) (table : Grid) (links : List Link) (standing : Standing) (round : Round) (gathered reports : List Reported)
-    (mon : Mon) (number seq : ℕ) (border : ℤ) (values : List (ℕ × ℤ)) (outcome : Outcome) → IsRound s j round gathered
-    → AreLast s j members table links standing mon number seq border values reports
-    → (round.wide ≡ true → IsAssigned table links (record standing { settings = standing.next }) (wide_decides standing.next table members reports) outcome)
-    → (round.wide ≡ false → Ends table links (record standing { settings = standing.next }) (full_decides standing.next table members reports) outcome)
-    → IsCounted s j mon.0 (f.Values number seq border values) End false (asks_wide outcome.reply)
-end_is_counted s j members table links standing round gathered reports mon number seq border values outcome kept l all some =
-    let now = with_values j mon number seq border values in
-    round_counts s j table links (record standing { settings = standing.next }) mon number seq border values outcome round.wide (wide_decides standing.next table members reports)
-    (full_decides standing.next table members reports) l.closed (kept_wide s j round gathered mon number seq border values kept l.range l.accepted)
-    (decided_over (λ x g ms. full_decides x g ms reports) s now standing.next table members (fields_after s j members table links standing mon number seq border values reports l)
-    ∙ ap (full_at s now) l.told) all some
+pub end_is_counted : (s : Setup) (j : List Noted) (g : Grounds) (v : Values) (reports : List Reported) (wide : Bool) (outcome : Outcome) → AreLast s j g v reports wide
+    → (wide ≡ true → IsAssigned g.board.now.table g.links.now (closed g.standing) (wide_decides g.standing.next g.board.now.table g.board.now.members reports) outcome)
+    → (wide ≡ false → Ends g.board.now.table g.links.now (closed g.standing) g.rounds (full_decides g.standing.next g.board.now.table g.board.now.members reports) outcome)
+    → IsCounted s j v.mon.0 (frame_of v) End false (asks_wide outcome.reply)
+end_is_counted s j g v reports true outcome l all some =
+    end_counts s j v.mon v.round v.seq v.border v.values (asks_wide outcome.reply) l.closed
+    (ap asks_wide (all refl).reply ∙ ap (λ b. not b && not (is_within_limit (full_at s (heard j v) (reports_at s (heard j v))))) l.wide_is)
+end_is_counted s j g v reports false outcome l all some =
+    let decided = full_at s (heard j v) (reports_at s (heard j v)) in
+    end_counts s j v.mon v.round v.seq v.border v.values (asks_wide outcome.reply) l.closed
+    (ends_wide g.board.now.table g.links.now (closed g.standing) g.rounds (full_decides g.standing.next g.board.now.table g.board.now.members reports) outcome (is_within_limit decided)
+    (ap is_within_limit (full_same s j g v reports false l)) (some refl)
+    ∙ ap (λ b. not b && not (is_within_limit decided)) l.wide_is)

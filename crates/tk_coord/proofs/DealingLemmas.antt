@@ -18,9 +18,11 @@ use Rattle.tk_alloc.specs.Rounds.{IsWideRound, chosen}
 use Rattle.tk_alloc.specs.declared.alloc_fault.AllocFault.{AllocFault}
 use Rattle.tk_alloc.specs.declared.alloc_fault.AllocFault.TheVariants as fault
 use Rattle.tk_alloc.specs.declared.reported.Reported.{Reported}
-use Rattle.tk_alloc.proofs.MemberLemmas.{contained_is_in, is_in_contained, outside_is_not_in}
+use Rattle.tk_alloc.proofs.MemberLemmas.{contained_is_in, is_in_contained}
 use Rattle.tk_journal.specs.Deciding.{Dealt, full_decides, is_within_limit, passes_short_test, short_decides, wide_decides}
+use Rattle.tk_journal.proofs.Ending.{passed}
 use Rattle.tk_journal.proofs.Standing.{all_holds}
+use Rattle.tk_coord.specs.Board.{BoardView}
 use Rattle.tk_coord.specs.Dealing.{IsDealt, IsDecided, dealt_in}
 use Rattle.tk_coord.proofs.ContentLemmas.{bool_same}
 
@@ -105,10 +107,6 @@ wide_dealt s grid present reports r is fits = record { members = is.chosen; deal
 
 -- ---- the short test
 
--- the test of two leeways tells their order
-at_most : (a b : ℤ) → int_le a b ≡ true → a ≤ℤ b
-at_most a b e = omega (arith, ints, e)
-
 -- two leeways in this order pass the test
 test_at_most : (a b : ℤ) → a ≤ℤ b → int_le a b ≡ true
 test_at_most a b le = elim (cases_Bool (int_le a b)) [
@@ -128,18 +126,6 @@ failed_is present report o here =
     let both = and_parts (is_in (objects_of report.values) o) (not (is_in present o)) all in
     (is_in_contained (objects_of report.values) o both.0, λ member. true≢false (sym both.1 ∙ ap not (contained_is_in present o member)))
 
--- a Report that passes the test meets what the short round asks of it
-pub passed : (s : Setup) (grid : Grid) (present : List ℕ) (report : Reported) → passes_short_test s grid present report ≡ true → PassesShortTest s grid present report
-unfolding passes_short_test
-passed s grid present report test t o in' out of =
-    let parts = round_parts s grid present present (objects_of report.values) (report ∷ []) in
-    let failed : Contains (failed_of present report) o = is_in_contained (failed_of present report) o
-    (is_in-filter (λ q. not (is_in present q)) (objects_of report.values) o
-    ∙ ap (λ b. b && not (is_in present o)) (contained_is_in (objects_of report.values) o of)
-    ∙ ap not (outside_is_not_in present o out)) in
-    let for_t = all_holds (λ q. list_all (λ p. int_le (leeway grid parts p) (leeway grid parts q)) (failed_of present report)) present test t in' in
-    at_most (leeway grid parts o) (leeway grid parts t) (all_holds (λ p. int_le (leeway grid parts p) (leeway grid parts t)) (failed_of present report) for_t o failed)
-
 -- the short test tells whether a Report passes it
 pub test_is : (s : Setup) (grid : Grid) (present : List ℕ) (report : Reported) (test : Bool) → IsTrue test ↔ PassesShortTest s grid present report
     → test ≡ passes_short_test s grid present report
@@ -154,3 +140,9 @@ test_is s grid present report test same =
     let of = failed_is present report o here in
     test_at_most (leeway grid parts o) (leeway grid parts t) (passes t o member of.1 of.0))))
     (λ is. same.1 (passed s grid present report is))
+
+-- ---- a board
+
+-- what a board lends of itself is the board
+pub as_board : (b : BoardView) {members : List ℕ} {table : Grid} → members ≡ b.members → table ≡ b.table → record { members = members; table = table } ≡ b
+as_board b {members} {table} named dealt = ap₂ (λ (ms : List ℕ) (g : Grid). record { members = ms; table = g }) named dealt

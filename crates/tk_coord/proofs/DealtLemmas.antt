@@ -30,7 +30,7 @@ use Rattle.tk_journal.specs.Refusal.{refusal_of}
 use Rattle.tk_journal.specs.declared.noted.Noted.{Noted}
 use Rattle.tk_journal.specs.declared.noted.Noted.TheVariants as n
 use Rattle.tk_journal.proofs.Pieces.{got_assigns, got_sent}
-use Rattle.tk_journal.proofs.Batches.{named_members}
+use Rattle.tk_journal.proofs.Ending.{named_after}
 use Rattle.tk_journal.proofs.Same.{table_by}
 use Rattle.tk_journal.proofs.Dealing.{factor_sent, factor_unsent}
 use Rattle.tk_journal.proofs.Orderly.{IsOrderly, Row, sends, assigns_got, full_nodes, wide_nodes}
@@ -157,17 +157,12 @@ sends_is j grid decided r d =
 pub named_within : (s : Setup) (j : List Noted) (r : Reallocation) → IsReplacement (table_at s j) r → All (λ c. (0 < c.mon.0) × (c.mon.0 ≤ s.monitors)) r.at.items
 named_within s j r fits = fits_named (table_at s j) r s.monitors fits (table_size s j)
 
--- Assigns to one monitor or more name the members
-members_after : (j : List Noted) (members : List ℕ) (rows : List Row) → 0 < length rows → members_at (j ++ sends j members rows) ≡ members
-members_after j members [] some = absurd (omega (arith, some))
-members_after j members (d ∷ rows) some = named_members j (λ (e : Row). e.0) (λ e. assigns_sent e.0 j + 1) members (λ e. e.1) d rows
-
 -- the Assigns of what was decided send the reallocation
 pub assigned : (s : Setup) (j : List Noted) (decided : Decided) (r : Reallocation) → IsDecided (table_at s j) decided r → is_open s j ≡ false → All (λ c. assigns_sent c.mon.0 j < 2 ^ 64 - 1) r.at.items
     → 0 < length (drop 1 decided.dealt) → AreBalanced (table_at s (j ++ assigns j decided)) → AreMembers s.objects (members_at (j ++ assigns j decided)) → AreAssigned s j (assigns j decided) r
 assigned s j decided r d closed room some balanced chosen =
     let same = sends_is j (table_at s j) decided r d in
-    let named : members_at (j ++ assigns j decided) ≡ r.members = members_after j decided.members (drop 1 decided.dealt) some ∙ sym d.members in
+    let named : members_at (j ++ assigns j decided) ≡ r.members = named_after j decided.members (drop 1 decided.dealt) some ∙ sym d.members in
     record {
       sends = same;
       closed = closed;

@@ -1,9 +1,9 @@
 -- The elements of lists, by their places.
-use Rattle.std.proofs.Common.{◌≡◌, ◌≢◌, ◌⊎◌, ℕ, suc, ◌+◌, ◌<◌, List, [], ◌∷◌, ◌++◌, length, get_or, take, Some, set, refl, sym, ap, ◌∙◌, arith, inl, inr, get_or-set_other, get_or-set_same}
+use Rattle.std.proofs.Common.{◌≡◌, ◌≢◌, ◌⊎◌, ℕ, suc, ◌<◌, List, [], ◌∷◌, ◌++◌, length, get_or, Some, set, refl, sym, ap, ◌∙◌, arith, inl, inr, get_or-set_other, get_or-set_same}
 use Rattle.std.specs.Prelude.{slice_get}
 use Rattle.std.proofs.Math.Seq.{get_or-append_seam}
 use Rattle.std.proofs.lemmas.Bool.{cases_eq}
-use Rattle.std.proofs.lemmas.List.{length-append, length-set, get_or_append_left, take_more}
+use Rattle.std.proofs.lemmas.List.{length-append, length-set, get_or_append_left}
 use Rattle.std.proofs.lemmas.Option.{slice_get_within, slice_get-get_or, get_or_from_slice_get}
 
 -- lists of one length that agree at each place are the same
@@ -43,7 +43,3 @@ slice_get-left [] ys i within = absurd (omega arith)
 slice_get-left (x ∷ xs) ys i within =
     slice_get-front (x ∷ xs) ys i (get_or (x ∷ xs) i x) (slice_get-get_or (x ∷ xs) i x within)
     ∙ sym (slice_get-get_or (x ∷ xs) i x within)
-
--- what a front holds at a place within it
-pub take_at_place : {X : Type 0} (xs : List X) (i : ℕ) (x : X) → i < length xs → x ≡ get_or xs i x → take (i + 1) xs ≡ take i xs ++ x ∷ []
-take_at_place {X} xs i x within is = take_more xs i x within ∙ ap (λ (e : X). take i xs ++ e ∷ []) (sym is)

@@ -1,32 +1,28 @@
 -- What the coordinator knows when it takes a frame.
-use Rattle.std.proofs.Common.{◌≡◌, ℕ, List, None, ap, ◌∙◌, subst}
+use Rattle.std.proofs.Common.{◌≡◌, ℕ, List, None, sym, ap, ◌∙◌, subst}
 use Rattle.std.specs.List.{All}
 use Rattle.tk_base.specs.Settings.{Setup}
 use Rattle.tk_base.specs.declared.ids.Mon.{Mon}
 use Rattle.tk_frames.specs.declared.frame.Frame.{Frame}
-use Rattle.tk_rows.specs.Factors.{Grid}
 use Rattle.tk_journal.specs.Entries.{IsEntryOf}
 use Rattle.tk_journal.specs.Laws.{IsMonitor}
+use Rattle.tk_rows.specs.Factors.{Grid}
 use Rattle.tk_journal.specs.Readings.{in_force, members_at, table_at}
 use Rattle.tk_journal.specs.Refusal.{refusal_of}
+use Rattle.tk_journal.specs.Turns.{rounds}
 use Rattle.tk_journal.specs.declared.noted.Noted.{Noted}
 use Rattle.tk_journal.proofs.Accepted.{accepted_kind}
 use Rattle.tk_journal.proofs.Tuning.{force_monitors, force_objects}
 use Rattle.tk_coord.specs.Coordinator.{IsJournal}
-use Rattle.tk_coord.specs.State.{AreLinks, Stands}
-use Rattle.tk_coord.specs.declared.link.Link.{Link}
+use Rattle.tk_coord.specs.Dealing.{OpensWide}
+use Rattle.tk_coord.specs.Grounds.{IsGrounded, OpensOver}
+use Rattle.tk_coord.specs.State.{Stands}
+use Rattle.tk_coord.specs.declared.outcomes.Grounds.{Grounds}
 use Rattle.tk_coord.specs.declared.standing.Standing.{Standing}
+use Rattle.tk_coord.specs.declared.step.Outcome.{Outcome}
 use Rattle.tk_coord.proofs.FollowLemmas.{IsAsLarge}
 use Rattle.tk_coord.proofs.GrowLemmas.{firm_at, limits_at, orderly_at}
 use Rattle.tk_coord.proofs.StandLemmas.{IsTaken}
-
--- the fields that rounds are dealt over are the journal's
-pub record IsGrounded (s : Setup) (j : List Noted) (members : List ℕ) (table : Grid) (links : List Link) (standing : Standing) : Type 0 where
-  pub journal : IsJournal s j
-  pub named : members ≡ members_at j
-  pub dealt : table ≡ table_at s j
-  pub linked : AreLinks s j links
-  pub stands : Stands s j standing
 
 -- a frame that no test refuses is taken
 pub taken_at : (s : Setup) (j : List Noted) (mon : Mon) (frame : Frame) → IsJournal s j → IsMonitor s mon.0 → refusal_of s j mon.0 frame ≡ None → IsTaken s j mon frame
@@ -51,3 +47,36 @@ pub entries_of : (s : Setup) (j : List Noted) (standing : Standing) (entries : L
     → All (IsEntryOf standing.settings.monitors s.objects) entries → All (IsEntryOf s.monitors s.objects) entries
 entries_of s j standing entries h each =
     subst (λ (k : ℕ). All (IsEntryOf k s.objects) entries) (force_large s j standing.settings h.settings).monitors each
+
+-- a wide round that opens by the fields opens over the journal
+pub opened_over : (s : Setup) (j : List Noted) (g : Grounds) (outcome : Outcome) → IsGrounded s j g → OpensWide g.standing g.rounds outcome
+    → All (IsEntryOf g.standing.settings.monitors s.objects) outcome.entries.items → OpensOver s j outcome
+opened_over s j g outcome grounded opens each = record {
+  stands = subst (Stands s j) (sym opens.holds) grounded.stands;
+  opens = subst (λ (x : Standing). OpensWide x (rounds s j) outcome) (sym opens.holds) (subst (λ (k : ℕ). OpensWide g.standing k outcome) grounded.counted opens);
+  range = entries_of s j g.standing outcome.entries.items grounded.stands each;
+}
+
+-- ---- readings over the fields
+
+-- settings, table and members are those over a journal
+pub record AreOf (s : Setup) (now : List Noted) (setup : Setup) (table : Grid) (members : List ℕ) : Type 0 where
+  pub force : setup ≡ in_force s now
+  pub dealt : table ≡ table_at s now
+  pub named : members ≡ members_at now
+
+-- what is read of them is read of the journal
+pub over_fields : {X : Type 0} (F : Setup → Grid → List ℕ → X) (s : Setup) (now : List Noted) (setup : Setup) (table : Grid) (members : List ℕ) → AreOf s now setup table members
+    → F setup table members ≡ F (in_force s now) (table_at s now) (members_at now)
+over_fields F s now setup table members are =
+    ap (λ x. F x table members) are.force ∙ ap (λ g. F (in_force s now) g members) are.dealt ∙ ap (λ ms. F (in_force s now) (table_at s now) ms) are.named
+
+-- what holds over the journal holds of them
+pub holds_over : (P : Setup → Grid → List ℕ → Type 0) (s : Setup) (now : List Noted) (setup : Setup) (table : Grid) (members : List ℕ) → AreOf s now setup table members
+    → P (in_force s now) (table_at s now) (members_at now) → P setup table members
+holds_over P s now setup table members are holds =
+    subst (λ x. P x table members) (sym are.force) (subst (λ g. P (in_force s now) g members) (sym are.dealt) (subst (λ ms. P (in_force s now) (table_at s now) ms) (sym are.named) holds))
+
+-- the fields that rounds are dealt over are so
+pub grounds_are : (s : Setup) (j : List Noted) (g : Grounds) → IsGrounded s j g → AreOf s j g.standing.settings g.board.now.table g.board.now.members
+grounds_are s j g h = record { force = h.stands.settings; dealt = h.dealt; named = h.named }

@@ -1,22 +1,19 @@
 -- What is kept of the monitors, as readings of the journal.
-use Rattle.std.proofs.Common.{◌≡◌, ◌≢◌, ℕ, suc, Bool, true, false, ◌-◌, ◌==◌, List, [], ◌∷◌, ◌++◌, Option, Some, None, refl, sym, ap, ◌∙◌, arith, inl, inr}
-use Rattle.std.specs.Prelude.{ℤ, is_some, slice_get, get_or, if◌then◌else◌}
+use Rattle.std.proofs.Common.{◌≡◌, ◌≢◌, ℕ, suc, Bool, true, false, ◌-◌, List, Option, Some, None, refl, sym, ap, ◌∙◌, arith, inl, inr}
+use Rattle.std.specs.Prelude.{ℤ, slice_get, get_or, if◌then◌else◌}
 use Rattle.std.specs.Option.{option_map}
 use Rattle.std.proofs.lemmas.Bool.{ne_eqb, cases_eq}
 use Rattle.std.proofs.lemmas.Option.{slice_get_within, slice_get-get_or}
 use Rattle.tk_base.specs.Settings.{Setup}
 use Rattle.tk_base.specs.declared.ids.Mon.{Mon}
-use Rattle.tk_frames.specs.Assigns.{assign_in}
 use Rattle.tk_frames.specs.declared.frame.Frame.{Frame}
 use Rattle.tk_frames.specs.declared.frame.Frame.TheVariants as f
 use Rattle.tk_alloc.specs.declared.reported.Reported.{Reported}
-use Rattle.tk_journal.specs.Walks.{walk}
-use Rattle.tk_journal.specs.Readings.{Progress, answer_of, answered, progress_of, told, settled_in, settled_of, assigns_on, last_round, asked_of, waits_for, is_open}
-use Rattle.tk_journal.specs.Links.{Passed, link_of}
-use Rattle.tk_journal.specs.Links.Passed.{Up, Down}
+use Rattle.tk_journal.specs.Readings.{Progress, answer_of, progress_of, settled_in, settled_of, last_round, asked_of, waits_for, is_open}
 use Rattle.tk_journal.specs.Laws.{IsMonitor}
 use Rattle.tk_journal.specs.Refusal.{refusal_of, is_report, waits_at}
 use Rattle.tk_journal.specs.declared.noted.Noted.{Noted}
+use Rattle.tk_journal.proofs.ProgressLemmas.{settled_progress}
 use Rattle.tk_journal.proofs.Turning.{any_range}
 use Rattle.tk_coord.specs.declared.link.Link.{Link}
 use Rattle.tk_coord.specs.declared.round.Round.{Round}
@@ -110,46 +107,17 @@ waits_of s j round gathered mon kept m =
 
 -- ---- what the current answer says, by the last progress
 
--- an answer that is a Settled says the last progress
-abbrev IsSaid : Option Frame → Option Progress → Type 0
-IsSaid answer progress = settled_in answer ≡ settled_as (kind_in answer) progress
-
--- a Report takes its place, or is stale
-said_report : (fresh : Bool) (seq : ℕ) (border : ℤ) (failed : List ℕ) (values : List (ℕ × ℤ)) (answer : Option Frame) (progress : Option Progress) → IsSaid answer progress
-    → IsSaid (if fresh then Some (f.Report seq border failed values) else answer) progress
-said_report true seq border failed values answer progress said = refl
-said_report false seq border failed values answer progress said = said
-
--- a Settled takes its place and is the last progress, or is stale
-said_settled : (fresh : Bool) (seq : ℕ) (last : Bool) (places : List ℕ) (answer : Option Frame) (progress : Option Progress) → IsSaid answer progress
-    → IsSaid (if fresh then Some (f.Settled seq last places) else answer) (if fresh then Some (record { places = places; last = last }) else progress)
-said_settled true seq last places answer progress said = refl
-said_settled false seq last places answer progress said = said
-
--- an Assign clears the answer and leaves the progress
-said_down : (clears : Bool) (answer : Option Frame) (progress : Option Progress) → IsSaid answer progress → IsSaid (if clears then None else answer) progress
-said_down true answer progress said = refl
-said_down false answer progress said = said
-
--- each frame that passes keeps it
-said_step : (before : List Passed) (answer : Option Frame) (progress : Option Progress) (passed : Passed) → IsSaid answer progress
-    → IsSaid (answered before answer passed) (told before progress passed)
-said_step before answer progress (Up (f.Hello run version m)) said = said
-said_step before answer progress (Up (f.Report seq border failed values)) said = said_report (seq == assigns_on before) seq border failed values answer progress said
-said_step before answer progress (Up (f.Collect round asked)) said = said
-said_step before answer progress (Up (f.Values round seq border values)) said = said
-said_step before answer progress (Up (f.Assign seq members changes)) said = said
-said_step before answer progress (Up (f.Settled seq last places)) said = said_settled (seq == assigns_on before) seq last places answer progress said
-said_step before answer progress (Up f.Stop) said = said
-said_step before answer progress (Down frame) said = said_down (is_some (assign_in frame)) answer progress said
-
--- and so do all of a link
-said_from : (before link : List Passed) (answer : Option Frame) (progress : Option Progress) → IsSaid answer progress → IsSaid (walk answered before answer link) (walk told before progress link)
-said_from before [] answer progress said = said
-said_from before (passed ∷ link) answer progress said =
-    said_from (before ++ passed ∷ []) link (answered before answer passed) (told before progress passed) (said_step before answer progress passed said)
+-- by the kinds of frames, an answer that is a Settled says the last progress
+said_by_kind : (answer : Option Frame) (progress : Option Progress) → ((x : Progress) → settled_in answer ≡ Some x → progress ≡ Some x) → settled_in answer ≡ settled_as (kind_in answer) progress
+said_by_kind None progress told = refl
+said_by_kind (Some (f.Hello run version m)) progress told = refl
+said_by_kind (Some (f.Report seq border failed values)) progress told = refl
+said_by_kind (Some (f.Collect round asked)) progress told = refl
+said_by_kind (Some (f.Values round seq border values)) progress told = refl
+said_by_kind (Some (f.Assign seq members changes)) progress told = refl
+said_by_kind (Some (f.Settled seq last places)) progress told = sym (told (record { places = places; last = last }) refl)
+said_by_kind (Some f.Stop) progress told = refl
 
 -- what the current answer of a monitor says is what its link says
 pub says_as : (j : List Noted) (mon : ℕ) → settled_of mon j ≡ settled_by (Some (link_at j mon))
-unfolding answer_of progress_of
-says_as j mon = said_from [] (link_of mon j) None None refl
+says_as j mon = said_by_kind (answer_of mon j) (progress_of mon j) (settled_progress mon j)

@@ -44,9 +44,9 @@ pub decides_same : (grid : Grid) (decided : Decided) (r : Reallocation) → IsDe
 decides_same grid decided r is = λ i. record { members = is.members i; dealt = is.dealt i }
 
 -- where each factor is within its limit, the Assigns are the end
-pub ends_within : (grid : Grid) (links : List Link) (standing : Standing) (decided : Decided) (outcome : Outcome) → is_within_limit decided ≡ true
-    → IsAssigned grid links standing decided outcome → Ends grid links standing decided outcome
-ends_within grid links standing decided outcome within is = record { within = λ _. is; past = λ past. absurd (true≢false (sym within ∙ past)) }
+pub ends_within : (grid : Grid) (links : List Link) (standing : Standing) (rounds : ℕ) (decided : Decided) (outcome : Outcome) → is_within_limit decided ≡ true
+    → IsAssigned grid links standing decided outcome → Ends grid links standing rounds decided outcome
+ends_within grid links standing rounds decided outcome within is = record { within = λ _. is; past = λ past. absurd (true≢false (sym within ∙ past)) }
 
 -- ---- what the end of a round begins with
 

@@ -1,5 +1,5 @@
 -- Lists over the numbers of a range.
-use Rattle.std.proofs.Common.{◌≡◌, ℕ, suc, zero, ◌+◌, ◌≤◌, ◌<◌, ◌&&◌, ◌||◌, Bool, true, false, List, [], ◌∷◌, ◌++◌, map, refl, ap, ◌∙◌, arith, inl, inr}
+use Rattle.std.proofs.Common.{◌≡◌, ℕ, suc, zero, ◌+◌, ◌≤◌, ◌<◌, ◌&&◌, ◌||◌, Bool, false, List, [], ◌∷◌, ◌++◌, map, refl, ap, ◌∙◌, arith, inl, inr}
 use Rattle.std.specs.List.{list_all, list_any, range_with_len}
 use Rattle.std.proofs.lemmas.Bool.{cases_eq}
 use Rattle.std.proofs.lemmas.List.{map-append}
@@ -19,12 +19,6 @@ pub counted_more : {X : Type 0} (f : ℕ → X) (n : ℕ) → map f (range_with_
 counted_more f n = ap (map f) (range_more n) ∙ map-append f (range_with_len 1 n) ((n + 1) ∷ [])
 
 -- ---- tests
-
--- a test that all of a range pass
-pub all_of_range : (p : ℕ → Bool) (a k : ℕ) → ((q : ℕ) → a ≤ q → q < a + k → p q ≡ true) → list_all p (range_with_len a k) ≡ true
-all_of_range p a zero each = refl
-all_of_range p a (suc k) each =
-    ap (λ b. b && list_all p (range_with_len (a + 1) k)) (each a (omega arith) (omega arith)) ∙ all_of_range p (a + 1) k (λ q low high. each q (omega (arith, low)) (omega (arith, high)))
 
 -- a test that one of a range fails
 pub one_fails : (p : ℕ → Bool) (a k q : ℕ) → a ≤ q → q < a + k → p q ≡ false → list_all p (range_with_len a k) ≡ false

@@ -1,33 +1,30 @@
 -- The turn of a retune: which refusal it meets, and what is kept of the journal that it brings about.
-use Rattle.std.proofs.Common.{◌≡◌, ℕ, suc, Bool, true, false, not, ◌+◌, ◌^◌, ◌<◌, ◌||◌, ℤ, pos, List, [], ◌∷◌, ◌++◌, length, Option, Some, None, Ok, Err, refl, sym, ap, ◌∙◌, subst, arith}
-use Rattle.std.specs.Prelude.{nat_le, is_some, if◌then◌else◌}
+use Rattle.std.proofs.Common.{◌≡◌, ℕ, Bool, true, false, not, ◌+◌, ◌^◌, ◌<◌, ◌||◌, ℤ, pos, List, [], ◌∷◌, ◌++◌, Option, Some, None, Ok, Err, refl, sym, ap, ◌∙◌, subst, arith}
+use Rattle.std.specs.Prelude.{nat_le, if◌then◌else◌}
 use Rattle.std.specs.List.{range_with_len}
 use Rattle.std.proofs.lemmas.List.{append_assoc}
 use Rattle.tk_base.specs.Objects.{objects}
 use Rattle.tk_base.specs.Settings.{Setup, is_k}
-use Rattle.tk_frames.specs.declared.frame.Frame.TheVariants as f
-use Rattle.tk_journal.specs.Deciding.{report_of, answered_report}
 use Rattle.tk_journal.specs.Legal.{turn_of}
-use Rattle.tk_journal.specs.Readings.{Tuning, monitors, assigns_sent, answer_of, progress_of, members_at, last_round, asked_of, values_of, waits_for, is_open, is_calm, is_stopped, tunings, tuned_to}
+use Rattle.tk_journal.specs.Readings.{Tuning, monitors, last_round, asked_of, values_of, is_open, is_stopped, tunings, tuned_to}
 use Rattle.tk_journal.specs.Refusal.{retune_refusal_of}
-use Rattle.tk_journal.specs.Turns.{collects, failures_after, rounds, streak, wide_collects}
+use Rattle.tk_journal.specs.Turns.{collects, rounds, wide_collects}
 use Rattle.tk_base.specs.History.{last_of}
-use Rattle.tk_journal.specs.Walks.{walk}
 use Rattle.tk_journal.specs.declared.noted.Noted.{Noted}
 use Rattle.tk_journal.specs.declared.noted.Noted.TheVariants as n
 use Rattle.tk_journal.specs.declared.refusal.RetuneRefusal.{RetuneRefusal}
 use Rattle.tk_journal.specs.declared.refusal.RetuneRefusal.TheVariants as retune
-use Rattle.tk_journal.proofs.Appends.{last_of-append, walk-append, members_at-append, asked_of-append, values_of-append, answer_of-append, progress_of-append, is_stopped-append}
+use Rattle.tk_journal.proofs.Appends.{last_of-append, members_at-append, asked_of-append, values_of-append, answer_of-append, progress_of-append, is_stopped-append}
 use Rattle.tk_journal.proofs.Batches.{collects_round}
-use Rattle.tk_journal.proofs.Counting.{collects_count}
 use Rattle.tk_journal.proofs.LegalLemmas.{orderly_tuned, tuned_assigns, tuned_round, tuned_waits}
+use Rattle.tk_journal.proofs.LawLemmas.{one_less}
 use Rattle.tk_journal.proofs.Orderly.{IsOrderly}
 use Rattle.tk_journal.proofs.Published.{collects_are_wanted, no_stop}
-use Rattle.tk_journal.proofs.Same.{table_by, waits_by}
-use Rattle.tk_journal.proofs.Tuning.{force_closed, force_tuned, tuned_list, wide_by}
+use Rattle.tk_journal.proofs.SoundLemmas.{collects_open}
+use Rattle.tk_journal.proofs.Tuning.{force_closed, force_tuned, tuned_list}
 use Rattle.tk_coord.specs.Coordinator.{IsJournal}
-use Rattle.tk_coord.specs.Dealing.{OpensWide}
-use Rattle.tk_coord.specs.State.{Holds, Stands, kind_in, link_at, up_to_eight}
+use Rattle.tk_coord.specs.Grounds.{OpensOver}
+use Rattle.tk_coord.specs.State.{Holds, Stands}
 use Rattle.tk_coord.specs.Steps.{IsAsked, IsReply, IsRetuned, retuned_to}
 use Rattle.tk_coord.specs.declared.round.Round.{Round}
 use Rattle.tk_coord.specs.declared.standing.Standing.{Standing}
@@ -36,12 +33,10 @@ use Rattle.tk_coord.specs.declared.step.Outcome.{Outcome}
 use Rattle.tk_coord.specs.declared.step.Reply.{Reply}
 use Rattle.tk_coord.specs.declared.step.Reply.TheVariants as reply
 use Rattle.tk_coord.proofs.AskedLemmas.{wide_is_asked}
-use Rattle.tk_coord.proofs.ClosingLemmas.{uncalm_open, wide_opens}
 use Rattle.tk_coord.proofs.FollowLemmas.{wide_over}
 use Rattle.tk_coord.proofs.GroundLemmas.{force_large}
 use Rattle.tk_coord.proofs.GrowLemmas.{firm_at, limits_at, orderly_at}
-use Rattle.tk_coord.proofs.LinkLemmas.{same_link}
-use Rattle.tk_coord.proofs.StandRounds.{first_monitor}
+use Rattle.tk_coord.proofs.KeepLemmas.{ReadsAs, holds_as}
 
 -- ---- the refusals
 
@@ -115,99 +110,39 @@ turn_whole s j k e = tuned_turn s j k e ∙ sym (append_assoc j (n.Tuned k (pos 
 
 -- ---- the readings that a retune leaves as they are
 
--- the members
-tuned_members : (j : List Noted) (k e : ℕ) → members_at (with_tuned j k e) ≡ members_at j
-tuned_members j k e = members_at-append j (n.Tuned k (pos e) ∷ [])
-
--- the current answers
-tuned_answer : (mon : ℕ) (j : List Noted) (k e : ℕ) → answer_of mon (with_tuned j k e) ≡ answer_of mon j
-tuned_answer mon j k e = answer_of-append mon j (n.Tuned k (pos e) ∷ [])
-
--- how far the monitors are
-tuned_progress : (mon : ℕ) (j : List Noted) (k e : ℕ) → progress_of mon (with_tuned j k e) ≡ progress_of mon j
-tuned_progress mon j k e = progress_of-append mon j (n.Tuned k (pos e) ∷ [])
-
--- what is asked
-tuned_asked : (r mon : ℕ) (j : List Noted) (k e : ℕ) → asked_of r mon (with_tuned j k e) ≡ asked_of r mon j
-unfolding asked_of
-tuned_asked r mon j k e = asked_of-append r mon j (n.Tuned k (pos e) ∷ [])
-
--- the Values to a round
-tuned_values : (r mon : ℕ) (j : List Noted) (k e : ℕ) → values_of r mon (with_tuned j k e) ≡ values_of r mon j
-unfolding values_of
-tuned_values r mon j k e = values_of-append r mon j (n.Tuned k (pos e) ∷ [])
-
--- how many Assigns were sent
-tuned_sent : (mon : ℕ) (j : List Noted) (k e : ℕ) → assigns_sent mon (with_tuned j k e) ≡ assigns_sent mon j
-unfolding assigns_sent
-tuned_sent mon j k e = ap length (tuned_assigns mon j k (pos e))
-
--- whom the last round waits for
-tuned_waiting : (mon : ℕ) (j : List Noted) (k e : ℕ) → waits_for (last_round (with_tuned j k e)) mon (with_tuned j k e) ≡ waits_for (last_round j) mon j
-tuned_waiting mon j k e =
-    ap (λ r. waits_for r mon (with_tuned j k e)) (tuned_round j k (pos e))
-    ∙ waits_by j (with_tuned j k e) (λ r q. tuned_asked r q j k e) (λ r q. tuned_values r q j k e) (last_round j) mon
-
--- what is told to it
-tuned_report : (mon : ℕ) (j : List Noted) (k e : ℕ) → report_of mon (with_tuned j k e) ≡ report_of mon j
-unfolding report_of
-tuned_report mon j k e =
-    let b = with_tuned j k e in
-    ap (λ r. if is_some (asked_of r mon b) then values_of r mon b else answered_report mon (answer_of mon b)) (tuned_round j k (pos e))
-    ∙ ap (λ x. if is_some x then values_of (last_round j) mon b else answered_report mon (answer_of mon b)) (tuned_asked (last_round j) mon j k e)
-    ∙ ap (λ y. if is_some (asked_of (last_round j) mon j) then y else answered_report mon (answer_of mon b)) (tuned_values (last_round j) mon j k e)
-    ∙ ap (λ z. if is_some (asked_of (last_round j) mon j) then values_of (last_round j) mon j else answered_report mon z) (tuned_answer mon j k e)
-
--- what it says of one monitor
-tuned_link : (mon : ℕ) (j : List Noted) (k e : ℕ) → link_at (with_tuned j k e) mon ≡ link_at j mon
-tuned_link mon j k e =
-    same_link (link_at (with_tuned j k e) mon) (link_at j mon) (tuned_sent mon j k e)
-    (ap kind_in (tuned_answer mon j k e)) (tuned_progress mon j k e) (tuned_waiting mon j k e)
-
--- ---- what is kept of the frames
-
--- a retune alone changes nothing of what is kept
-holds_tuned : (s : Setup) (j : List Noted) (k e : ℕ) (state : State) → Holds s j state → Holds s (with_tuned j k e) state
-holds_tuned s j k e state h =
-    let same = tuned_waits j k (pos e) s in
-    record {
-      members = h.members ∙ sym (tuned_members j k e);
-      table = h.table ∙ sym (table_by s j (with_tuned j k e) (λ mon. tuned_assigns mon j k (pos e)));
-      links = record { count = h.links.count; each = λ i l is. h.links.each i l is ∙ sym (tuned_link (suc i) j k e) };
-      round = record {
-        number = h.round.number ∙ sym (tuned_round j k (pos e));
-        waiting = h.round.waiting ∙ sym same;
-        wide = λ is. h.round.wide (sym same ∙ is) ∙ sym (wide_by s j (with_tuned j k e) (tuned_round j k (pos e)) (λ r mon. tuned_asked r mon j k e));
-        asked = λ mon m w.
-            ap (λ r. asked_of r mon (with_tuned j k e)) (tuned_round j k (pos e))
-            ∙ tuned_asked (last_round j) mon j k e ∙ h.round.asked mon m (sym (tuned_waiting mon j k e) ∙ w);
-        count = h.round.count;
-        told = λ is i r at w. tuned_report (suc i) j k e ∙ h.round.told (sym same ∙ is) i r at (sym (tuned_waiting (suc i) j k e) ∙ w);
-      };
-    }
+-- all of which something is kept
+tuned_reads : (j : List Noted) (k e : ℕ) → ReadsAs j (with_tuned j k e)
+unfolding asked_of values_of
+tuned_reads j k e = record {
+  assigns = λ mon. tuned_assigns mon j k (pos e);
+  members = members_at-append j (n.Tuned k (pos e) ∷ []);
+  answer = λ mon. answer_of-append mon j (n.Tuned k (pos e) ∷ []);
+  progress = λ mon. progress_of-append mon j (n.Tuned k (pos e) ∷ []);
+  round = tuned_round j k (pos e);
+  asked = λ r mon. asked_of-append r mon j (n.Tuned k (pos e) ∷ []);
+  values = λ r mon. values_of-append r mon j (n.Tuned k (pos e) ∷ []);
+}
 
 -- the number of its round is past all before it
 new_round : (s : Setup) (j : List Noted) (k e : ℕ) → IsOrderly s j → last_round (with_tuned j k e) < rounds s j + 1
 new_round s j k e o = let l = o.counted.last in let t = tuned_round j k (pos e) in omega (arith, l, t)
 
 -- the Collects of its round
-pub tuned_is_asked : (s : Setup) (j : List Noted) (k e : ℕ) (standing : Standing) (next : Setup) (outcome : Outcome) → IsJournal s j
-    → Stands s j standing → IsRetuned s j k e next → OpensWide standing outcome
+pub tuned_is_asked : (s : Setup) (j : List Noted) (k e : ℕ) (next : Setup) (outcome : Outcome) → IsJournal s j → IsRetuned s j k e next → OpensOver s j outcome
     → (outcome.entries.items ≡ wide_collects s (rounds s j + 1)) × IsReply s (with_tuned j k e) outcome.entries.items outcome.reply
-tuned_is_asked s j k e standing next outcome h st r o =
-    let number = standing.rounds + 1 in
+tuned_is_asked s j k e next outcome h r o =
+    let number = rounds s j + 1 in
     let mid = with_tuned j k e in
-    let large = force_large s j standing.settings st.settings in
+    let large = force_large s j outcome.standing.settings o.stands.settings in
     let order = orderly_at s j h in
     let over = orderly_tuned s j k (pos e) order in
-    let new : last_round mid < number = (let a = new_round s j k e order in let b = st.rounds in omega (arith, a, b)) in
     let round : Round = record { number = number; waiting = true; wide = true; asked = objects s.objects } in
     let asked : IsAsked s mid (wide_collects s number) round None =
-    wide_is_asked s mid number (limits_at s j h).some_monitor (tuned_waits j k (pos e) s ∙ r.closed) over.counted new in
-    let sends : outcome.entries.items ≡ wide_collects s number = o.sends ∙ wide_over standing.settings s number large in (
-      sends ∙ ap (λ q. wide_collects s (q + 1)) st.rounds,
+    wide_is_asked s mid number (limits_at s j h).some_monitor (tuned_waits j k (pos e) s ∙ r.closed) over.counted (new_round s j k e order) in
+    let sends : outcome.entries.items ≡ wide_collects s number = o.opens.sends ∙ wide_over outcome.standing.settings s number large in (
+      sends,
       subst (λ (x : Reply). IsReply s mid outcome.entries.items x)
-          (sym (o.reply ∙ ap (λ (q : ℕ). reply.Ask (record { number = number; waiting = true; wide = true; asked = objects q }) None) large.objects))
+          (sym (o.opens.reply ∙ ap (λ (q : ℕ). reply.Ask (record { number = number; waiting = true; wide = true; asked = objects q }) None) large.objects))
           (subst (λ xs. IsAsked s mid xs round None) (sym sends) asked),
     )
 
@@ -216,26 +151,9 @@ pub retuned_holds : (s : Setup) (j entries : List Noted) (k e : ℕ) (old new : 
     → IsReply s (with_tuned j k e) entries r → Holds s j old
     → ((q : Setup) (b sent : List Noted) → IsReply q b sent r → Holds q b old → Holds q (b ++ sent) new) → Holds s (j ++ turn_of s j (n.Tuned k (pos e))) new
 retuned_holds s j entries k e old new r is sent h replies =
-    subst (λ b. Holds s b new) (ap (λ xs. with_tuned j k e ++ xs) is ∙ sym (turn_whole s j k e)) (replies s (with_tuned j k e) entries sent (holds_tuned s j k e old h))
+    subst (λ b. Holds s b new) (ap (λ xs. with_tuned j k e ++ xs) is ∙ sym (turn_whole s j k e)) (replies s (with_tuned j k e) entries sent (holds_as s j (with_tuned j k e) old (tuned_reads j k e) h))
 
 -- ---- what holds until the next turn
-
--- Collects count no failure
-no_failure : (s : Setup) (front : List Noted) (count round : ℕ) (asked mons : List ℕ) → walk (failures_after s) front count (collects round asked mons) ≡ count
-no_failure s front count round asked [] = refl
-no_failure s front count round asked (m ∷ mons) = no_failure s (front ++ n.Sent (record { 0 = m }) (f.Collect round asked) ∷ []) count round asked mons
-
--- the streak stays, for the round that opens leaves it not calm
-tuned_streak : (s : Setup) (j : List Noted) (k e round : ℕ) → is_calm s (with_tuned j k e ++ wide_collects s round) ≡ false
-    → streak s (with_tuned j k e ++ wide_collects s round) ≡ streak s j
-unfolding streak
-tuned_streak s j k e round stirred =
-    let mid = with_tuned j k e in
-    let after = mid ++ wide_collects s round in
-    ap (λ b. if b then 0 else walk (failures_after s) [] 0 after) stirred
-    ∙ walk-append (failures_after s) [] 0 mid (wide_collects s round)
-    ∙ no_failure s mid (walk (failures_after s) [] 0 mid) round (objects s.objects) (monitors s)
-    ∙ walk-append (failures_after s) [] 0 j (n.Tuned k (pos e) ∷ [])
 
 -- no Stop is sent
 tuned_stop : (s : Setup) (j : List Noted) (k e round : ℕ) → is_stopped j ≡ false → is_stopped (with_tuned j k e ++ wide_collects s round) ≡ false
@@ -247,30 +165,27 @@ tuned_stop s j k e round going =
 
 -- what stands after the turn: k and epsilon are in force from the end of its round
 pub retuned_stands : (s : Setup) (j : List Noted) (k e : ℕ) (standing : Standing) (next : Setup) → IsJournal s j → Stands s j standing → IsRetuned s j k e next
-    → Stands s (j ++ turn_of s j (n.Tuned k (pos e))) (record standing { next = next; rounds = standing.rounds + 1 })
+    → Stands s (j ++ turn_of s j (n.Tuned k (pos e))) (record standing { next = next })
 retuned_stands s j k e standing next h st r =
     let round = rounds s j + 1 in
     let mid = with_tuned j k e in
     let all = objects s.objects in
     let after = mid ++ wide_collects s round in
-    let limits = limits_at s j h in
     let tuned = (firm_at s j h).tuned in
-    let first = first_monitor s limits in
+    let first = one_less s.monitors (limits_at s j h).some_monitor in
+    let mons : monitors s ≡ 1 ∷ range_with_len (1 + 1) first.0 = ap (range_with_len 1) first.1 in
     let rest = range_with_len (1 + 1) first.0 in
     let order = orderly_at s j h in
     let over = orderly_tuned s j k (pos e) order in
     let new : last_round j < round = (let l = order.counted.last in omega (arith, l)) in
-    let list = ap (λ xs. tunings (mid ++ collects round all xs)) first.2 ∙ tuned_list s j k (pos e) round all 1 rest tuned in
-    let last : last_round after ≡ round = ap (λ xs. last_round (mid ++ collects round all xs)) first.2 ∙ collects_round mid round all 1 rest in
-    let opened' : is_open s after ≡ true = wide_opens s mid round limits.some_monitor over.counted (new_round s j k e order) in
-    let count : rounds s after ≡ round = ap (λ xs. rounds s (mid ++ collects round all xs)) first.2 ∙ collects_count s mid round all 1 rest in
-    subst (λ b. Stands s b (record standing { next = next; rounds = standing.rounds + 1 })) (sym (turn_whole s j k e)) (record {
+    let list = ap (λ xs. tunings (mid ++ collects round all xs)) mons ∙ tuned_list s j k (pos e) round all 1 rest tuned in
+    let last : last_round after ≡ round = ap (λ xs. last_round (mid ++ collects round all xs)) mons ∙ collects_round mid round all 1 rest in
+    let opened' : is_open s after ≡ true = collects_open s mid round first.0 first.1 over.counted (new_round s j k e order) in
+    subst (λ b. Stands s b (record standing { next = next })) (sym (turn_whole s j k e)) (record {
       settings = st.settings ∙ force_closed s j r.closed tuned ∙ sym (force_tuned s j after k (pos e) round list last new opened' tuned);
       next = r.brings
           ∙ sym (ap (λ (ts : List Tuning). tuned_to s (last_of ts)) list
           ∙ ap (tuned_to s) (last_of-append (tunings j) (record { k = k; epsilon = pos e; round = Some round } ∷ [])));
-      rounds = ap (λ q. q + 1) st.rounds ∙ sym count;
-      streak = st.streak ∙ ap up_to_eight (sym (tuned_streak s j k e round (uncalm_open s after opened')));
       stopped = st.stopped ∙ r.going ∙ sym (tuned_stop s j k e round r.going);
     })
 

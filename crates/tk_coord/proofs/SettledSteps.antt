@@ -1,5 +1,5 @@
 -- What a Settled brings about.
-use Rattle.std.proofs.Common.{◌≡◌, ◌≢◌, ◌⊎◌, ℕ, ◌+◌, ◌-◌, ◌<◌, ◌≤◌, Bool, true, false, List, [], length, Some, None, sym, ap, ◌∙◌, subst, arith}
+use Rattle.std.proofs.Common.{◌≡◌, ◌≢◌, ◌⊎◌, ℕ, ◌+◌, ◌-◌, ◌<◌, Bool, true, false, List, [], length, Some, None, sym, ap, ◌∙◌, subst, arith}
 use Rattle.std.specs.Prelude.{nat_lt, slice_get}
 use Rattle.std.specs.List.{All}
 use Rattle.std.proofs.lemmas.Bool.{ltb-true}
@@ -42,12 +42,12 @@ pub record IsSettledTaken (s : Setup) (j : List Noted) (links : List Link) (mon 
 
 -- what the fields know of it is so of the journal that is seen
 pub settled_taken : (seen now : CoordinatorView) (links kept : List Link) (mon : Mon) (frame : Frame) (seq : ℕ) (last : Bool) (places : List ℕ) → seen ≡ now → IsJournal seen.settings seen.journal
-    → links ≡ kept → AreLinks seen.settings seen.journal kept → 0 < mon.0 → mon.0 ≤ now.settings.monitors → frame ≡ f.Settled seq last places
+    → links ≡ kept → AreLinks seen.settings seen.journal kept → IsMonitor now.settings mon.0 → frame ≡ f.Settled seq last places
     → refusal_of now.settings now.journal mon.0 frame ≡ None → IsSettledTaken now.settings now.journal links mon frame seq last places
-settled_taken seen now links kept mon frame seq last places same journal is_kept linked some within is accepted = record {
+settled_taken seen now links kept mon frame seq last places same journal is_kept linked range is accepted = record {
   journal = subst (λ (v : CoordinatorView). IsJournal v.settings v.journal) same journal;
   linked = subst (λ (v : CoordinatorView). AreLinks v.settings v.journal links) same (subst (AreLinks seen.settings seen.journal) (sym is_kept) linked);
-  range = record { from_one = some; within = within };
+  range = range;
   is = is;
   accepted = accepted;
 }
@@ -69,7 +69,7 @@ pub stale_step : (s : Setup) (j : List Noted) (links : List Link) (mon : Mon) (f
 stale_step s j links mon frame seq last places step t late tells sends replies stands turn =
     step_of s j mon frame (f.Settled seq last places) step t.is
     (subst (Tells s j mon (f.Settled seq last places)) (sym tells) (settled_stale s j mon seq last places (ltb-true seq (assigns_sent mon.0 j) late)))
-    (stale_settled_follows s j mon seq last places step.outcome t.journal (settled_accepted s j links mon frame seq last places t) late sends replies stands)
+    (stale_settled_follows s j mon seq last places step.outcome t.journal t.range (settled_accepted s j links mon frame seq last places t) late sends replies stands)
     (counts_quiet s j mon.0 (f.Settled seq last places) step.turn Stale turn (stale_settled_counts s j mon.0 seq last places late))
 
 -- what a fresh Settled tells
@@ -89,7 +89,7 @@ pub stirred_step : (s : Setup) (j : List Noted) (links : List Link) (mon : Mon) 
     → IsStep s j mon frame step
 stirred_step s j links mon frame seq last places progress step t late is which tells sends replies stands turn =
     step_of s j mon frame (f.Settled seq last places) step t.is (fresh_told s j links mon frame seq last places progress step t late is tells)
-    (stirred_follows s j links mon seq last places step.outcome t.linked t.range (settled_accepted s j links mon frame seq last places t) which sends replies stands)
+    (stirred_follows s j links mon seq last places step.outcome t.journal t.linked t.range (settled_accepted s j links mon frame seq last places t) which sends replies stands)
     (counts_quiet s j mon.0 (f.Settled seq last places) step.turn Note turn (settled_counts s j mon.0 seq last places late))
 
 -- ---- where all have settled
@@ -115,12 +115,12 @@ pub calm_step : (s : Setup) (j : List Noted) (links : List Link) (mon : Mon) (fr
     → is_open s j ≡ false → HaveOthersSettled links (mon.0 - 1) → Stands s j standing → members ≡ members_at j
     → news ≡ differs (in_force s j) (members_at j) (last_of (publications j)) → number ≡ length (publications j) + 1
     → step.told ≡ told.Settled progress → step.outcome.entries.items ≡ closing_by standing.settings members (said_by links (mon.0 - 1) progress) news number
-    → is_stopped step.outcome.entries.items ≡ ends → step.outcome.reply ≡ reply.Nothing → step.outcome.standing ≡ record standing { streak = 0; stopped = ends }
+    → is_stopped step.outcome.entries.items ≡ ends → step.outcome.reply ≡ reply.Nothing → step.outcome.standing ≡ record standing { stopped = ends }
     → ((n : ℕ) → AreWithin n members → All (IsEntryOf standing.settings.monitors n) step.outcome.entries.items) → step.turn ≡ quiet_turn Note → IsStep s j mon frame step
 calm_step s j links mon frame seq last places progress standing members news number ends step
     t late is closed others stands named newer count tells sends stopped replies holds range turn =
     step_of s j mon frame (f.Settled seq last places) step t.is (fresh_told s j links mon frame seq last places progress step t late is tells)
     (calm_follows_settled s j links mon seq last places progress standing.settings members news number ends standing step.outcome
-    t.linked t.range (settled_accepted s j links mon frame seq last places t) late closed others is stands.settings named newer count stands sends stopped replies holds
+    t.journal t.linked t.range (settled_accepted s j links mon frame seq last places t) late closed others is stands.settings named newer count stands sends stopped replies holds
     (range_of s j standing members step.outcome.entries.items t.journal stands named range))
     (counts_quiet s j mon.0 (f.Settled seq last places) step.turn Note turn (settled_counts s j mon.0 seq last places late))

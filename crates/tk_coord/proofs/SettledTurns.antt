@@ -1,5 +1,5 @@
 -- What follows a Settled, a stale Report, and a Report while a round is open.
-use Rattle.std.proofs.Common.{◌≡◌, ◌≢◌, ◌⊎◌, ℕ, suc, zero, Bool, true, false, not, ◌+◌, ◌-◌, ◌≤◌, ◌<◌, ◌&&◌, ◌||◌, ℤ, List, [], ◌∷◌, ◌++◌, length, map, Option, Some, None, refl, sym, ap, ◌∙◌, subst, arith, inl, inr}
+use Rattle.std.proofs.Common.{◌≡◌, ◌≢◌, ◌⊎◌, ℕ, suc, zero, Bool, true, false, not, ◌+◌, ◌-◌, ◌≤◌, ◌<◌, ◌&&◌, ◌||◌, ℤ, List, [], ◌∷◌, length, map, Option, Some, None, refl, sym, ap, ◌∙◌, subst, arith, inl, inr}
 use Rattle.std.specs.Prelude.{nat_lt, is_some, slice_get, unwrap_or, filter_map, fold, if◌then◌else◌}
 use Rattle.std.specs.List.{All, cons_option, list_all, range_with_len}
 use Rattle.std.proofs.lemmas.Option.{slice_get_within}
@@ -11,11 +11,8 @@ use Rattle.tk_frames.specs.declared.frame.Frame.TheVariants as f
 use Rattle.tk_base.specs.History.{last_of}
 use Rattle.tk_journal.specs.Entries.{IsEntryOf}
 use Rattle.tk_journal.specs.Laws.{IsMonitor}
-use Rattle.tk_journal.specs.Legal.{turn_of}
 use Rattle.tk_journal.specs.Readings.{Progress, assigns_sent, settled_in, settled_of, is_open, is_calm, in_force, members_at, is_stopped}
-use Rattle.tk_journal.specs.Deciding.{is_within_limit}
-use Rattle.tk_journal.specs.Turns.{reported, passes_at, short_at, streak, kind_of, demanded}
-use Rattle.tk_journal.specs.declared.turn.TurnKind.TheVariants.{Stale, Note}
+use Rattle.tk_journal.specs.Turns.{demanded}
 use Rattle.tk_journal.specs.Refusal.{refusal_of, refusal_of_cut, shown_by}
 use Rattle.tk_journal.specs.Publishing.{publications, settled_at, differs, is_due, closing, stops}
 use Rattle.tk_journal.specs.declared.noted.Noted.{Noted}
@@ -23,9 +20,10 @@ use Rattle.tk_journal.specs.declared.noted.Noted.TheVariants as n
 use Rattle.tk_journal.specs.declared.publication.Publication.{Publication}
 use Rattle.tk_journal.proofs.Accepted.{accepted_answer, accepted_kind}
 use Rattle.tk_journal.proofs.Pieces.{got_members}
-use Rattle.tk_journal.proofs.Turning.{kind_by}
 use Rattle.tk_journal.proofs.Firm.{open_force}
 use Rattle.tk_journal.proofs.Published.{none_more}
+use Rattle.tk_journal.proofs.Same.{AreSame, open_same}
+use Rattle.tk_journal.proofs.StandLemmas.{nothing_stays_due}
 use Rattle.tk_journal.proofs.Tuning.{force_monitors}
 use Rattle.tk_coord.specs.declared.link.Link.{Link}
 use Rattle.tk_coord.specs.declared.standing.Standing.{Standing}
@@ -35,70 +33,54 @@ use Rattle.tk_coord.specs.Closing.{settled_by, said_at, said_by, are_last, closi
 use Rattle.tk_coord.specs.Coordinator.{IsJournal}
 use Rattle.tk_coord.specs.State.{AreLinks, Stands, link_at}
 use Rattle.tk_coord.specs.Steps.{Follows, with_got}
-use Rattle.tk_coord.proofs.RangeLemmas.{all_of_range}
-use Rattle.tk_coord.proofs.ClosingLemmas.{nothing_due, open_closing, stale_report_closing, stale_settled_closing, uncalm_closing, uncalm_open, uncalm_unsettled}
+use Rattle.tk_journal.proofs.SoundLemmas.{all_of_range}
+use Rattle.tk_coord.proofs.ClosingLemmas.{closing_unchanged, open_closing, uncalm_closing, uncalm_open, uncalm_unsettled}
+use Rattle.tk_coord.proofs.DemandLemmas.{report_demands_none, settled_demands}
 use Rattle.tk_coord.proofs.FollowLemmas.{calm_follows, quiet_follows}
 use Rattle.tk_coord.proofs.LinkReadings.{link_place, says_as}
-use Rattle.tk_coord.proofs.StandQuiet.{noted_report_stands, noted_settled_stands, stale_report_stands, stale_settled_stands}
-use Rattle.tk_coord.proofs.StandRounds.{report_demanded}
-use Rattle.tk_coord.proofs.StandTurns.{settled_demands, settled_stands}
-use Rattle.tk_coord.proofs.TellLemmas.{answer_other, fresh_answered, open_stays}
+use Rattle.tk_coord.proofs.GroundLemmas.{taken_at}
+use Rattle.tk_coord.proofs.TellLemmas.{answer_other, fresh_answered, open_stays, report_changes_nothing, settled_changes_nothing}
 
 -- ---- stale frames
 
--- a journal over which a frame is taken is not stopped
-going_at : (s : Setup) (j : List Noted) (mon : Mon) (frame : Frame) → refusal_of s j mon.0 frame ≡ None → is_stopped j ≡ false
-going_at s j mon frame none = (accepted_kind s j mon.0 frame none).0
+-- nothing is due over a journal over which a frame is taken
+undue_at : (s : Setup) (j : List Noted) (mon : Mon) (frame : Frame) → IsJournal s j → refusal_of s j mon.0 frame ≡ None → is_due s j ≡ false
+undue_at s j mon frame h none =
+    subst (λ (q : Setup). is_due q j ≡ false) h.settings (nothing_stays_due h.opening j h.set_up h.legal (accepted_kind s j mon.0 frame none).0)
 
--- nothing is due over it
-pub undue_at : (s : Setup) (j : List Noted) (mon : Mon) (frame : Frame) → IsJournal s j → refusal_of s j mon.0 frame ≡ None → is_due s j ≡ false
-undue_at s j mon frame h none = subst (λ (q : Setup). is_due q j ≡ false) h.settings (nothing_due h.opening j h.set_up h.legal (going_at s j mon frame none))
-
--- a Report that opens no round demands nothing, by whether it is stale
-report_demands_none : (s : Setup) (j : List Noted) (mon seq : ℕ) (border : ℤ) (failed : List ℕ) (values : List (ℕ × ℤ)) (late : Bool)
-    → nat_lt seq (assigns_sent mon j) ≡ late → (late ≡ false → is_open s j ≡ true)
-    → demanded s j mon (f.Report seq border failed values) ≡ []
-unfolding kind_of
-report_demands_none s j mon seq border failed values true late opened =
-    let report = reported mon border values in
-    report_demanded s j mon seq border failed values Stale (ap (λ b. kind_by b (is_open s j) (passes_at s j report) (is_within_limit (short_at s j report)) (nat_lt (streak s j) 8)) late)
-report_demands_none s j mon seq border failed values false late opened =
-    let report = reported mon border values in
-    report_demanded s j mon seq border failed values Note
-    (ap (λ b. kind_by b (is_open s j) (passes_at s j report) (is_within_limit (short_at s j report)) (nat_lt (streak s j) 8)) late
-    ∙ ap (λ b. kind_by false b (passes_at s j report) (is_within_limit (short_at s j report)) (nat_lt (streak s j) 8)) (opened refl))
+-- nothing follows a frame that changes no reading and demands nothing
+unchanged_follows : (s : Setup) (j : List Noted) (mon : Mon) (frame : Frame) (outcome : Outcome) → IsJournal s j → IsMonitor s mon.0 → refusal_of s j mon.0 frame ≡ None
+    → AreSame s j (with_got j mon frame) → demanded s j mon.0 frame ≡ [] → outcome.entries.items ≡ [] → outcome.reply ≡ reply.Nothing → Stands s j outcome.standing → Follows s j mon frame outcome
+unchanged_follows s j mon frame outcome h m none same demands =
+    quiet_follows s j mon frame outcome (taken_at s j mon frame h m none) (open_same s j (with_got j mon frame) same) demands (closing_unchanged s j mon frame same (undue_at s j mon frame h none))
 
 -- nothing follows a stale Report
-pub stale_report_follows : (s : Setup) (j : List Noted) (mon : Mon) (seq : ℕ) (border : ℤ) (failed : List ℕ) (values : List (ℕ × ℤ)) (outcome : Outcome) → IsJournal s j
+pub stale_report_follows : (s : Setup) (j : List Noted) (mon : Mon) (seq : ℕ) (border : ℤ) (failed : List ℕ) (values : List (ℕ × ℤ)) (outcome : Outcome) → IsJournal s j → IsMonitor s mon.0
     → refusal_of s j mon.0 (f.Report seq border failed values) ≡ None → nat_lt seq (assigns_sent mon.0 j) ≡ true → outcome.entries.items ≡ [] → outcome.reply ≡ reply.Nothing
     → Stands s j outcome.standing → Follows s j mon (f.Report seq border failed values) outcome
-stale_report_follows s j mon seq border failed values outcome h none late sends replies stands =
-    let frame = f.Report seq border failed values in
-    let end = stale_report_closing s j mon seq border failed values (ltb-true seq (assigns_sent mon.0 j) late) (undue_at s j mon frame h none) in
-    quiet_follows s j mon frame outcome (report_demands_none s j mon.0 seq border failed values true late (λ e. cc)) end sends replies
-    (stale_report_stands s j mon seq border failed values outcome.standing (going_at s j mon frame none) none late end stands)
+stale_report_follows s j mon seq border failed values outcome h m none late =
+    unchanged_follows s j mon (f.Report seq border failed values) outcome h m none
+    (report_changes_nothing s j mon seq border failed values (ltb-true seq (assigns_sent mon.0 j) late)) (report_demands_none s j mon.0 seq border failed values true late (λ e. cc))
 
 -- nothing follows a stale Settled
-pub stale_settled_follows : (s : Setup) (j : List Noted) (mon : Mon) (seq : ℕ) (last : Bool) (places : List ℕ) (outcome : Outcome) → IsJournal s j
+pub stale_settled_follows : (s : Setup) (j : List Noted) (mon : Mon) (seq : ℕ) (last : Bool) (places : List ℕ) (outcome : Outcome) → IsJournal s j → IsMonitor s mon.0
     → refusal_of s j mon.0 (f.Settled seq last places) ≡ None → nat_lt seq (assigns_sent mon.0 j) ≡ true → outcome.entries.items ≡ [] → outcome.reply ≡ reply.Nothing
     → Stands s j outcome.standing → Follows s j mon (f.Settled seq last places) outcome
-stale_settled_follows s j mon seq last places outcome h none late sends replies stands =
-    let frame = f.Settled seq last places in
-    let end = stale_settled_closing s j mon seq last places (ltb-true seq (assigns_sent mon.0 j) late) (undue_at s j mon frame h none) in
-    quiet_follows s j mon frame outcome (settled_demands s j mon.0 seq last places) end sends replies
-    (stale_settled_stands s j mon seq last places outcome.standing (going_at s j mon frame none) none late end stands)
+stale_settled_follows s j mon seq last places outcome h m none late =
+    unchanged_follows s j mon (f.Settled seq last places) outcome h m none
+    (settled_changes_nothing s j mon seq last places (ltb-true seq (assigns_sent mon.0 j) late)) (settled_demands s j mon.0 seq last places)
 
 -- ---- frames that are noted
 
 -- nothing follows a Report while a round is open
-pub noted_report_follows : (s : Setup) (j : List Noted) (mon : Mon) (seq : ℕ) (border : ℤ) (failed : List ℕ) (values : List (ℕ × ℤ)) (outcome : Outcome)
+pub noted_report_follows : (s : Setup) (j : List Noted) (mon : Mon) (seq : ℕ) (border : ℤ) (failed : List ℕ) (values : List (ℕ × ℤ)) (outcome : Outcome) → IsJournal s j → IsMonitor s mon.0
     → refusal_of s j mon.0 (f.Report seq border failed values) ≡ None → nat_lt seq (assigns_sent mon.0 j) ≡ false → is_open s j ≡ true → outcome.entries.items ≡ [] → outcome.reply ≡ reply.Nothing
     → Stands s j outcome.standing → Follows s j mon (f.Report seq border failed values) outcome
-noted_report_follows s j mon seq border failed values outcome none fresh opened sends replies stands =
+noted_report_follows s j mon seq border failed values outcome h m none fresh opened =
     let frame = f.Report seq border failed values in
-    quiet_follows s j mon frame outcome (report_demands_none s j mon.0 seq border failed values false fresh (λ _. opened))
-    (open_closing s (with_got j mon frame) (open_stays s j mon frame (λ r q. refl) ∙ opened)) sends replies
-    (noted_report_stands s j mon seq border failed values outcome.standing (going_at s j mon frame none) none fresh opened stands)
+    let same = open_stays s j mon frame (λ r q. refl) in
+    quiet_follows s j mon frame outcome (taken_at s j mon frame h m none) same (report_demands_none s j mon.0 seq border failed values false fresh (λ _. opened))
+    (open_closing s (with_got j mon frame) (same ∙ opened))
 
 -- what the others say is as before
 others_say : (j : List Noted) (mon : Mon) (frame : Frame) (q : ℕ) → q ≢ mon.0 → settled_of q (with_got j mon frame) ≡ settled_by (Some (link_at j q))
@@ -123,14 +105,13 @@ stirred_by s j links mon seq last places are m (inr other) =
     (others_say j mon frame (suc i) apart ∙ sym (ap (λ (x : Link). settled_by (Some x)) (are.each i l there)) ∙ other.4)
 
 -- nothing follows a Settled after which not all have settled
-pub stirred_follows : (s : Setup) (j : List Noted) (links : List Link) (mon : Mon) (seq : ℕ) (last : Bool) (places : List ℕ) (outcome : Outcome) → AreLinks s j links → IsMonitor s mon.0
+pub stirred_follows : (s : Setup) (j : List Noted) (links : List Link) (mon : Mon) (seq : ℕ) (last : Bool) (places : List ℕ) (outcome : Outcome) → IsJournal s j → AreLinks s j links → IsMonitor s mon.0
     → refusal_of s j mon.0 (f.Settled seq last places) ≡ None → (is_open s j ≡ true) ⊎ ((i : ℕ) × (l : Link) × (i ≢ mon.0 - 1) × (slice_get links i ≡ Some l) × (settled_by (Some l) ≡ None))
     → outcome.entries.items ≡ [] → outcome.reply ≡ reply.Nothing → Stands s j outcome.standing → Follows s j mon (f.Settled seq last places) outcome
-stirred_follows s j links mon seq last places outcome are m none which sends replies stands =
+stirred_follows s j links mon seq last places outcome h are m none which =
     let frame = f.Settled seq last places in
-    let stirred = stirred_by s j links mon seq last places are m which in
-    quiet_follows s j mon frame outcome (settled_demands s j mon.0 seq last places) (uncalm_closing s (with_got j mon frame) stirred) sends replies
-    (noted_settled_stands s j mon seq last places outcome.standing (going_at s j mon frame none) none stirred stands)
+    quiet_follows s j mon frame outcome (taken_at s j mon frame h m none) (open_stays s j mon frame (λ r q. refl)) (settled_demands s j mon.0 seq last places)
+    (uncalm_closing s (with_got j mon frame) (stirred_by s j links mon seq last places are m which))
 
 -- ---- where all have settled
 
@@ -264,26 +245,25 @@ settled_seq s j mon seq last places none late =
 -- the end of a turn in which all have settled follows a Settled
 pub calm_follows_settled : (s : Setup) (j : List Noted) (links : List Link) (mon : Mon) (seq : ℕ) (last : Bool) (places : List ℕ) (progress : Progress)
     (setup : Setup) (members : List ℕ) (news : Bool) (number : ℕ) (ends : Bool) (standing : Standing) (outcome : Outcome)
-    → AreLinks s j links → IsMonitor s mon.0 → refusal_of s j mon.0 (f.Settled seq last places) ≡ None → nat_lt seq (assigns_sent mon.0 j) ≡ false
+    → IsJournal s j → AreLinks s j links → IsMonitor s mon.0 → refusal_of s j mon.0 (f.Settled seq last places) ≡ None → nat_lt seq (assigns_sent mon.0 j) ≡ false
     → is_open s j ≡ false → HaveOthersSettled links (mon.0 - 1) → progress ≡ record { places = places; last = last } → setup ≡ in_force s j → members ≡ members_at j
     → news ≡ differs (in_force s j) (members_at j) (last_of (publications j)) → number ≡ length (publications j) + 1 → Stands s j standing
     → outcome.entries.items ≡ closing_by setup members (said_by links (mon.0 - 1) progress) news number → is_stopped outcome.entries.items ≡ ends → outcome.reply ≡ reply.Nothing
-    → outcome.standing ≡ record standing { streak = 0; stopped = ends } → All (IsEntryOf s.monitors s.objects) outcome.entries.items
+    → outcome.standing ≡ record standing { stopped = ends } → All (IsEntryOf s.monitors s.objects) outcome.entries.items
     → Follows s j mon (f.Settled seq last places) outcome
 calm_follows_settled s j links mon seq last places progress setup members news number ends standing outcome
-    are m none late closed others is force named newer count stands sends stopped replies holds range =
+    h are m none late closed others is force named newer count stands sends stopped replies holds range =
     let frame = f.Settled seq last places in
     let now = with_got j mon frame in
     let said = said_by links (mon.0 - 1) progress in
     let fresh = settled_seq s j mon.0 seq last places none late in
+    let same = open_stays s j mon frame (λ r q. refl) in
     let calm = calm_now s j links mon seq last places are m fresh closed others in
     let end : outcome.entries.items ≡ closing s now =
     sends ∙ closing_fields s j setup members said news number force named newer count
-    ∙ sym (closing_over s j now said calm (open_force s j mon frame (open_stays s j mon frame (λ r q. refl))) (got_members j mon frame) (none_more j (n.Got mon frame ∷ []) refl)
+    ∙ sym (closing_over s j now said calm (open_force s j mon frame same) (got_members j mon frame) (none_more j (n.Got mon frame ∷ []) refl)
     (settled_now s j links mon seq last places progress are m fresh is others)) in
-    calm_follows s j mon frame outcome (settled_demands s j mon.0 seq last places) end replies range
-    (subst (Stands s (j ++ turn_of s j (n.Got mon frame))) (sym holds)
-    (settled_stands s j mon seq last places standing ends (going_at s j mon frame none) none calm (sym stopped ∙ ap is_stopped end) stands))
+    calm_follows s j mon frame standing ends outcome (taken_at s j mon frame h m none) same (settled_demands s j mon.0 seq last places) end replies range stopped holds stands
 
 -- ---- what was published last
 
@@ -296,7 +276,7 @@ last_at start (y ∷ z ∷ xs) zero x count there = absurd (omega (arith, count)
 last_at start (y ∷ z ∷ xs) (suc i) x count there = last_at (Some y) (z ∷ xs) i x (omega (arith, count)) there
 
 -- the publication at the last place is the last
-pub last_published : (j : List Noted) (count : ℕ) (p : Publication) → count ≡ length (publications j) → 0 < count → slice_get (publications j) (count - 1) ≡ Some p → last_of (publications j) ≡ Some p
+last_published : (j : List Noted) (count : ℕ) (p : Publication) → count ≡ length (publications j) → 0 < count → slice_get (publications j) (count - 1) ≡ Some p → last_of (publications j) ≡ Some p
 last_published j count p is some there = last_at None (publications j) (count - 1) p (omega (arith, is, some)) there
 
 -- what differs from the last publication, by its place, is news

@@ -21,6 +21,7 @@ use Rattle.tk_coord.specs.declared.round.Round.{Round}
 use Rattle.tk_coord.specs.declared.state.State.{State}
 use Rattle.tk_coord.specs.declared.step.Told.{Told}
 use Rattle.tk_coord.specs.declared.step.Told.TheVariants as told
+use Rattle.tk_coord.specs.Board.{BoardView}
 use Rattle.tk_coord.specs.State.{link_at, AreLinks, IsRound, Holds}
 use Rattle.tk_coord.specs.Steps.{Tells, told_at, values_in, open_after, with_got}
 use Rattle.tk_coord.proofs.ElementLemmas.{read_set}
@@ -128,8 +129,7 @@ round_got s j mon frame t round gathered v tells some place values h =
 
 -- what a taken frame leaves of the state
 pub record IsTold (mon : Mon) (t : Told) (old new : State) : Type 0 where
-  pub members : new.members ≡ old.members
-  pub table : new.table ≡ old.table
+  pub board : new.board ≡ old.board
   pub link : Link
   pub was : slice_get old.links.items (mon.0 - 1) ≡ Some link
   pub now : Link
@@ -147,8 +147,8 @@ pub holds_got : (s : Setup) (j : List Noted) (mon : Mon) (frame : Frame) (t : To
 holds_got s j mon frame t old new tells some place k h =
     let after = with_got j mon frame in
     record {
-      members = k.members ∙ h.members ∙ sym (got_members j mon frame);
-      table = k.table ∙ h.table ∙ sym (table_by s j after (λ q. got_assigns q j mon frame));
+      members = ap (λ (b : BoardView). b.members) k.board ∙ h.members ∙ sym (got_members j mon frame);
+      table = ap (λ (b : BoardView). b.table) k.board ∙ h.table ∙ sym (table_by s j after (λ q. got_assigns q j mon frame));
       links = subst (λ (ls : List Link). AreLinks s after ls) (sym k.links) (links_got s j mon frame t old.links.items k.link k.now tells some k.was k.tells h.links);
       round = subst (λ (r : Round). IsRound s after r new.gathered.items) (sym k.round)
           (subst (λ (g : List Reported). IsRound s after (record old.round { waiting = open_after t old.round.waiting }) g) (sym k.gathered)

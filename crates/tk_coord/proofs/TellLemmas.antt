@@ -267,6 +267,13 @@ values_done s j mon round seq border values none =
     ∙ ap (λ y. is_some (asked_of (last_round j) mon.0 now) && not (is_some y)) (values_come s j mon round seq border values none)
     ∙ and-false (is_some (asked_of (last_round j) mon.0 now))
 
+-- whose Values are taken was waited for
+pub values_waited : (s : Setup) (j : List Noted) (mon : Mon) (round seq : ℕ) (border : ℤ) (values : List (ℕ × ℤ)) → refusal_of s j mon.0 (f.Values round seq border values) ≡ None
+    → waits_for (last_round j) mon.0 j ≡ true
+values_waited s j mon round seq border values none =
+    let awaited = accepted_values (shown_by mon.0 j) (known_by s mon.0 j) round seq border values (accepted_kind s j mon.0 (f.Values round seq border values) none).1 in
+    (awaited_waits j mon.0 round awaited.awaited).waits
+
 -- whose Values are taken was asked
 asked_there : (s : Setup) (j : List Noted) (mon : Mon) (round seq : ℕ) (border : ℤ) (values : List (ℕ × ℤ)) → refusal_of s j mon.0 (f.Values round seq border values) ≡ None
     → is_some (asked_of (last_round j) mon.0 j) ≡ true

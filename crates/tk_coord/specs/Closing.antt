@@ -9,6 +9,7 @@ use Rattle.tk_journal.specs.declared.noted.Noted.TheVariants as n
 use Rattle.tk_coord.specs.declared.answer.Answer.{Answer}
 use Rattle.tk_coord.specs.declared.answer.Answer.TheVariants as a
 use Rattle.tk_coord.specs.declared.link.Link.{Link}
+use Rattle.tk_coord.specs.declared.publishing.Answers.{Answers}
 
 -- what a monitor's current answer says, if it is a Settled
 abbrev pub settled_as : Option Answer → Option Progress → Option Progress
@@ -27,6 +28,10 @@ said_at links place here mon = if mon == place + 1 then here else unwrap_or (set
 -- what all monitors say
 abbrev pub said_by : List Link → ℕ → Progress → List Progress
 said_by links place here = map (said_at links place here) (range_with_len 1 (length links))
+
+-- what all say, where the code sees the links and what the one says now
+abbrev pub said_in : Answers → List Progress
+said_in answers = said_by answers.links.now answers.place answers.here.now
 
 -- whether all say that their parts are at their ends
 abbrev pub are_last : List Progress → Bool

@@ -1,6 +1,5 @@
--- What contracts see of a coordinator, and what its fields keep.
+-- What contracts see of a coordinator.
 use Rattle.std.specs.Prelude.{ℕ, ◌≤◌, ◌≡◌, ◌⊎◌, List, length, map, Option, Some, None}
-use Rattle.std.specs.Global.{Vec}
 use Rattle.std.specs.List.{All}
 use Rattle.tk_base.specs.Settings.{Setup}
 use Rattle.tk_base.specs.Objects.{objects}
@@ -8,12 +7,9 @@ use Rattle.tk_rows.specs.Factors.{Grid, factor_at}
 use Rattle.tk_alloc.specs.Resolving.{MeetsOwn}
 use Rattle.tk_alloc.specs.Rounds.{IsOfSize}
 use Rattle.tk_journal.specs.declared.noted.Noted.{Noted}
-use Rattle.tk_journal.specs.Entries.{IsEntryOf}
 use Rattle.tk_journal.specs.Laws.{IsSetUp}
 use Rattle.tk_journal.specs.Legal.{Opening, IsLegal, opened}
 use Rattle.tk_journal.specs.Readings.{monitors, table_at}
-use Rattle.tk_journal.specs.Publishing.{published_in}
-use Rattle.tk_coord.specs.Index.{AreIndexed, IsIndex}
 
 -- a coordinator: what it was made with, and its journal
 pub record CoordinatorView : Type 0 where
@@ -55,10 +51,3 @@ pub record Begins (s : Setup) (members : List ℕ) (table : Grid) (j : List Note
   pub is : j ≡ opened opening
   pub named : members ≡ opening.members
   pub dealt : table ≡ table_at s j
-
--- the index leads to what the journal sent and published
-pub record IsNoted (s : Setup) (j : List Noted) (sent : List (Vec ℕ)) (published : List ℕ) : Type 0 where
-  pub list_count : length sent ≡ s.monitors
-  pub entries : All (IsEntryOf s.monitors s.objects) j
-  pub frames : AreIndexed j sent
-  pub sets : IsIndex published_in j published

@@ -121,24 +121,24 @@ pub record IsAssigned (grid : Grid) (links : List Link) (standing : Standing) (d
   pub room : All (λ c. assigns_by links c.mon.0 < 2 ^ 64 - 1) change.at.items
   pub holds : outcome.standing ≡ standing
 
--- the Collects of a wide round
-pub record OpensWide (standing : Standing) (outcome : Outcome) : Type 0 where
-  pub reply : outcome.reply ≡ reply.Ask (record { number = standing.rounds + 1; waiting = true; wide = true; asked = objects standing.settings.objects }) None
-  pub sends : outcome.entries.items ≡ wide_collects standing.settings (standing.rounds + 1)
-  pub holds : outcome.standing ≡ record standing { rounds = standing.rounds + 1 }
+-- the Collects of a wide round, where so many rounds were opened before
+pub record OpensWide (standing : Standing) (rounds : ℕ) (outcome : Outcome) : Type 0 where
+  pub reply : outcome.reply ≡ reply.Ask (record { number = rounds + 1; waiting = true; wide = true; asked = objects standing.settings.objects }) None
+  pub sends : outcome.entries.items ≡ wide_collects standing.settings (rounds + 1)
+  pub holds : outcome.standing ≡ standing
 
 -- the Assigns of what was decided where each factor is within its limit, else a wide round
-pub record Ends (grid : Grid) (links : List Link) (standing : Standing) (decided : Decided) (outcome : Outcome) : Type 0 where
+pub record Ends (grid : Grid) (links : List Link) (standing : Standing) (rounds : ℕ) (decided : Decided) (outcome : Outcome) : Type 0 where
   pub within : is_within_limit decided ≡ true → IsAssigned grid links standing decided outcome
-  pub past : is_within_limit decided ≡ false → OpensWide standing outcome
+  pub past : is_within_limit decided ≡ false → OpensWide standing rounds outcome
 
 -- the Collects of a full round, to every monitor but the reporter
-pub record OpensFull (standing : Standing) (report : Reported) (outcome : Outcome) : Type 0 where
-  pub reply : outcome.reply ≡ reply.Ask (record { number = standing.rounds + 1; waiting = true; wide = false; asked = objects_of report.values }) (Some report)
-  pub sends : outcome.entries.items ≡ collects (standing.rounds + 1) (objects_of report.values) (filter (λ mon. not (mon == report.mon.0)) (monitors standing.settings))
-  pub holds : outcome.standing ≡ record standing { rounds = standing.rounds + 1 }
+pub record OpensFull (standing : Standing) (rounds : ℕ) (report : Reported) (outcome : Outcome) : Type 0 where
+  pub reply : outcome.reply ≡ reply.Ask (record { number = rounds + 1; waiting = true; wide = false; asked = objects_of report.values }) (Some report)
+  pub sends : outcome.entries.items ≡ collects (rounds + 1) (objects_of report.values) (filter (λ mon. not (mon == report.mon.0)) (monitors standing.settings))
+  pub holds : outcome.standing ≡ standing
 
 -- a full round opens, and with one monitor it ends at once
-pub record OpensOrEnds (grid : Grid) (links : List Link) (standing : Standing) (members : List ℕ) (report : Reported) (outcome : Outcome) : Type 0 where
-  pub alone : standing.settings.monitors == 1 ≡ true → Ends grid links (record standing { rounds = standing.rounds + 1 }) (full_decides standing.settings grid members (report ∷ [])) outcome
-  pub others : standing.settings.monitors == 1 ≡ false → OpensFull standing report outcome
+pub record OpensOrEnds (grid : Grid) (links : List Link) (standing : Standing) (rounds : ℕ) (members : List ℕ) (report : Reported) (outcome : Outcome) : Type 0 where
+  pub alone : standing.settings.monitors == 1 ≡ true → Ends grid links standing (rounds + 1) (full_decides standing.settings grid members (report ∷ [])) outcome
+  pub others : standing.settings.monitors == 1 ≡ false → OpensFull standing rounds report outcome

@@ -1,9 +1,9 @@
 -- How the links change at what is sent, and what that needs. No public clause cites this.
-use Rattle.std.specs.Prelude.{ℕ, ◌+◌, ◌-◌, ◌^◌, ◌<◌, ◌≤◌, ◌≡◌, min, Bool, true, false, ◌==◌, if◌then◌else◌, List, length, fold, Option, Some, None, slice_get}
+use Rattle.std.specs.Prelude.{ℕ, ◌+◌, ◌-◌, ◌^◌, ◌<◌, ◌≤◌, ◌≡◌, ◌≢◌, min, Bool, true, false, ◌==◌, if◌then◌else◌, List, length, fold, Option, Some, None, slice_get}
+use Rattle.tk_border.specs.Levels.{AreMembers}
 use Rattle.tk_rows.specs.declared.mon_change.MonChange.{MonChange}
 use Rattle.tk_rows.specs.Replacing.{IsReplacement}
 use Rattle.tk_coord.specs.Checks.{AreNamed}
-use Rattle.tk_coord.specs.Ranking.{CanRank}
 use Rattle.tk_coord.specs.declared.answer.Answer.{Answer}
 use Rattle.tk_coord.specs.declared.answer.Answer.TheVariants as a
 use Rattle.tk_coord.specs.declared.link.Link.{Link}
@@ -23,6 +23,18 @@ one_more link = record link { assigns = min (link.assigns + 1) (2 ^ 64 - 1); ans
 -- the link of a monitor after the Assigns to those with changes
 abbrev pub assigned_at : ℕ → List MonChange → Link → Link
 assigned_at mon changes link = fold (λ l c. if c.mon.0 == mon then one_more l else l) link changes
+
+-- the link of a monitor that was sent one Assign, and nothing else
+abbrev pub first_link : Link
+first_link = record { assigns = 1; answer = None; progress = None; waits = false }
+
+-- all links but the one at this place are such
+abbrev pub AreOthers : (Link → Type 0) → List Link → ℕ → Type 0
+AreOthers P links place = (i : ℕ) (l : Link) → i ≢ place → slice_get links i ≡ Some l → P l
+
+-- one of them is such
+abbrev pub HasOther : (Link → Type 0) → List Link → ℕ → Type 0
+HasOther P links place = (i : ℕ) × (l : Link) × (i ≢ place) × (slice_get links i ≡ Some l) × P l
 
 -- each link has changed, by its place
 abbrev pub AreChanged : (ℕ → Link → Link) → List Link → List Link → Type 0
@@ -49,4 +61,4 @@ abbrev pub CanReply : State → Reply → Type 0
 CanReply state reply.Nothing = Unit {0}
 CanReply state (reply.Ask round None) = Unit {0}
 CanReply state (reply.Ask round (Some report)) = HasPlace state report.mon.0
-CanReply state (reply.Assign r) = IsReplacement state.table r × AreNamed (length state.links.items) r.at.items × CanRank state.ranks state.table r
+CanReply state (reply.Assign r) = IsReplacement state.board.table r × AreNamed (length state.links.items) r.at.items × AreMembers (length state.board.table.rows) r.members

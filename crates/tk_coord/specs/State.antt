@@ -1,5 +1,5 @@
 -- What the coordinator keeps, as readings of its journal. No public clause cites this.
-use Rattle.std.specs.Prelude.{ℕ, suc, ◌≡◌, true, false, nat_lt, if◌then◌else◌, List, length, Option, Some, None, slice_get}
+use Rattle.std.specs.Prelude.{ℕ, suc, ◌≡◌, true, false, List, length, Option, Some, None, slice_get}
 use Rattle.tk_base.specs.Settings.{Setup}
 use Rattle.tk_frames.specs.declared.frame.Frame.{Frame}
 use Rattle.tk_frames.specs.declared.frame.Frame.TheVariants as f
@@ -7,7 +7,7 @@ use Rattle.tk_alloc.specs.declared.reported.Reported.{Reported}
 use Rattle.tk_journal.specs.Readings.{assigns_sent, members_at, table_at, answer_of, progress_of, last_round, asked_of, waits_for, is_open, in_force, is_stopped, tunings, tuned_to}
 use Rattle.tk_journal.specs.Deciding.{report_of}
 use Rattle.tk_journal.specs.Laws.{IsMonitor}
-use Rattle.tk_journal.specs.Turns.{is_wide, rounds, streak}
+use Rattle.tk_journal.specs.Turns.{is_wide}
 use Rattle.tk_base.specs.History.{last_of}
 use Rattle.tk_journal.specs.declared.noted.Noted.{Noted}
 use Rattle.tk_coord.specs.declared.answer.Answer.{Answer}
@@ -48,8 +48,8 @@ pub record IsRound (s : Setup) (j : List Noted) (round : Round) (gathered : List
 
 -- all that is kept of the frames
 pub record Holds (s : Setup) (j : List Noted) (state : State) : Type 0 where
-  pub members : state.members ≡ members_at j
-  pub table : state.table ≡ table_at s j
+  pub members : state.board.members ≡ members_at j
+  pub table : state.board.table ≡ table_at s j
   pub links : AreLinks s j state.links.items
   pub round : IsRound s j state.round state.gathered.items
 
@@ -57,14 +57,8 @@ pub record Holds (s : Setup) (j : List Noted) (state : State) : Type 0 where
 abbrev pub next_settings : Setup → List Noted → Setup
 next_settings s j = tuned_to s (last_of (tunings j))
 
--- a count, up to eight
-abbrev pub up_to_eight : ℕ → ℕ
-up_to_eight n = if nat_lt n 8 then n else 8
-
 -- what holds until the next turn
 pub record Stands (s : Setup) (j : List Noted) (standing : Standing) : Type 0 where
   pub settings : standing.settings ≡ in_force s j
   pub next : standing.next ≡ next_settings s j
-  pub rounds : standing.rounds ≡ rounds s j
-  pub streak : standing.streak ≡ up_to_eight (streak s j)
   pub stopped : standing.stopped ≡ is_stopped j

@@ -16,7 +16,7 @@ use Rattle.tk_journal.specs.Deciding.{report_of, answered_report}
 use Rattle.tk_journal.specs.Laws.{AreRoundsCounted, IsMonitor}
 use Rattle.tk_journal.specs.Legal.{turn_of}
 use Rattle.tk_journal.specs.Publishing.{closing}
-use Rattle.tk_journal.specs.Refusal.{refusal_of, retune_refusal_of}
+use Rattle.tk_journal.specs.Refusal.{retune_refusal_of}
 use Rattle.tk_journal.specs.declared.refusal.RetuneRefusal.{RetuneRefusal}
 use Rattle.tk_journal.specs.declared.refusal.RetuneRefusal.TheVariants as retune
 use Rattle.tk_journal.specs.Kinds.{opens_wide}
@@ -58,11 +58,6 @@ AreValues frame = ⊥
 -- a fresh Report with some failed objects, of what it reports
 abbrev pub report_frame : List Noted → Reported → List ℕ → Frame
 report_frame j report failed = f.Report (assigns_sent report.mon.0 j) report.border failed report.values
-
--- it is one that is not refused
-pub record IsReported (s : Setup) (j : List Noted) (report : Reported) : Type 0 where
-  pub failed : List ℕ
-  pub taken : refusal_of s j report.mon.0 (report_frame j report failed) ≡ None
 
 -- the settings with another k and epsilon, or which of them is past its limit
 abbrev pub retuned_to : Setup → ℕ → ℕ → Result Setup RetuneRefusal

@@ -53,6 +53,7 @@ fn is_in_set(set: &ObjSet, o: Obj) -> bool
     set.has(o)
 }
 
+/// Whether the object is one of all, and no member.
 fn is_outsider(known: Known, o: Obj) -> bool
     ensures { result ≡ (nat_le o.0 (known_in known.entry).objects && not (is_in (known_in known.entry).members o.0)) }
 {
@@ -123,7 +124,7 @@ fn are_all(first: bool, second: bool, third: bool) -> bool
 fn are_over_both(known: Known, failed: &ObjSet, values: &Pairs) -> bool
     requires members { AreWithin (known_in known).objects (known_in known).members }
     requires failed { AreWithin (known_in known).objects failed.now }
-    ensures { result ≡ are_same (objects_of values.now) (resolution (known_in known.entry).objects (known_in known.entry).members failed.now) }
+    ensures { result ≡ are_same (objects_of values.now) (resolution known.entry.objects known.entry.members.now failed.now) }
 {
     let either = are_of_either(values, known.members, failed);
     let members = are_named(values, known.members);
@@ -131,6 +132,7 @@ fn are_over_both(known: Known, failed: &ObjSet, values: &Pairs) -> bool
     are_all(either, members, broken)
 }
 
+/// Whether the value is past the greatest size of a value.
 fn is_great(value: i128) -> bool
     ensures { result ≡ is_too_great value }
 {
@@ -150,6 +152,7 @@ fn too_great(values: &Pairs) -> Option<CoordRefusal>
     None
 }
 
+/// The value of the object, zero where it has none.
 fn value_of(values: &Pairs, o: Obj) -> i128
     requires { AreSmall values.now }
     ensures value { result ≡ value_in values.now o.0 }
@@ -169,6 +172,7 @@ fn level(known: Known, values: &Pairs, o: Obj) -> i128
     value_of(values, o) + known.table.at(known.mon, o)
 }
 
+/// The least of what was seen before and one more number.
 fn lower(least: Option<i128>, number: i128) -> Option<i128>
     ensures { result ≡ lowered least number }
 {
@@ -191,6 +195,7 @@ fn least_member(known: Known, values: &Pairs) -> Option<i128>
     least
 }
 
+/// Whether the number is above the least of what was seen before.
 fn is_above(least: Option<i128>, number: i128) -> bool
     ensures { result ≡ is_above_of least number }
 {
@@ -222,6 +227,7 @@ fn not_broken(
     None
 }
 
+/// A border is at most the least value, and no less than the least border.
 fn border_refusal(border: i128, least: i128) -> Option<CoordRefusal>
     ensures { result ≡ bad_border border least }
 {

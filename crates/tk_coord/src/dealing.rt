@@ -8,10 +8,11 @@ ghost use Rattle.tk_alloc.specs.Rounds.{IsOfSize, AreReports};
 ghost use Rattle.tk_journal.specs.Deciding.{full_decides, passes_short_test, short_decides, wide_decides};
 ghost use Rattle.tk_coord.specs.Dealing.{IsDealt, IsDecided, dealt_in};
 
+use crate::board::Board;
 use std::alloc::Global;
 use tk_alloc::{AllocFault, Reported, full_with_border, short_test, short_with_border, wide};
-use tk_base::{NoMemory, ObjSet, Settings};
-use tk_rows::{Reallocation, Table};
+use tk_base::{NoMemory, Settings};
+use tk_rows::Reallocation;
 
 /// What is dealt at the end of a round.
 #[derive(Drop)]
@@ -21,6 +22,7 @@ pub enum Dealt {
     PastLimit,
 }
 
+/// What was dealt: the settings are within their limits, so only memory can fail.
 fn within(dealt: Result<Reallocation, AllocFault>) -> Result<Dealt, NoMemory>
     ensures { result ≡ dealt_in dealt }
 {
@@ -32,61 +34,72 @@ fn within(dealt: Result<Reallocation, AllocFault>) -> Result<Dealt, NoMemory>
 }
 
 /// The short test of a Report.
-pub fn passes(settings: &Settings, table: &Table, members: &ObjSet, report: &Reported) -> bool
-    requires ready { IsReady settings.now table.now members.now (objects_of report.now.values) }
-    requires report { CanTakePart table.now members.now (objects_of report.now.values) report.now }
-    ensures { result ≡ passes_short_test settings.now table.now members.now report.now }
+pub fn passes(settings: &Settings, board: &Board, report: &Reported) -> bool
+    requires ready { IsReady settings.now board.now.table board.now.members (objects_of report.now.values) }
+    requires report { CanTakePart board.now.table board.now.members (objects_of report.now.values) report.now }
+    ensures { result ≡ passes_short_test settings.now board.now.table board.now.members report.now }
 {
-    short_test(settings, table, members, report)
+    short_test(settings, board.table(), board.members(), report)
 }
 
 /// What a short round with a Report deals, with the coordinator's border.
 pub fn deal_short(
     alloc: Global,
     settings: &Settings,
-    table: &Table,
-    members: &ObjSet,
+    board: &Board,
     report: &Reported,
     border: i128,
 ) -> Result<Dealt, NoMemory>
-    requires ready { IsReady settings.now table.now members.now (objects_of report.now.values) }
-    requires report { CanTakePart table.now members.now (objects_of report.now.values) report.now }
-    requires test { passes_short_test settings.now table.now members.now report.now ≡ true }
-    requires border { border ≡ round_border settings.now table.now members.now (objects_of report.now.values) }
-    ensures { IfOk result (IsDealt table.now (short_decides settings.now table.now members.now report.now)) }
+    requires ready { IsReady settings.now board.now.table board.now.members (objects_of report.now.values) }
+    requires report { CanTakePart board.now.table board.now.members (objects_of report.now.values) report.now }
+    requires test { passes_short_test settings.now board.now.table board.now.members report.now ≡ true }
+    requires border { border ≡ round_border settings.now board.now.table board.now.members (objects_of report.now.values) }
+    ensures { IfOk result (IsDealt board.now.table (short_decides settings.now board.now.table board.now.members report.now)) }
 {
-    within(short_with_border(alloc, settings, table, members, report, border))
+    within(short_with_border(
+        alloc,
+        settings,
+        board.table(),
+        board.members(),
+        report,
+        border,
+    ))
 }
 
 /// What a full round with these reports deals, with the coordinator's border.
 pub fn deal_full(
     alloc: Global,
     settings: &Settings,
-    table: &Table,
-    members: &ObjSet,
+    board: &Board,
     reports: &[Reported],
     border: i128,
 ) -> Result<Dealt, NoMemory>
-    requires ready { IsReady settings.now table.now members.now (objects_over reports.now) }
+    requires ready { IsReady settings.now board.now.table board.now.members (objects_over reports.now) }
     requires reports { AreReports settings.now.monitors (objects_over reports.now) reports.now }
-    requires borders { All (CanTakePart table.now members.now (objects_over reports.now)) reports.now }
-    requires border { border ≡ round_border settings.now table.now members.now (objects_over reports.now) }
-    ensures { IfOk result (IsDealt table.now (full_decides settings.now table.now members.now reports.now)) }
+    requires borders { All (CanTakePart board.now.table board.now.members (objects_over reports.now)) reports.now }
+    requires border { border ≡ round_border settings.now board.now.table board.now.members (objects_over reports.now) }
+    ensures { IfOk result (IsDealt board.now.table (full_decides settings.now board.now.table board.now.members reports.now)) }
 {
-    within(full_with_border(alloc, settings, table, members, reports, border))
+    within(full_with_border(
+        alloc,
+        settings,
+        board.table(),
+        board.members(),
+        reports,
+        border,
+    ))
 }
 
 /// What a wide round with these reports deals.
 pub fn deal_wide(
     alloc: Global,
     settings: &Settings,
-    table: &Table,
-    members: &ObjSet,
+    board: &Board,
     reports: &[Reported],
 ) -> Result<Reallocation, NoMemory>
-    requires size { IsOfSize settings.now table.now }
+    requires size { IsOfSize settings.now board.now.table }
     requires reports { AreReports settings.now.monitors (objects settings.now.objects) reports.now }
-    ensures { IfOk result (IsDecided table.now (wide_decides settings.now table.now members.now reports.now)) }
+    ensures { IfOk result (IsDecided board.now.table (wide_decides settings.now board.now.table board.now.members reports.now)) }
 {
-    wide(alloc, settings, table, members, reports)
+    wide(alloc, settings, board.table(), board.members(), reports)
 }

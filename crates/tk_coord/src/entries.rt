@@ -96,6 +96,7 @@ pub fn objects_of(alloc: Global, values: &Pairs) -> Result<ObjSet, NoMemory>
     }
 }
 
+/// Whether the monitor is the one left out.
 fn is_but(but: Option<Mon>, mon: u32) -> bool
     ensures { result ≡ is_but_of but mon }
 {

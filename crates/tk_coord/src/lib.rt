@@ -6,22 +6,23 @@
 #![tactic(auto)]
 
 mod answer;
+mod board;
 mod checks;
 mod coordinator;
 mod dealing;
 mod entries;
-mod index;
+mod journal;
 mod link;
 mod opening;
 mod outcomes;
 mod publishing;
-mod ranking;
 mod refusals;
 mod reports;
 mod round;
 mod standing;
 mod state;
 mod step;
+mod turns;
 
 pub use coordinator::Coordinator;
 pub use tk_journal::{CoordRefusal, RetuneRefusal, Turn, TurnKind};

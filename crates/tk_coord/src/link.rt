@@ -1,7 +1,7 @@
 ghost use Rattle.std.specs.Prelude.{◌≡◌, ◌≢◌, ℕ, None, Some, slice_get, not, false, true, length, IfOk};
 ghost use Rattle.std.specs.Bool.{OnTrue, OnFalse};
 ghost use Rattle.tk_coord.specs.declared.link.Link.{Link};
-ghost use Rattle.tk_coord.specs.Keeping.{AreChanged, is_but};
+ghost use Rattle.tk_coord.specs.Keeping.{AreChanged, AreOthers, HasOther, first_link, is_but};
 
 use crate::answer::{Answer, Progress};
 use std::alloc::Global;
@@ -23,7 +23,7 @@ pub struct Link {
 /// The links of monitors to each of which one Assign was sent.
 pub fn new_links(alloc: Global, monitors: u32) -> Result<Vec<Link>, NoMemory>
     ensures count { IfOk result (λ links. length links.items ≡ monitors) }
-    ensures each { IfOk result (λ links. (i : ℕ) (l : Link) → slice_get links.items i ≡ Some l → l ≡ record { assigns = 1; answer = None; progress = None; waits = false }) }
+    ensures each { IfOk result (λ links. (i : ℕ) (l : Link) → slice_get links.items i ≡ Some l → l ≡ first_link) }
 {
     let mut links = Vec::with_capacity(alloc, monitors as usize)?;
     for j in 0..monitors {
@@ -49,8 +49,8 @@ pub fn ask(links: &mut [Link], but: Option<usize>)
 
 /// Whether the round waits for no other monitor than the one at this place.
 pub fn waits_for_no_other(links: &[Link], place: usize) -> bool
-    ensures none { OnTrue result ((i : ℕ) (l : Link) → i ≢ place → slice_get links.now i ≡ Some l → l.waits ≡ false) }
-    ensures some { OnFalse result ((i : ℕ) × (l : Link) × (i ≢ place) × (slice_get links.now i ≡ Some l) × (l.waits ≡ true)) }
+    ensures none { OnTrue result (AreOthers (λ l. l.waits ≡ false) links.now place) }
+    ensures some { OnFalse result (HasOther (λ l. l.waits ≡ true) links.now place) }
 {
     for (other, link) in links.iter().enumerate() {
         if other != place && link.waits {

@@ -6,23 +6,21 @@ ghost use Rattle.tk_journal.specs.Deciding.{Decided, full_decides, short_decides
 ghost use Rattle.tk_journal.specs.Entries.{IsEntryOf};
 ghost use Rattle.tk_coord.specs.Checks.{AreNamed};
 ghost use Rattle.tk_coord.specs.Dealing.{AreDealtTo, CanEndFull, CanEndShort, CanEndWide, CanOpenFull, Ends, IsAssigned, IsDealt, IsDecided, OpensOrEnds, OpensWide, closed};
-ghost use Rattle.tk_coord.specs.Ranking.{ranks_of};
 ghost use Rattle.tk_coord.specs.declared.step.Reply.TheVariants.{Nothing as NoReply};
 
+use crate::board::Board;
 use crate::dealing::{Dealt, deal_full, deal_short, deal_wide};
 use crate::entries::{assigns, collects, first_objects, objects_of};
 use crate::link::Link;
-use crate::ranking::border_over;
 use crate::round::Round;
 use crate::standing::Standing;
 use crate::step::{Outcome, Reply};
 use std::alloc::Global;
 use std::slice;
 use tk_alloc::Reported;
-use tk_base::{NoMemory, ObjSet};
+use tk_base::NoMemory;
 use tk_journal::Noted;
-use tk_rank::Rank;
-use tk_rows::{Reallocation, Table};
+use tk_rows::Reallocation;
 
 /// What the end of a round looks at.
 #[derive(Clone, Copy)]
@@ -30,10 +28,9 @@ pub struct Grounds<'a> {
     pub alloc: Global,
     /// With the k and epsilon of the round's end.
     pub standing: Standing,
-    pub members: &'a ObjSet,
-    pub table: &'a Table,
-    /// The own factors of the table, with the members.
-    pub ranks: &'a Rank,
+    /// How many rounds were opened.
+    pub rounds: u64,
+    pub board: &'a Board,
     pub links: &'a [Link],
 }
 
@@ -50,6 +47,7 @@ pub fn nothing(alloc: Global, standing: Standing) -> Outcome
     }
 }
 
+/// The number of the round that is opened next.
 fn next_round(rounds: u64) -> Result<u64, NoMemory>
     ensures { IfOk result (λ n. n ≡ rounds + 1) }
 {
@@ -60,12 +58,12 @@ fn next_round(rounds: u64) -> Result<u64, NoMemory>
 }
 
 /// A wide round opens.
-pub fn open_wide(alloc: Global, standing: Standing) -> Result<Outcome, NoMemory>
-    ensures opens { IfOk result (OpensWide standing) }
+pub fn open_wide(alloc: Global, standing: Standing, rounds: u64) -> Result<Outcome, NoMemory>
+    ensures opens { IfOk result (OpensWide standing rounds) }
     ensures entries { (n : ℕ) → IfOk result (λ o. All (IsEntryOf standing.settings.monitors n) o.entries.items) }
 {
     let settings = standing.settings;
-    let number = next_round(standing.rounds)?;
+    let number = next_round(rounds)?;
     let asked = first_objects(alloc, settings.objects())?;
     let entries = collects(alloc, number, &asked, settings.monitors(), None)?;
     let round = Round {
@@ -80,18 +78,15 @@ pub fn open_wide(alloc: Global, standing: Standing) -> Result<Outcome, NoMemory>
             round,
             opener: None,
         },
-        standing: Standing {
-            rounds: number,
-            ..standing
-        },
+        standing,
     })
 }
 
 /// A full round opens with a Report. With one monitor it ends at once.
 pub fn open_full(grounds: Grounds, report: Reported) -> Result<Outcome, NoMemory>
-    requires can { CanOpenFull grounds.standing.settings grounds.table.now grounds.members.now grounds.links.now report }
-    requires ranks { grounds.ranks.now ≡ ranks_of grounds.table.now grounds.members.now }
-    ensures opens { IfOk result (OpensOrEnds grounds.entry.table.now grounds.entry.links.now grounds.entry.standing grounds.entry.members.now report) }
+    requires { CanOpenFull grounds.standing.settings grounds.board.now.table grounds.board.now.members grounds.links.now report }
+    ensures opens { IfOk result (OpensOrEnds grounds.entry.board.now.table grounds.entry.links.now grounds.entry.standing grounds.entry.rounds
+        grounds.entry.board.now.members report) }
     ensures entries { (n : ℕ) → IfOk result (λ o. All (IsEntryOf grounds.entry.standing.settings.monitors n) o.entries.items) }
 {
     let Grounds {
@@ -100,15 +95,11 @@ pub fn open_full(grounds: Grounds, report: Reported) -> Result<Outcome, NoMemory
         ..
     } = grounds;
     let settings = standing.settings;
-    let number = next_round(standing.rounds)?;
-    let standing = Standing {
-        rounds: number,
-        ..standing
-    };
+    let number = next_round(grounds.rounds)?;
     if settings.monitors() == 1 {
         return end_full(
             Grounds {
-                standing,
+                rounds: number,
                 ..grounds
             },
             slice::from_ref(&report),
@@ -158,26 +149,26 @@ fn ended(
     alloc: Global,
     links: &[Link],
     standing: Standing,
+    rounds: u64,
     dealt: Dealt,
 ) -> Result<Outcome, NoMemory>
     requires count { length links.now ≡ standing.settings.monitors }
     requires named { AreDealtTo standing.settings.monitors dealt }
     ensures ends { (grid : Grid) (decided : Decided) → IsDealt grid decided dealt
-        → IfOk result (Ends grid links.now standing decided) }
+        → IfOk result (Ends grid links.now standing rounds decided) }
     ensures entries { (n : ℕ) → IfOk result (λ o. All (IsEntryOf standing.settings.monitors n) o.entries.items) }
 {
     match dealt {
         Dealt::Factors(reallocation) => assigned(alloc, links, standing, reallocation),
-        Dealt::PastLimit => open_wide(alloc, standing),
+        Dealt::PastLimit => open_wide(alloc, standing, rounds),
     }
 }
 
 /// A short round, with the Report that passed its test.
 pub fn end_short(grounds: Grounds, report: &Reported) -> Result<Outcome, NoMemory>
-    requires can { CanEndShort grounds.standing.settings grounds.table.now grounds.members.now grounds.links.now report.now }
-    requires ranks { grounds.ranks.now ≡ ranks_of grounds.table.now grounds.members.now }
-    ensures ends { IfOk result (Ends grounds.entry.table.now grounds.entry.links.now grounds.entry.standing
-        (short_decides grounds.entry.standing.settings grounds.entry.table.now grounds.entry.members.now report.now)) }
+    requires { CanEndShort grounds.standing.settings grounds.board.now.table grounds.board.now.members grounds.links.now report.now }
+    ensures ends { IfOk result (Ends grounds.entry.board.now.table grounds.entry.links.now grounds.entry.standing grounds.entry.rounds
+        (short_decides grounds.entry.standing.settings grounds.entry.board.now.table grounds.entry.board.now.members report.now)) }
     ensures entries { (n : ℕ) → IfOk result (λ o. All (IsEntryOf grounds.entry.standing.settings.monitors n) o.entries.items) }
 {
     let Grounds {
@@ -186,24 +177,16 @@ pub fn end_short(grounds: Grounds, report: &Reported) -> Result<Outcome, NoMemor
         ..
     } = grounds;
     let settings = standing.settings;
-    let border = border_over(alloc, &settings, grounds.ranks, &report.values)?;
-    let dealt = deal_short(
-        alloc,
-        &settings,
-        grounds.table,
-        grounds.members,
-        report,
-        border,
-    )?;
-    ended(alloc, grounds.links, standing, dealt)
+    let border = grounds.board.border_over(alloc, &settings, &report.values)?;
+    let dealt = deal_short(alloc, &settings, grounds.board, report, border)?;
+    ended(alloc, grounds.links, standing, grounds.rounds, dealt)
 }
 
 /// The end of a full round.
 pub fn end_full(grounds: Grounds, reports: &[Reported]) -> Result<Outcome, NoMemory>
-    requires can { CanEndFull grounds.standing.settings grounds.table.now grounds.members.now grounds.links.now reports.now }
-    requires ranks { grounds.ranks.now ≡ ranks_of grounds.table.now grounds.members.now }
-    ensures ends { IfOk result (Ends grounds.entry.table.now grounds.entry.links.now grounds.entry.standing
-        (full_decides grounds.entry.standing.settings grounds.entry.table.now grounds.entry.members.now reports.now)) }
+    requires { CanEndFull grounds.standing.settings grounds.board.now.table grounds.board.now.members grounds.links.now reports.now }
+    ensures ends { IfOk result (Ends grounds.entry.board.now.table grounds.entry.links.now grounds.entry.standing grounds.entry.rounds
+        (full_decides grounds.entry.standing.settings grounds.entry.board.now.table grounds.entry.board.now.members reports.now)) }
     ensures entries { (n : ℕ) → IfOk result (λ o. All (IsEntryOf grounds.entry.standing.settings.monitors n) o.entries.items) }
 {
     let Grounds {
@@ -214,23 +197,18 @@ pub fn end_full(grounds: Grounds, reports: &[Reported]) -> Result<Outcome, NoMem
     let settings = standing.settings;
     // The number is read for its clause, that there is a monitor.
     let _ = settings.monitors();
-    let border = border_over(alloc, &settings, grounds.ranks, &reports[0].values)?;
-    let dealt = deal_full(
-        alloc,
-        &settings,
-        grounds.table,
-        grounds.members,
-        reports,
-        border,
-    )?;
-    ended(alloc, grounds.links, standing, dealt)
+    let border = grounds
+        .board
+        .border_over(alloc, &settings, &reports[0].values)?;
+    let dealt = deal_full(alloc, &settings, grounds.board, reports, border)?;
+    ended(alloc, grounds.links, standing, grounds.rounds, dealt)
 }
 
 /// The end of a wide round.
 pub fn end_wide(grounds: Grounds, reports: &[Reported]) -> Result<Outcome, NoMemory>
-    requires { CanEndWide grounds.standing.settings grounds.table.now grounds.links.now reports.now }
-    ensures assigns { IfOk result (IsAssigned grounds.entry.table.now grounds.entry.links.now grounds.entry.standing
-        (wide_decides grounds.entry.standing.settings grounds.entry.table.now grounds.entry.members.now reports.now)) }
+    requires { CanEndWide grounds.standing.settings grounds.board.now.table grounds.links.now reports.now }
+    ensures assigns { IfOk result (IsAssigned grounds.entry.board.now.table grounds.entry.links.now grounds.entry.standing
+        (wide_decides grounds.entry.standing.settings grounds.entry.board.now.table grounds.entry.board.now.members reports.now)) }
     ensures entries { (n : ℕ) → IfOk result (λ o. All (IsEntryOf grounds.entry.standing.settings.monitors n) o.entries.items) }
 {
     let Grounds {
@@ -239,18 +217,21 @@ pub fn end_wide(grounds: Grounds, reports: &[Reported]) -> Result<Outcome, NoMem
         ..
     } = grounds;
     let settings = standing.settings;
-    let reallocation = deal_wide(alloc, &settings, grounds.table, grounds.members, reports)?;
+    let reallocation = deal_wide(alloc, &settings, grounds.board, reports)?;
     assigned(alloc, grounds.links, standing, reallocation)
 }
 
 /// The end of a round, wide or full, from which the next k and epsilon are in force.
 pub fn end_round(grounds: Grounds, wide: bool, reports: &[Reported]) -> Result<Outcome, NoMemory>
-    requires all { wide ≡ true → CanEndWide grounds.standing.next grounds.table.now grounds.links.now reports.now }
+    requires all { wide ≡ true → CanEndWide grounds.standing.next grounds.board.now.table grounds.links.now reports.now }
     requires some { wide ≡ false
-        → CanEndFull grounds.standing.next grounds.table.now grounds.members.now grounds.links.now reports.now }
-    requires ranks { grounds.ranks.now ≡ ranks_of grounds.table.now grounds.members.now }
-    ensures all { wide ≡ true → IfOk result (IsAssigned grounds.entry.table.now grounds.entry.links.now (closed grounds.entry.standing) (wide_decides grounds.entry.standing.next grounds.entry.table.now grounds.entry.members.now reports.now)) }
-    ensures some { wide ≡ false → IfOk result (Ends grounds.entry.table.now grounds.entry.links.now (closed grounds.entry.standing) (full_decides grounds.entry.standing.next grounds.entry.table.now grounds.entry.members.now reports.now)) }
+        → CanEndFull grounds.standing.next grounds.board.now.table grounds.board.now.members grounds.links.now reports.now }
+    ensures all { wide ≡ true
+        → IfOk result (IsAssigned grounds.entry.board.now.table grounds.entry.links.now (closed grounds.entry.standing)
+        (wide_decides grounds.entry.standing.next grounds.entry.board.now.table grounds.entry.board.now.members reports.now)) }
+    ensures some { wide ≡ false
+        → IfOk result (Ends grounds.entry.board.now.table grounds.entry.links.now (closed grounds.entry.standing) grounds.entry.rounds
+        (full_decides grounds.entry.standing.next grounds.entry.board.now.table grounds.entry.board.now.members reports.now)) }
     ensures entries { (n : ℕ) → IfOk result (λ o. All (IsEntryOf grounds.entry.standing.next.monitors n) o.entries.items) }
 {
     let standing = grounds.standing.closed();

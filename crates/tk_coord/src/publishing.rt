@@ -5,7 +5,8 @@ ghost use Rattle.tk_journal.specs.Publishing.{differs};
 ghost use Rattle.tk_journal.specs.Readings.{is_stopped};
 ghost use Rattle.tk_journal.specs.Entries.{IsEntryOf};
 ghost use Rattle.tk_coord.specs.Checks.{AreWithin};
-ghost use Rattle.tk_coord.specs.Closing.{are_last, closing_by, said_at, said_by, settled_by};
+ghost use Rattle.tk_coord.specs.Closing.{are_last, closing_by, said_at, said_in, settled_by};
+ghost use Rattle.tk_coord.specs.Keeping.{AreOthers, HasOther};
 ghost use Rattle.tk_coord.specs.declared.link.Link.{Link};
 
 use crate::answer::{Answer, Progress};
@@ -47,8 +48,8 @@ fn said<'a>(answers: Answers<'a>, other: usize) -> &'a Progress
 
 /// Whether every monitor but the one at this place has Settled as its current answer.
 pub fn others_settled(links: &[Link], place: usize) -> bool
-    ensures all { OnTrue result ((i : ℕ) (l : Link) → i ≢ place → slice_get links.now i ≡ Some l → settled_by (Some l) ≢ None) }
-    ensures one { OnFalse result ((i : ℕ) × (l : Link) × (i ≢ place) × (slice_get links.now i ≡ Some l) × (settled_by (Some l) ≡ None)) }
+    ensures all { OnTrue result (AreOthers (λ l. settled_by (Some l) ≢ None) links.now place) }
+    ensures one { OnFalse result (HasOther (λ l. settled_by (Some l) ≡ None) links.now place) }
 {
     for other in 0..links.len() {
         if other != place && settled(&links[other]).is_none() {
@@ -67,7 +68,7 @@ pub fn is_other(last: &Publication, settings: &Settings, members: &ObjSet) -> bo
 
 /// Whether all parts of all monitors are at their ends.
 fn all_last(answers: Answers) -> bool
-    ensures { result ≡ are_last (said_by answers.entry.links.now answers.entry.place answers.entry.here.now) }
+    ensures { result ≡ are_last (said_in answers.entry) }
 {
     for other in 0..answers.links.len() {
         if !said(answers, other).last {
@@ -79,7 +80,7 @@ fn all_last(answers: Answers) -> bool
 
 /// The places of all monitors.
 fn cut_of(alloc: Global, answers: Answers) -> Result<Cut, NoMemory>
-    ensures { IfOk result (λ c. c ≡ map (λ p. p.places) (said_by answers.entry.links.now answers.entry.place answers.entry.here.now)) }
+    ensures { IfOk result (λ c. c ≡ map (λ p. p.places) (said_in answers.entry)) }
 {
     let mut list = Vec::with_capacity(alloc, answers.links.len())?;
     for other in 0..answers.links.len() {
@@ -99,7 +100,7 @@ pub fn publishing(
     number: u64,
 ) -> Result<(Vec<Noted>, bool), NoMemory>
     requires some { 0 < settings.now.monitors }
-    ensures value { IfOk result (λ r. r.0.items ≡ closing_by settings.now members.now (said_by answers.entry.links.now answers.entry.place answers.entry.here.now) news number) }
+    ensures value { IfOk result (λ r. r.0.items ≡ closing_by settings.now members.now (said_in answers.entry) news number) }
     ensures ends { IfOk result (λ r. is_stopped r.0.items ≡ r.1) }
     ensures entries { (n : ℕ) → AreWithin n members.now → IfOk result (λ r. All (IsEntryOf settings.now.monitors n) r.0.items) }
 {

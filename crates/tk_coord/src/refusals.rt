@@ -139,6 +139,7 @@ fn of_settled(
     cut_refusal(shown.progress, last, places)
 }
 
+/// The places of a Settled are at or past those of the one before it.
 fn cut_refusal(before: &Option<Progress>, last: bool, places: &Places) -> Option<CoordRefusal>
     ensures { result ≡ refusal_of_cut before.now last places.now }
 {

@@ -7,27 +7,22 @@ ghost use Rattle.tk_journal.specs.Readings.{is_calm as is_calm_at};
 ghost use Rattle.tk_journal.specs.declared.noted.Noted.{Noted};
 ghost use Rattle.tk_coord.specs.Checks.{AreNamed};
 ghost use Rattle.tk_coord.specs.Keeping.{AreChanged, HasPlace, CanReply, assigned_at, has_settled};
-ghost use Rattle.tk_coord.specs.Ranking.{ranks_of};
 ghost use Rattle.tk_coord.specs.State.{Holds};
 ghost use Rattle.tk_coord.specs.Steps.{Tells, IsReply, told_at, values_in, open_after, with_got};
 
 use crate::answer::Answer;
+use crate::board::Board;
 use crate::link::{Link, ask};
-use crate::ranking::relevel;
 use crate::round::Round;
 use crate::step::{Reply, Told};
 use tk_alloc::Reported;
-use tk_base::{Mon, ObjSet};
-use tk_rank::Rank;
-use tk_rows::{MonChange, Table};
+use tk_base::Mon;
+use tk_rows::MonChange;
 
 /// What the coordinator keeps of the frames that passed.
 #[derive(Drop)]
 pub struct State {
-    pub members: ObjSet,
-    pub table: Table,
-    /// The own factors of the table, with the members.
-    pub ranks: Rank,
+    pub board: Board,
     pub links: Vec<Link>,
     pub round: Round,
     /// What each monitor last told to a round, monitors ascending.
@@ -69,6 +64,7 @@ fn still_waits(waiting: bool, told: &Told) -> bool
     }
 }
 
+/// Whether the current answer is a Settled.
 fn is_settled(link: &Link) -> bool
     ensures { result ≡ has_settled link.now }
 {
@@ -114,10 +110,8 @@ impl State {
     /// A frame of a monitor was taken.
     pub fn take(&mut self, mon: Mon, told: Told)
         requires { HasPlace self.old mon.0 }
-        ensures holds { (s : Setup) (j : List Noted) (frame : Frame) → Tells s j mon frame told → IsMonitor s mon.0
+        ensures { (s : Setup) (j : List Noted) (frame : Frame) → Tells s j mon frame told → IsMonitor s mon.0
             → Holds s j self.old → Holds s (with_got j mon frame) self.new }
-        ensures ranks { self.old.ranks ≡ ranks_of self.old.table self.old.members
-            → self.new.ranks ≡ ranks_of self.new.table self.new.members }
     {
         let place = mon.0 as usize - 1;
         self.round.waiting = still_waits(self.round.waiting, &told);
@@ -129,10 +123,8 @@ impl State {
     /// What it brings about was sent.
     pub fn reply(&mut self, reply: Reply)
         requires { CanReply self.old reply }
-        ensures holds { (s : Setup) (j entries : List Noted) → IsReply s j entries reply → Holds s j self.old
+        ensures { (s : Setup) (j entries : List Noted) → IsReply s j entries reply → Holds s j self.old
             → Holds s (j ++ entries) self.new }
-        ensures ranks { self.old.ranks ≡ ranks_of self.old.table self.old.members
-            → self.new.ranks ≡ ranks_of self.new.table self.new.members }
     {
         match reply {
             Reply::Nothing => {}
@@ -148,12 +140,8 @@ impl State {
                 }
             }
             Reply::Assign(reallocation) => {
-                self.table.replace(&reallocation);
-                self.table.promise();
-                relevel(&mut self.ranks, &reallocation.own);
-                self.ranks.set_members(&reallocation.members);
                 assign(self.links.as_mut_slice(), reallocation.at.as_slice());
-                self.members = reallocation.members;
+                self.board.replace(reallocation);
             }
         }
     }

@@ -1,4 +1,4 @@
-ghost use Rattle.std.specs.Prelude.{◌≡◌, ◌+◌, ◌≤◌, ◌∷◌, ◌++◌, true, false, if◌then◌else◌, vec_len, vec_capacity};
+ghost use Rattle.std.specs.Prelude.{◌≡◌, ◌+◌, ◌≤◌, true, false, if◌then◌else◌};
 ghost use Rattle.tk_journal.specs.declared.turn.TurnKind.TheVariants.{Tune, Short, Wide};
 ghost use Rattle.tk_coord.specs.Steps.{asks_wide};
 
@@ -107,13 +107,4 @@ pub fn retune_turn(calm: bool) -> Turn
         widens: true,
         calm,
     }
-}
-
-/// Appends an entry and those that follow it, for which there is room.
-pub fn append(journal: &mut Vec<Noted>, first: Noted, mut entries: Vec<Noted>)
-    requires { vec_len journal.old + (vec_len entries + 1) ≤ vec_capacity journal.old }
-    ensures { journal.new.items ≡ journal.old.items ++ first ∷ entries.items }
-{
-    journal.push_reserved(first);
-    journal.append(&mut entries).unwrap();
 }

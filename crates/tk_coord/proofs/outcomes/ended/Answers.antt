@@ -9,5 +9,5 @@ returns-in-Factors-clause-ends c grid decided dealt =
     let is = subst (IsDealt grid decided) c.in-Factors.is dealt in
     let links = c.args.links.now in
     let standing = c.args.standing in
-    IfOk-weaker c.assigned.result (IsAssigned grid links standing decided) (Ends grid links standing decided)
-    (λ outcome. ends_within grid links standing decided outcome is.1) (c.assigned.ensures.assigns grid decided is.0)
+    IfOk-weaker c.assigned.result (IsAssigned grid links standing decided) (Ends grid links standing c.args.rounds decided)
+    (λ outcome. ends_within grid links standing c.args.rounds decided outcome is.1) (c.assigned.ensures.assigns grid decided is.0)

@@ -3,7 +3,8 @@ use Rattle.tk_journal.specs.Readings.{Progress}
 use Rattle.tk_coord.specs.Closing.{said_at}
 use Rattle.std.proofs.lemmas.List.Folds.{list_all-map}
 use Rattle.std.specs.List.{range_with_len}
-use Rattle.tk_coord.proofs.RangeLemmas.{all_of_range, one_fails}
+use Rattle.tk_journal.proofs.SoundLemmas.{all_of_range}
+use Rattle.tk_coord.proofs.RangeLemmas.{one_fails}
 use Rattle.tk_coord.proofs.publishing.all_last.Goals as goal
 
 pub returns-then-not-said : goal.returns-then-not-said

@@ -12,14 +12,14 @@ pub at-requires-clause-within : goal.at-requires-clause-within
 at-requires-clause-within c =
     let f = c.self.inside in
     let high = subst (λ (v : CoordinatorView). c.args.o.0 ≤ v.settings.objects) (sym c.self.view_is) c.requires.within in
-    let size : length f.state.table.rows ≡ f.settings.objects = ap (λ (g : Grid). length g.rows) c.self.invariant.1.table ∙ rows_count f.settings f.journal.items in
+    let size : length c.table.result.now.rows ≡ f.settings.objects = ap (λ (g : Grid). length g.rows) (c.table.ensures ∙ c.self.invariant.0.holds.table) ∙ rows_count f.settings f.journal.entries in
     omega (arith, high, size)
 
 pub at-requires-clause-monitor : goal.at-requires-clause-monitor
 at-requires-clause-monitor c =
     let f = c.self.inside in
     let high = subst (λ (v : CoordinatorView). c.args.mon.0 ≤ v.settings.monitors) (sym c.self.view_is) c.requires.monitor in
-    let size = ap (λ (g : Grid). g.monitors) c.self.invariant.1.table ∙ table_size f.settings f.journal.items in
+    let size = ap (λ (g : Grid). g.monitors) (c.table.ensures ∙ c.self.invariant.0.holds.table) ∙ table_size f.settings f.journal.entries in
     omega (arith, high, size)
 
 pub returns : goal.returns
@@ -30,6 +30,6 @@ returns c =
     let small = c.at.ensures.size in
     let fits : FitsSigned w128 c.at.result = omega (arith, ints, small) in
     to_z-of_z w128 c.at.result fits
-    ∙ factor_of f.settings f.journal.items f.state.table c.args.o.0 c.args.mon.0 c.at.result c.self.invariant.1.table (record { from_one = c.requires.some; within = object })
+    ∙ factor_of f.settings f.journal.entries c.table.result.now c.args.o.0 c.args.mon.0 c.at.result (c.table.ensures ∙ c.self.invariant.0.holds.table) (record { from_one = c.requires.some; within = object })
     (record { from_one = c.requires.some_monitor; within = high }) c.at.ensures.value
     ∙ ap (λ (v : CoordinatorView). factor c.args.mon.0 v.journal c.args.o.0) c.self.view_is

@@ -2,7 +2,7 @@ use Rattle.std.proofs.Common.{◌≡◌, ◌∙◌, sym, subst, ap}
 use Rattle.tk_base.specs.Objects.{objects}
 use Rattle.tk_journal.specs.Legal.{IsLegal, opened, start}
 use Rattle.tk_coord.specs.Coordinator.{CoordinatorView}
-use Rattle.tk_coord.proofs.BatchLemmas.{opened_legal}
+use Rattle.tk_journal.proofs.WholeLemmas.{opened_legal}
 use Rattle.tk_coord.proofs.BeginLemmas.{begins_at_start, begun_at_start}
 use Rattle.tk_coord.proofs.BegunLemmas.{begun_so}
 use Rattle.tk_coord.proofs.coordinator.Coordinator.new.Goals as goal

@@ -1,6 +1,6 @@
 use Rattle.std.proofs.Common.{FitsSigned, ◌≡◌, ℕ, ℤ, List, None, false, true, sym, ap, ◌∙◌, subst, arith}
 use Rattle.std.specs.Int.{w128}
-use Rattle.std.specs.Prelude.{IfOk, nat_lt}
+use Rattle.std.specs.Prelude.{nat_lt}
 use Rattle.std.proofs.lemmas.Int.{ints, to_z-of_z}
 use Rattle.std.proofs.lemmas.Bool.{ltb-true}
 use Rattle.tk_base.specs.Settings.{Setup}
@@ -46,7 +46,7 @@ returns-then-is_stale c =
     let late : nat_lt r.seq (assigns_sent mon.0 j) ≡ true = sym c.is_stale.ensures.value ∙ c.if-is_stale.true in
     subst (λ (x : Frame). IsStep s j mon x c.quiet.result) (sym r.is)
     (step_of s j mon frame told.Nothing c.quiet.result c.quiet.ensures.told (report_stale s j mon r.seq r.border r.failed r.values (ltb-true r.seq (assigns_sent mon.0 j) late))
-    (stale_report_follows s j mon r.seq r.border r.failed r.values c.quiet.result.outcome c.is_stale.ensures.journal none late c.quiet.ensures.entries c.quiet.ensures.reply c.quiet.ensures.standing)
+    (stale_report_follows s j mon r.seq r.border r.failed r.values c.quiet.result.outcome c.is_stale.ensures.journal c.requires.monitor none late c.quiet.ensures.entries c.quiet.ensures.reply c.quiet.ensures.standing)
     (counts_quiet s j mon.0 frame c.quiet.result.turn Stale c.quiet.ensures.turn (stale_report_counts s j mon.0 r.seq r.border r.failed r.values late)))
 
 pub returns-then-self : goal.returns-then-self
@@ -59,11 +59,11 @@ returns-then-self c =
     let frame = f.Report r.seq r.border r.failed r.values in
     let none : refusal_of s j mon.0 frame ≡ None = subst (λ (x : Frame). refusal_of s j mon.0 x ≡ None) r.is c.requires.taken in
     let late : nat_lt r.seq (assigns_sent mon.0 j) ≡ false = sym c.is_stale.ensures.value ∙ c.if-is_stale.false in
-    let opened : is_open s j ≡ true = sym (ap (λ (v : CoordinatorView). is_open v.settings v.journal) c.self.view_is) ∙ sym c.self.invariant.1.round.waiting ∙ c.if-self.true in
+    let opened : is_open s j ≡ true = sym (ap (λ (v : CoordinatorView). is_open v.settings v.journal) c.self.view_is) ∙ sym c.self.invariant.0.holds.round.waiting ∙ c.if-self.true in
     subst (λ (x : Frame). IsStep s j mon x q.result) (sym r.is)
     (step_of s j mon frame told.Report q.result q.ensures.told
     (report_tells s j mon r.seq r.border r.failed r.values (orderly_at s j c.is_stale.ensures.journal) none (fresh_of s j mon r.seq r.border r.failed r.values none late))
-    (noted_report_follows s j mon r.seq r.border r.failed r.values q.result.outcome none late opened q.ensures.entries q.ensures.reply q.ensures.standing)
+    (noted_report_follows s j mon r.seq r.border r.failed r.values q.result.outcome c.is_stale.ensures.journal c.requires.monitor none late opened q.ensures.entries q.ensures.reply q.ensures.standing)
     (counts_quiet s j mon.0 frame q.result.turn Note q.ensures.turn (noted_report_counts s j mon r.seq r.border r.failed r.values none late opened)))
 
 -- the frame, by what it reports
@@ -72,8 +72,8 @@ frame_is : (j : List Noted) (seq : ℕ) (report : Reported) (border : ℤ) (fail
 frame_is j seq report border failed values fresh edge all =
     ap (λ (k : ℕ). f.Report k report.border failed report.values) (sym fresh) ∙ ap (λ (z : ℤ). f.Report seq z failed report.values) edge ∙ ap (λ (ps : List (ℕ × ℤ)). f.Report seq border failed ps) all
 
-pub answered-requires-clause-taken : goal.answered-requires-clause-taken
-answered-requires-clause-taken c =
+pub answered-requires : goal.answered-requires
+answered-requires c =
     let s = c.args.self.now.settings in
     let j = c.args.self.now.journal in
     let mon = c.args.mon in
@@ -81,22 +81,11 @@ answered-requires-clause-taken c =
     let fits : FitsSigned w128 r.border = omega (arith, ints) in
     let none : refusal_of s j mon.0 (f.Report r.seq r.border r.failed r.values) ≡ None = subst (λ (x : Frame). refusal_of s j mon.0 x ≡ None) r.is c.requires.taken in
     let late : nat_lt r.seq (assigns_sent mon.0 j) ≡ false = sym c.is_stale.ensures.value ∙ c.if-is_stale.false in
+    let is = frame_is j r.seq _ r.border r.failed r.values (fresh_of s j mon r.seq r.border r.failed r.values none late) (to_z-of_z w128 r.border fits) c.in_ok-try_clone.ensures in
     record {
       failed = r.failed;
-      taken = subst (λ (x : Frame). refusal_of s j mon.0 x ≡ None)
-          (sym (frame_is j r.seq _ r.border r.failed r.values (fresh_of s j mon r.seq r.border r.failed r.values none late) (to_z-of_z w128 r.border fits) c.in_ok-try_clone.ensures)) none;
+      is = r.is ∙ sym is;
+      range = c.requires.monitor;
+      taken = subst (λ (x : Frame). refusal_of s j mon.0 x ≡ None) (sym is) none;
+      closed = sym (ap (λ (v : CoordinatorView). is_open v.settings v.journal) c.self.view_is) ∙ sym c.self.invariant.0.holds.round.waiting ∙ c.if-self.false;
     }
-
-pub returns : goal.returns
-returns c =
-    let s = c.args.self.now.settings in
-    let j = c.args.self.now.journal in
-    let mon = c.args.mon in
-    let r = c.in-Report in
-    let fits : FitsSigned w128 r.border = omega (arith, ints) in
-    let frame = f.Report r.seq r.border r.failed r.values in
-    let none : refusal_of s j mon.0 frame ≡ None = subst (λ (x : Frame). refusal_of s j mon.0 x ≡ None) r.is c.requires.taken in
-    let late : nat_lt r.seq (assigns_sent mon.0 j) ≡ false = sym c.is_stale.ensures.value ∙ c.if-is_stale.false in
-    let fresh = fresh_of s j mon r.seq r.border r.failed r.values none late in
-    let is = frame_is j r.seq _ r.border r.failed r.values fresh (to_z-of_z w128 r.border fits) c.in_ok-try_clone.ensures in
-    subst (λ (x : Frame). IfOk c.answered.result (IsStep s j mon x)) (is ∙ sym r.is) (c.answered.ensures r.failed (subst (λ (x : Frame). refusal_of s j mon.0 x ≡ None) (sym is) none))

@@ -12,7 +12,7 @@ pub own-requires-clause-within : goal.own-requires-clause-within
 own-requires-clause-within c =
     let f = c.self.inside in
     let high = subst (λ (v : CoordinatorView). c.args.o.0 ≤ v.settings.objects) (sym c.self.view_is) c.requires.within in
-    let size : length f.state.table.rows ≡ f.settings.objects = ap (λ (g : Grid). length g.rows) c.self.invariant.1.table ∙ rows_count f.settings f.journal.items in
+    let size : length c.table.result.now.rows ≡ f.settings.objects = ap (λ (g : Grid). length g.rows) (c.table.ensures ∙ c.self.invariant.0.holds.table) ∙ rows_count f.settings f.journal.entries in
     omega (arith, high, size)
 
 pub returns : goal.returns
@@ -22,5 +22,5 @@ returns c =
     let small = c.own.ensures.size in
     let fits : FitsSigned w128 c.own.result = omega (arith, ints, small) in
     to_z-of_z w128 c.own.result fits
-    ∙ own_of f.settings f.journal.items f.state.table c.args.o.0 c.own.result c.self.invariant.1.table (record { from_one = c.requires.some; within = high }) c.own.ensures.value
+    ∙ own_of f.settings f.journal.entries c.table.result.now c.args.o.0 c.own.result (c.table.ensures ∙ c.self.invariant.0.holds.table) (record { from_one = c.requires.some; within = high }) c.own.ensures.value
     ∙ ap (λ (v : CoordinatorView). own v.settings v.journal c.args.o.0) c.self.view_is

@@ -1,5 +1,6 @@
-use Rattle.std.proofs.Common.{◌≡◌, ◌≤◌, ◌-◌, suc, length, refl, ap, sym, ◌∙◌, subst, arith}
+use Rattle.std.proofs.Common.{◌≡◌, ◌-◌, suc, length, refl, ap, sym, ◌∙◌, subst, arith}
 use Rattle.std.proofs.lemmas.Option.{slice_get_read}
+use Rattle.tk_journal.specs.Laws.{IsMonitor}
 use Rattle.tk_journal.specs.Refusal.{shown_by}
 use Rattle.tk_coord.specs.Coordinator.{CoordinatorView}
 use Rattle.tk_coord.specs.State.{link_at}
@@ -10,13 +11,13 @@ pub returns : goal.returns
 returns c =
     let f = c.self.inside in
     let mon = c.args.mon.0 in
-    let high = subst (λ (v : CoordinatorView). mon ≤ v.settings.monitors) (sym c.self.view_is) c.requires.monitor in
-    let links = c.self.invariant.1.links in
-    let number : suc (mon - 1) ≡ mon = omega (arith, c.requires.some_monitor) in
+    let range = subst (λ (v : CoordinatorView). IsMonitor v.settings mon) (sym c.self.view_is) c.requires.monitor in
+    let links = c.self.invariant.0.holds.links in
+    let number : suc (mon - 1) ≡ mon = omega (arith, range.from_one) in
     let there = slice_get_read f.state.links.items (length f.state.links.items) (mon - 1) c.index-link.result.now refl
-    (omega (arith, high, links.count, c.requires.some_monitor)) c.index-link.ensures in
-    let link = links.each (mon - 1) c.index-link.result.now there ∙ ap (λ q. link_at f.journal.items q) number in
+    (omega (arith, range.within, links.count, range.from_one)) c.index-link.ensures in
+    let link = links.each (mon - 1) c.index-link.result.now there ∙ ap (λ q. link_at f.journal.entries q) number in
     c.shown_of.ensures
-    ∙ shown_is f.settings f.journal.items mon c.index-link.result.now f.state.round f.state.gathered.items f.standing.stopped
-    (record { from_one = c.requires.some_monitor; within = high }) link c.self.invariant.1.round c.self.invariant.2.stopped
+    ∙ shown_is f.settings f.journal.entries mon c.index-link.result.now f.state.round f.state.gathered.items f.standing.stopped
+    range link c.self.invariant.0.holds.round c.self.invariant.0.stands.stopped
     ∙ ap (λ (v : CoordinatorView). shown_by mon v.journal) c.self.view_is

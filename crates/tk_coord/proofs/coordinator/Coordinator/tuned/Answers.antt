@@ -26,24 +26,24 @@ pub returns-then-self-clause-refused : goal.returns-then-self-clause-refused
 returns-then-self-clause-refused c =
     let f = c.self.inside in
     subst (λ (v : CoordinatorView). retune_refusal_of v.settings v.journal c.args.k c.args.epsilon ≡ Some AfterStop) c.self.view_is
-    (stopped_refuses f.settings f.journal.items c.args.k c.args.epsilon (sym c.self.invariant.2.stopped ∙ c.if-self.true))
+    (stopped_refuses f.settings f.journal.entries c.args.k c.args.epsilon (sym c.self.invariant.0.stands.stopped ∙ c.if-self.true))
 
 pub returns-then-self-2-clause-refused : goal.returns-then-self-2-clause-refused
 returns-then-self-2-clause-refused c =
     let f = c.self.inside in
     subst (λ (v : CoordinatorView). retune_refusal_of v.settings v.journal c.args.k c.args.epsilon ≡ Some RoundOpen) c.self.view_is
-    (open_refuses f.settings f.journal.items c.args.k c.args.epsilon (sym c.self.invariant.2.stopped ∙ c.if-self.false) (sym c.self.invariant.1.round.waiting ∙ c.if-self-2.true))
+    (open_refuses f.settings f.journal.entries c.args.k c.args.epsilon (sym c.self.invariant.0.stands.stopped ∙ c.if-self.false) (sym c.self.invariant.0.holds.round.waiting ∙ c.if-self-2.true))
 
 pub returns-clause-ok : goal.returns-clause-ok
 returns-clause-ok c =
     let f = c.self.inside in
     subst (λ (v : CoordinatorView). IfOk c.retuned.result (IsRetuned v.settings v.journal c.args.k c.args.epsilon)) c.self.view_is
-    (brought f.settings f.journal.items c.args.k c.args.epsilon c.retuned.result (sym c.self.invariant.2.stopped ∙ c.if-self.false) (sym c.self.invariant.1.round.waiting ∙ c.if-self-2.false)
+    (brought f.settings f.journal.entries c.args.k c.args.epsilon c.retuned.result (sym c.self.invariant.0.stands.stopped ∙ c.if-self.false) (sym c.self.invariant.0.holds.round.waiting ∙ c.if-self-2.false)
     (sym c.retuned.ensures))
 
 pub returns-clause-refused : goal.returns-clause-refused
 returns-clause-refused c =
     let f = c.self.inside in
     subst (λ (v : CoordinatorView). IfErr c.retuned.result (λ e. retune_refusal_of v.settings v.journal c.args.k c.args.epsilon ≡ Some e)) c.self.view_is
-    (refused f.settings f.journal.items c.args.k c.args.epsilon c.retuned.result (sym c.self.invariant.2.stopped ∙ c.if-self.false) (sym c.self.invariant.1.round.waiting ∙ c.if-self-2.false)
+    (refused f.settings f.journal.entries c.args.k c.args.epsilon c.retuned.result (sym c.self.invariant.0.stands.stopped ∙ c.if-self.false) (sym c.self.invariant.0.holds.round.waiting ∙ c.if-self-2.false)
     (sym c.retuned.ensures))

@@ -2,7 +2,7 @@ use Rattle.std.proofs.Common.{sym, subst}
 use Rattle.tk_base.specs.Ascending.{IsAscending}
 use Rattle.tk_journal.specs.Legal.{IsLegal}
 use Rattle.tk_coord.specs.Coordinator.{CoordinatorView, with_factors}
-use Rattle.tk_coord.proofs.BatchLemmas.{opened_legal}
+use Rattle.tk_journal.proofs.WholeLemmas.{opened_legal}
 use Rattle.tk_coord.proofs.BeginLemmas.{can_begin}
 use Rattle.tk_coord.proofs.BegunLemmas.{begun_so}
 use Rattle.tk_coord.proofs.coordinator.Coordinator.with_table.Goals as goal

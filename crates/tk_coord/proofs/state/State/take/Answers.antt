@@ -6,16 +6,15 @@ use Rattle.tk_coord.specs.declared.state.State.{State}
 use Rattle.tk_coord.proofs.TakeLemmas.{holds_got}
 use Rattle.tk_coord.proofs.state.State.take.Goals as goal
 
-pub returns-in-Some-clause-holds : goal.returns-in-Some-clause-holds
-returns-in-Some-clause-holds c = λ s j frame tells m h.
+pub returns-in-Some : goal.returns-in-Some
+returns-in-Some c = λ s j frame tells m h.
     let old : State = c.args.self.now in
     let place = c.args.mon.0 - 1 in
     let within : place < length old.links.items = omega (arith, c.requires.some, c.requires.link) in
     let round : Round = record old.round { waiting = c.still_waits-self.result } in
     let new : State = record old { links = with_item old.links place c.tell.new.link; round = round; gathered = with_item old.gathered place c.in-Some.report } in
     holds_got s j c.args.mon frame c.args.told old new tells c.requires.some c.requires.report (record {
-      members = refl;
-      table = refl;
+      board = refl;
       link = c.index_mut.result.now;
       was = slice_get_read old.links.items (length old.links.items) place c.index_mut.result.now refl within c.index_mut.ensures.value;
       now = c.tell.new.link;
@@ -27,16 +26,15 @@ returns-in-Some-clause-holds c = λ s j frame tells m h.
       gathered = refl;
     }) h
 
-pub returns-in_default-clause-holds : goal.returns-in_default-clause-holds
-returns-in_default-clause-holds c = λ s j frame tells m h.
+pub returns-in_default : goal.returns-in_default
+returns-in_default c = λ s j frame tells m h.
     let old : State = c.args.self.now in
     let place = c.args.mon.0 - 1 in
     let within : place < length old.links.items = omega (arith, c.requires.some, c.requires.link) in
     let round : Round = record old.round { waiting = c.still_waits-self.result } in
     let new : State = record old { links = with_item old.links place c.tell.new.link; round = round } in
     holds_got s j c.args.mon frame c.args.told old new tells c.requires.some c.requires.report (record {
-      members = refl;
-      table = refl;
+      board = refl;
       link = c.index_mut.result.now;
       was = slice_get_read old.links.items (length old.links.items) place c.index_mut.result.now refl within c.index_mut.ensures.value;
       now = c.tell.new.link;

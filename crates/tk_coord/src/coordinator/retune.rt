@@ -1,0 +1,98 @@
+// Another k and epsilon.
+ghost use Rattle.std.specs.Prelude.{◌≡◌, not, ◌++◌, pos, IfOk, IfErr, OnOk, Some, None};
+ghost use Rattle.tk_journal.specs.Legal.{Opening, IsLegal, turn_of};
+ghost use Rattle.tk_journal.specs.Refusal.{retune_refusal_of};
+ghost use Rattle.tk_journal.specs.declared.noted.Noted.{Noted};
+ghost use Rattle.tk_journal.specs.declared.noted.Noted.TheVariants.{Tuned};
+ghost use Rattle.tk_journal.specs.declared.refusal.RetuneRefusal.TheVariants.{NoMemory as NoRoomToTune};
+ghost use Rattle.tk_coord.specs.Coordinator.{IsRefusal};
+ghost use Rattle.tk_coord.specs.Grounds.{OpensOver};
+ghost use Rattle.tk_coord.specs.Steps.{IsRetuned, retuned_to};
+
+use crate::coordinator::Coordinator;
+use crate::outcomes::open_wide;
+use crate::standing::Standing;
+use crate::step::{Outcome, retune_turn};
+use tk_base::{NoMemory, SettingFault, Settings};
+use tk_journal::{KeptEpsilon, Noted, RetuneRefusal};
+
+/// The settings with another k and epsilon, unless one of them is past its limit.
+fn retuned(settings: &Settings, k: u64, epsilon: u128) -> Result<Settings, RetuneRefusal>
+    ensures { result ≡ retuned_to settings.now k epsilon }
+{
+    let own_weight = settings.own_weight() as u64;
+    let objects = settings.objects() as u64;
+    match Settings::new(k, epsilon, own_weight, objects, settings.monitors() as u64) {
+        Ok(settings) => Ok(settings),
+        Err(SettingFault::BadK) => Err(RetuneRefusal::BadK),
+        Err(SettingFault::BadEpsilon) => Err(RetuneRefusal::BadEpsilon),
+        Err(_) => unreachable!(),
+    }
+}
+
+impl Coordinator {
+    /// A wide round opens.
+    fn wide(&self) -> Result<Outcome, NoMemory>
+        ensures { IfOk result (OpensOver self.now.settings self.now.journal) }
+    {
+        let grounds = self.grounds(self.rounds()?);
+        open_wide(grounds.alloc, grounds.standing, grounds.rounds)
+    }
+
+    /// The settings that a retune brings, or the first test that it does not pass.
+    fn tuned(&self, k: u64, epsilon: u128) -> Result<Settings, RetuneRefusal>
+        ensures ok { IfOk result (IsRetuned self.now.settings self.now.journal k epsilon) }
+        ensures refused { IfErr result (λ e. retune_refusal_of self.now.settings self.now.journal k epsilon ≡ Some e) }
+    {
+        if self.standing.stopped {
+            return Err(RetuneRefusal::AfterStop);
+        }
+        if self.state.round.waiting {
+            return Err(RetuneRefusal::RoundOpen);
+        }
+        retuned(&self.settings, k, epsilon)
+    }
+
+    /// Why a retune to this k and epsilon is refused now, if it is. Takes no memory.
+    pub fn retune_refusal(&self, k: u64, epsilon: u128) -> Option<RetuneRefusal>
+        ensures { result ≡ retune_refusal_of self.now.settings self.now.journal k epsilon }
+    {
+        match self.tuned(k, epsilon) {
+            Ok(_) => None,
+            Err(refusal) => Some(refusal),
+        }
+    }
+
+    /// Takes another k and epsilon: they are in force from the end of the wide round that opens.
+    /// Costs the objects times the monitors, which the Collects of that round name.
+    pub fn retune(&mut self, k: u64, epsilon: u128) -> Result<(), RetuneRefusal>
+        ensures ok { OnOk result (retune_refusal_of self.old.settings self.old.journal k epsilon ≡ None) }
+        ensures turn { OnOk result (self.new.journal ≡ self.old.journal ++ turn_of self.old.settings self.old.journal (Tuned k (pos epsilon))) }
+        ensures refused { IfErr result (IsRefusal NoRoomToTune (retune_refusal_of self.old.settings self.old.journal k epsilon)) }
+        ensures err { IfErr result (λ _. self.new ≡ self.old) }
+        ensures settings { self.new.settings ≡ self.old.settings }
+        ensures legal { (o : Opening) → o.settings ≡ self.old.settings → IsLegal o self.old.journal → IsLegal o self.new.journal }
+    {
+        let next = self.tuned(k, epsilon)?;
+        let alloc = self.journal.alloc();
+        let (Ok(outcome), Ok(kept)) = (self.wide(), KeptEpsilon::new(alloc, next.epsilon())) else {
+            return Err(RetuneRefusal::NoMemory);
+        };
+        let Outcome {
+            entries,
+            reply,
+            standing,
+        } = outcome;
+        let more = entries.len() + 1;
+        let (Ok(()), Ok(())) = (self.journal.reserve(more), self.turns.reserve()) else {
+            return Err(RetuneRefusal::NoMemory);
+        };
+        self.journal.push(Noted::Tuned(next.k(), kept));
+        self.journal.append(entries);
+        self.state.reply(reply);
+        self.standing = Standing { next, ..standing };
+        let calm = self.state.is_calm();
+        self.turns.push(retune_turn(calm));
+        Ok(())
+    }
+}
