@@ -8,6 +8,7 @@ pub mod RowsLemmas
 pub mod GreatLemmas
 pub mod LimitsLemmas
 pub mod ReadingLemmas
+pub mod TakingLemmas
 pub mod ThroughLemmas
 pub mod NamesLemmas
 pub mod DifferLemmas

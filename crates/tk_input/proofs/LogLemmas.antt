@@ -1,11 +1,8 @@
 -- One more change of a log.
 use Rattle.std.proofs.Common.{◌≡◌, ℕ, ℤ, List, [], ◌∷◌, ◌++◌, length, Some, None, Result, Ok, Err, sym, ap, subst, ◌∙◌, arith}
-use Rattle.std.proofs.lemmas.List.{length-map, map-append}
 use Rattle.csv.specs.Records.{field_at}
 use Rattle.tk_input.specs.Log.{IsFault, both_fields, change_added, log_of, next_change}
-use Rattle.tk_input.specs.Part.{changes_of, pair_of}
 use Rattle.tk_input.specs.Records.{and_then, records_in, through}
-use Rattle.tk_input.specs.declared.change.Change.{Change}
 use Rattle.tk_input.specs.declared.part.PartFault.{PartFault}
 use Rattle.tk_input.specs.declared.part.PartFault.TheVariants.{BadNumber, BadRow, NoMemory, TooMany, UnknownName}
 use Rattle.tk_input.proofs.ThroughLemmas.{through-none}
@@ -32,11 +29,10 @@ both_found (a ∷ b ∷ []) name text two first second = let x : name ≡ a = cc
 both_found (a ∷ b ∷ c ∷ rest) name text two first second = absurd (omega (arith, two))
 
 -- a record that is a change adds it
-pub change_next : (names : List (List ℕ)) (items : List Change) (change : Change) (n : ℕ) (fields : List (List ℕ)) → n ≡ length items → next_change names n fields ≡ Ok (pair_of change) → change_added names (changes_of items) fields ≡ Ok (changes_of (items ++ change ∷ []))
-change_next names items change n fields so_many read =
-    ap (λ (k : ℕ). and_then (λ more. Ok (changes_of items ++ more ∷ [])) (next_change names k fields)) (length-map items pair_of ∙ sym so_many)
-    ∙ ap (and_then (λ more. Ok (changes_of items ++ more ∷ []))) read
-    ∙ ap (λ (all : List (ℕ × ℤ)). Ok all) (sym (map-append pair_of items (change ∷ [])))
+pub change_next : (names : List (List ℕ)) (before : List (ℕ × ℤ)) (change : ℕ × ℤ) (n : ℕ) (fields : List (List ℕ)) → n ≡ length before → next_change names n fields ≡ Ok change → change_added names before fields ≡ Ok (before ++ change ∷ [])
+change_next names before change n fields so_many read =
+    ap (λ (k : ℕ). and_then (λ more. Ok (before ++ more ∷ [])) (next_change names k fields)) (sym so_many)
+    ∙ ap (and_then (λ more. Ok (before ++ more ∷ []))) read
 
 fault_ends : {A B : Type 0} (r : Result A PartFault) (e : PartFault) (further : A → Result B PartFault) → IsFault e r → IsFault e (and_then further r)
 fault_ends r TooMany further is = ap (and_then further) is
@@ -53,13 +49,13 @@ meant_is r (BadNumber n) is = is
 meant_is r NoMemory is = tt
 
 -- the fault of a record is that of the file
-pub log_fault : (names : List (List ℕ)) (bytes : List ℕ) (items : List Change) (n : ℕ) (fields : List (List ℕ)) (rest rows : List (List (List ℕ))) (e : PartFault) → through (change_added names) (changes_of items) rows ≡ through (change_added names) [] (records_in bytes) → rows ≡ fields ∷ rest → n ≡ length items → next_change names n fields ≡ Err e → IsFault e (log_of names bytes)
+pub log_fault : (names : List (List ℕ)) (bytes : List ℕ) (before : List (ℕ × ℤ)) (n : ℕ) (fields : List (List ℕ)) (rest rows : List (List (List ℕ))) (e : PartFault) → through (change_added names) before rows ≡ through (change_added names) [] (records_in bytes) → rows ≡ fields ∷ rest → n ≡ length before → next_change names n fields ≡ Err e → IsFault e (log_of names bytes)
 unfolding through
-log_fault names bytes items n fields rest rows e same is so_many fault =
-    let here : IsFault e (next_change names (length (changes_of items)) fields) = subst (λ (k : ℕ). IsFault e (next_change names k fields)) (so_many ∙ sym (length-map items pair_of)) (meant_is (next_change names n fields) e fault) in
+log_fault names bytes before n fields rest rows e same is so_many fault =
+    let here : IsFault e (next_change names (length before) fields) = subst (λ (k : ℕ). IsFault e (next_change names k fields)) so_many (meant_is (next_change names n fields) e fault) in
     subst (λ (r : Result (List (ℕ × ℤ)) PartFault). IsFault e r) same
-    (rw is (fault_ends (change_added names (changes_of items) fields) e (λ after. through (change_added names) after rest) (fault_ends (next_change names (length (changes_of items)) fields) e (λ change. Ok (changes_of items ++ change ∷ [])) here)))
+    (rw is (fault_ends (change_added names before fields) e (λ after. through (change_added names) after rest) (fault_ends (next_change names (length before) fields) e (λ change. Ok (before ++ change ∷ [])) here)))
 
 -- after the last record the changes so far are all
-pub log_ends : (names : List (List ℕ)) (bytes : List ℕ) (items : List Change) (rows : List (List (List ℕ))) → through (change_added names) (changes_of items) rows ≡ through (change_added names) [] (records_in bytes) → rows ≡ [] → log_of names bytes ≡ Ok (changes_of items)
-log_ends names bytes items rows same is = sym same ∙ through-none (change_added names) (changes_of items) rows is
+pub log_ends : (names : List (List ℕ)) (bytes : List ℕ) (changes : List (ℕ × ℤ)) (rows : List (List (List ℕ))) → through (change_added names) changes rows ≡ through (change_added names) [] (records_in bytes) → rows ≡ [] → log_of names bytes ≡ Ok changes
+log_ends names bytes changes rows same is = sym same ∙ through-none (change_added names) changes rows is

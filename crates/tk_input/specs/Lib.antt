@@ -1,4 +1,5 @@
 pub mod Catalog
+pub mod Changes
 pub mod Event
 pub mod Files
 pub mod Judged

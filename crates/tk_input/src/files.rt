@@ -65,6 +65,7 @@ pub trait Files {
         // So is the most that one read took, which is no more than there is.
         ensures taken { IfOk result (λ v. length v.items ≤ most_taken self.new name.now) }
         ensures kept_taken { most_taken self.old name.now ≤ most_taken self.new name.now }
-        ensures no_more { IfSome (content self.old name.now) (λ told. most_taken self.new name.now ≤ max (most_taken self.old name.now) (length told)) }
+        ensures no_more { IfSome (content self.old name.now)
+            (λ told. most_taken self.new name.now ≤ max (most_taken self.old name.now) (length told)) }
         ensures other_taken { (other : List ℕ) → other ≢ name.now → most_taken self.new other ≡ most_taken self.old other };
 }

@@ -7,12 +7,14 @@
 
 mod catalog;
 mod change;
+mod changes;
 mod edges;
 mod event;
 mod files;
 mod lines;
 mod logs;
 mod map_files;
+mod narrow_change;
 mod number;
 mod order;
 mod part;
@@ -26,6 +28,7 @@ mod vec_sink;
 
 pub use catalog::{Catalog, CatalogFault};
 pub use change::Change;
+pub use changes::Changes;
 pub use edges::{put_all, take_all};
 pub use event::Event;
 pub use files::{FileFault, Files};

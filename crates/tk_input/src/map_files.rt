@@ -124,7 +124,8 @@ impl Files for MapFiles {
             → faults_of self.new.counts other ≡ faults_of self.old.counts other }
         ensures taken { IfOk result (λ v. length v.items ≤ longest_of self.new.counts name.now) }
         ensures kept_taken { longest_of self.old.counts name.now ≤ longest_of self.new.counts name.now }
-        ensures no_more { IfSome (content_of self.old.files name.now) (λ told. longest_of self.new.counts name.now ≤ max (longest_of self.old.counts name.now) (length told)) }
+        ensures no_more { IfSome (content_of self.old.files name.now)
+            (λ told. longest_of self.new.counts name.now ≤ max (longest_of self.old.counts name.now) (length told)) }
         ensures other_taken { (other : List ℕ) → other ≢ name.now
             → longest_of self.new.counts other ≡ longest_of self.old.counts other }
     {

@@ -6,6 +6,7 @@ ghost use Rattle.tk_input.specs.declared.part.PartFault.TheVariants.{NoMemory as
 
 use crate::catalog::Catalog;
 use crate::change::Change;
+use crate::changes::Changes;
 use crate::number::whole_number_of;
 use crate::records::Records;
 use csv::ByteRecord;
@@ -69,8 +70,8 @@ impl From<NoMemory> for PartFault {
 /// A list of changes of its own, or one that several parts hold.
 #[derive(Drop)]
 enum Held {
-    Own(Vec<Change>),
-    Shared(Arc<Vec<Change>>),
+    Own(Changes),
+    Shared(Arc<Changes>),
 }
 
 /// The changes of one feeder, in order. A part of `Logs` is shared: a clone of it holds the same list.
@@ -84,9 +85,9 @@ impl Model for Part {
 
     ghost Value = { List (ℕ × ℤ) };
 
-    ghost use Rattle.tk_input.specs.Part.{changes_of, held_by};
+    ghost use Rattle.tk_input.specs.Part.{held_by};
 
-    ghost view = { λ p. changes_of (held_by p.held) };
+    ghost view = { λ p. held_by p.held };
 }
 
 fn both_fields(row: &ByteRecord) -> Option<(&[u8], &[u8])>
@@ -123,7 +124,6 @@ pub fn next_change(names: &Catalog, row: &ByteRecord, before: usize) -> Result<C
 }
 
 impl Part {
-    ghost use Rattle.tk_input.specs.Part.{changes_of};
     ghost use Rattle.tk_input.specs.Log.{log_of};
 
     /// Reads one change a record, in one pass over the bytes.
@@ -136,31 +136,31 @@ impl Part {
     {
         let mut rows = Records::new(alloc, bytes);
         let mut row = ByteRecord::new(alloc);
-        let mut list = Vec::new(alloc);
+        let mut changes = Changes::new(alloc);
         while rows.next(&mut row)? {
-            let change = next_change(names, &row, list.len())?;
-            list.push(change)?;
+            let change = next_change(names, &row, changes.len())?;
+            changes.push(change)?;
         }
-        list.shrink_to_fit();
-        Ok(Part::new(list))
+        changes.shrink_to_fit();
+        Ok(Part::new(changes))
     }
 
     /// Takes the list as it is.
-    pub fn new(list: Vec<Change>) -> Part
-        ensures { result ≡ changes_of list.items }
+    pub fn new(changes: Changes) -> Part
+        ensures { result ≡ changes }
     {
         Part {
-            held: Held::Own(list),
+            held: Held::Own(changes),
         }
     }
 
-    /// The changes themselves.
-    pub fn changes(&self) -> &[Change]
-        ensures { changes_of result.now ≡ self.now }
+    /// The list itself.
+    pub fn changes(&self) -> &Changes
+        ensures { result.now ≡ self.now }
     {
         match &self.held {
-            Held::Own(list) => list.as_slice(),
-            Held::Shared(list) => list.as_slice(),
+            Held::Own(changes) => changes,
+            Held::Shared(changes) => changes,
         }
     }
 
@@ -176,7 +176,7 @@ impl Part {
         requires { i < length self.now }
         ensures { slice_get self.now i ≡ Some (result.obj.0, result.by) }
     {
-        self.changes()[i]
+        self.changes().at(i)
     }
 
     /// The same changes, of which clones are cheap from now on.
@@ -185,11 +185,11 @@ impl Part {
     {
         let Part { held } = self;
         match held {
-            Held::Own(list) => Ok(Part {
-                held: Held::Shared(Arc::new(alloc, list)?),
+            Held::Own(changes) => Ok(Part {
+                held: Held::Shared(Arc::new(alloc, changes)?),
             }),
-            Held::Shared(list) => Ok(Part {
-                held: Held::Shared(list),
+            Held::Shared(changes) => Ok(Part {
+                held: Held::Shared(changes),
             }),
         }
     }
@@ -199,11 +199,11 @@ impl Part {
         ensures { IfOk result (λ p. p ≡ self.now) }
     {
         match &self.held {
-            Held::Own(list) => Ok(Part {
-                held: Held::Own(list.clone()?),
+            Held::Own(changes) => Ok(Part {
+                held: Held::Own(changes.try_clone()?),
             }),
-            Held::Shared(list) => Ok(Part {
-                held: Held::Shared(Arc::try_clone(list)?),
+            Held::Shared(changes) => Ok(Part {
+                held: Held::Shared(Arc::try_clone(changes)?),
             }),
         }
     }

@@ -1,6 +1,5 @@
 ghost use Rattle.std.specs.Prelude.{◌≡◌, ◌≤◌, ◌+◌, ◌%◌, ◌-ℤ◌, ◌<◌, IfOk, All, length, map, min, pos};
 ghost use Rattle.tk_input.specs.Logs.{IsObject};
-ghost use Rattle.tk_input.specs.Part.{changes_of};
 ghost use Rattle.tk_load.specs.Generated.{after_update, log_of, logs_made, made, shown, update_at};
 
 use rand_core::SeedableRng;
@@ -8,7 +7,7 @@ use rand_core::utils::NextWord;
 use rand_xoshiro::SplitMix64;
 use std::alloc::Global;
 use tk_base::{Mon, NoMemory, Obj};
-use tk_input::{Change, Part};
+use tk_input::{Change, Changes, Part};
 
 /// One update: the change of an object at a monitor.
 #[derive(Clone, Copy, Debug, PartialEq, Eq)]
@@ -84,23 +83,19 @@ pub fn updates_of(
 }
 
 /// The log of a monitor.
-fn log_at(
-    alloc: Global,
-    updates: &[Update],
-    mon: Mon,
-    objects: u32,
-) -> Result<Vec<Change>, NoMemory>
+fn log_at(alloc: Global, updates: &[Update], mon: Mon, objects: u32) -> Result<Changes, NoMemory>
     requires { All (λ u. IsObject objects u.change.obj.0) updates.now }
-    ensures value { IfOk result (λ list. changes_of list.items ≡ log_of mon.0 updates.now) }
-    ensures objects { IfOk result (λ list. All (λ c. IsObject objects c.0) (changes_of list.items)) }
-    ensures few { IfOk result (λ list. length (changes_of list.items) ≤ length updates.now) }
+    ensures value { IfOk result (λ list. list ≡ log_of mon.0 updates.now) }
+    ensures objects { IfOk result (λ list. All (λ c. IsObject objects c.0) list) }
+    ensures few { IfOk result (λ list. length list ≤ length updates.now) }
 {
-    let mut list = Vec::new(alloc);
+    let mut list = Changes::new(alloc);
     for update in updates {
         if update.mon == mon {
             list.push(update.change)?;
         }
     }
+    list.shrink_to_fit();
     Ok(list)
 }
 

@@ -1,6 +1,6 @@
 ghost use Rattle.std.specs.Prelude.{◌≡◌, IfOk, IfErr, IfSome, OnErr, Ok, is_some, length, map, option_map, true};
 ghost use Rattle.std.specs.List.{zip};
-ghost use Rattle.tk_input.specs.Part.{pair_of};
+ghost use Rattle.tk_input.specs.Changes.{pair_of};
 ghost use Rattle.tk_input.specs.declared.event.Event.TheVariants.{Raise as RaiseAlone};
 ghost use Rattle.tk_drain.specs.Drive.{keep};
 ghost use Rattle.tk_input.specs.Logs.{beginnings};
@@ -104,7 +104,12 @@ impl<N: Nodes + Drop> Multi<N> {
         worlds: Vec<World<N>>,
     ) -> Result<Multi<N>, NoMemory>
         requires { length watches.items ≡ length worlds.items }
-        ensures { IfOk result (λ m. m ≡ record { logs = logs; places = beginnings logs; watches = watches.items; worlds = worlds.items }) }
+        ensures { IfOk result (λ m. m ≡ record {
+          logs = logs;
+          places = beginnings logs;
+          watches = watches.items;
+          worlds = worlds.items;
+        }) }
     {
         let front = Front::start(alloc, &logs)?;
         Ok(Multi {

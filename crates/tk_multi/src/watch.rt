@@ -1,12 +1,12 @@
 ghost use Rattle.std.specs.Prelude.{◌≡◌, ◌++◌, IfOk, OnOk, length, map, option_map, option_to_list};
 ghost use Rattle.tk_input.specs.Catalog.{object_of};
-ghost use Rattle.tk_input.specs.Part.{changes_of, pair_of};
+ghost use Rattle.tk_input.specs.Changes.{pair_of};
 ghost use Rattle.tk_multi.specs.Projection.{Numbers, anew as anew_of, is_watched, watched_change, watched_in};
 
 use std::alloc::Global;
 use std::marker::Model;
 use tk_base::{NoMemory, Obj};
-use tk_input::{Catalog, Change, Part};
+use tk_input::{Catalog, Change, Changes, Part};
 
 /// For each object of a catalogue its number among those that a query watches, where it watches it.
 #[derive(Debug, Drop)]
@@ -53,9 +53,8 @@ impl Watch {
     }
 
     /// Adds a change, if its object is watched.
-    fn add_to(&self, list: &mut Vec<Change>, change: Change) -> Result<(), NoMemory>
-        ensures { OnOk result (changes_of list.new.items
-            ≡ changes_of list.old.items ++ option_to_list (watched_change self.now (pair_of change))) }
+    fn add_to(&self, list: &mut Changes, change: Change) -> Result<(), NoMemory>
+        ensures { OnOk result (list.new ≡ list.old ++ option_to_list (watched_change self.now (pair_of change))) }
     {
         if let Some(obj) = self.anew(change.obj) {
             list.push(Change { obj, by: change.by })?;
@@ -67,9 +66,10 @@ impl Watch {
     pub fn part(&self, alloc: Global, part: &Part) -> Result<Part, NoMemory>
         ensures { IfOk result (λ p. p ≡ watched_in self.now part.now) }
     {
-        let mut list = Vec::new(alloc);
-        for change in part.changes() {
-            self.add_to(&mut list, *change)?;
+        let all = part.changes();
+        let mut list = Changes::new(alloc);
+        for i in 0..all.len() {
+            self.add_to(&mut list, all.at(i))?;
         }
         list.shrink_to_fit();
         Ok(Part::new(list))

@@ -1,13 +1,12 @@
 -- The ticks of a log while it is read.
-use Rattle.std.proofs.Common.{◌≡◌, ℕ, ◌+◌, ◌<◌, ◌≤◌, ◌^◌, ℤ, unsigned_abs, Bool, false, List, [], ◌∷◌, ◌++◌, length, map, Result, Ok, Err, refl, sym, ap, ◌∙◌, subst, append_assoc, length-append, arith}
+use Rattle.std.proofs.Common.{◌≡◌, ℕ, ◌+◌, ◌<◌, ◌≤◌, ◌^◌, ℤ, unsigned_abs, false, List, [], ◌∷◌, ◌++◌, length, map, Result, Ok, Err, refl, sym, ap, ◌∙◌, append_assoc, length-append, arith}
 use Rattle.std.specs.Prelude.{All, Option, Some, None, sum_by, IfSome, bytes_eq, codes}
-use Rattle.std.proofs.lemmas.List.{append-nil, get_or-map, length-map, length_push, map-append}
+use Rattle.std.proofs.lemmas.List.{append-nil, length-map, length_push, map-append}
 use Rattle.std.proofs.lemmas.List.Elements.{All-push, All-weaker}
 use Rattle.std.proofs.lemmas.List.Sums.{sum_by-cons}
 use Rattle.csv.specs.Records.{field_at}
 use Rattle.tk_input.specs.Log.{IsFault}
 use Rattle.tk_input.specs.Logs.{IsObject}
-use Rattle.tk_input.specs.Part.{changes_of, pair_of}
 use Rattle.tk_input.specs.Records.{and_then, records_in, through}
 use Rattle.tk_input.specs.declared.change.Change.{Change}
 use Rattle.tk_input.specs.declared.part.PartFault.{PartFault}
@@ -135,7 +134,3 @@ ticks_fault names bytes before n fields rest rows e same is so_many fault =
     ap (λ (k : ℕ). and_then (λ more. Ok (before ++ more ∷ [])) (next_entry names k fields)) (sym so_many) ∙ ap (and_then (λ more. Ok (before ++ more ∷ []))) fault in
     meant_is (ticked_of names bytes) e
     (ap (and_then (λ (entries : List Entry). Ok (ticks_of entries))) (sym same ∙ through-fault (entry_added names) before fields rest rows e is here))
-
--- what holds of each change as a pair holds of it
-pub each_of : (P : ℕ × ℤ → Type 0) (list : List Change) → All P (changes_of list) → All (λ c. P (c.obj.0, c.by)) list
-each_of P list all k d within = subst P (get_or-map pair_of list k d (pair_of d) within) (all k (pair_of d) (omega (arith, length-map list pair_of)))

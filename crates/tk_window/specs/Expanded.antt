@@ -1,5 +1,5 @@
 -- Expanded logs as the code has them.
-use Rattle.std.specs.Prelude.{ℕ, ℤ, List, map, Vec}
+use Rattle.std.specs.Prelude.{ℕ, List, map, Vec}
 use Rattle.tk_base.specs.declared.ids.Mon.{Mon}
 use Rattle.tk_window.specs.TickEnds.{Sources}
 use Rattle.tk_window.specs.Window.{Expansion}

@@ -1,7 +1,7 @@
 -- The ticks of a log while it is read; no public clause cites this file.
-use Rattle.std.specs.Prelude.{ℕ, ◌+◌, ◌^◌, ◌<◌, ℤ, unsigned_abs, List, [], ◌∷◌, ◌++◌, map, All, Option, Some, None}
+use Rattle.std.specs.Prelude.{ℕ, ◌^◌, ◌<◌, ℤ, unsigned_abs, List, [], ◌∷◌, ◌++◌, map, All, Option, Some, None}
 use Rattle.tk_input.specs.Logs.{IsObject}
-use Rattle.tk_input.specs.Part.{pair_of}
+use Rattle.tk_input.specs.Changes.{pair_of}
 use Rattle.tk_input.specs.declared.change.Change.{Change}
 use Rattle.tk_window.specs.Ticks.{Entry}
 use Rattle.tk_window.specs.Ticks.Entry.{Made, Mark}

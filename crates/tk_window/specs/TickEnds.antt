@@ -1,5 +1,5 @@
 -- At which ticks the places of a cut stand.
-use Rattle.std.specs.Prelude.{ℕ, max, ◌==◌, List, [], ◌∷◌, filter, fold, map, Option, Some, None, option_and_then, option_map}
+use Rattle.std.specs.Prelude.{ℕ, max, ◌==◌, List, [], ◌∷◌, filter, fold, map, Option, Some, option_and_then, option_map}
 use Rattle.std.specs.List.{range_with_len, zip}
 use Rattle.tk_base.specs.declared.ids.Mon.{Mon}
 use Rattle.tk_input.specs.Judged.{Assigned}

@@ -1,5 +1,5 @@
 -- The ticks of a log: a record of the single field `tick` ends one, and every other record is a change.
-use Rattle.std.specs.Prelude.{◌≡◌, ℕ, ◌+◌, ◌-◌, ◌^◌, ◌<◌, ◌≤◌, ℤ, unsigned_abs, Bool, false, bytes_eq, codes, nat_le, if◌then◌else◌, List, [], ◌∷◌, ◌++◌, length, sum_by, All, Result, Ok, Err}
+use Rattle.std.specs.Prelude.{ℕ, ◌+◌, ◌^◌, ◌<◌, ◌≤◌, ℤ, unsigned_abs, Bool, false, bytes_eq, codes, nat_le, if◌then◌else◌, List, [], ◌∷◌, ◌++◌, length, sum_by, All, Result, Ok, Err}
 use Rattle.tk_input.specs.Log.{next_change}
 use Rattle.tk_input.specs.Logs.{IsObject}
 use Rattle.tk_input.specs.Records.{and_then, records_in, through}

@@ -1,6 +1,6 @@
 -- Sums over a sliding window of ticks, and the log that moves such a window: in front of the changes of a tick it takes
 -- back those that leave the window.
-use Rattle.std.specs.Prelude.{◌≡◌, ℕ, suc, zero, ◌-◌, ◌<◌, ◌≤◌, ℤ, neg_ℤ, nat_lt, ◌==◌, if◌then◌else◌, List, [], ◌∷◌, ◌++◌, length, map, flat_map, take, drop, position, slice_index_or, Option, Result, Ok, Err}
+use Rattle.std.specs.Prelude.{◌≡◌, ℕ, suc, zero, ◌-◌, ◌≤◌, ℤ, neg_ℤ, nat_lt, ◌==◌, if◌then◌else◌, List, [], ◌∷◌, ◌++◌, length, map, flat_map, take, drop, position, slice_index_or, Option, Result, Ok, Err}
 use Rattle.std.specs.List.{range_with_len}
 use Rattle.tk_input.specs.Logs.{sum_for}
 use Rattle.tk_window.specs.declared.fault.ExpandFault.{ExpandFault}

@@ -1,5 +1,4 @@
 ghost use Rattle.std.specs.Prelude.{◌≡◌, ℕ, ◌<◌, ◌≤◌, ◌^◌, ◌++◌, IfOk, IfErr, OnOk, Ok, All, length, unsigned_abs};
-ghost use Rattle.tk_input.specs.Part.{changes_of};
 ghost use Rattle.tk_window.specs.Ticks.{AreOver, IsTick};
 ghost use Rattle.tk_window.specs.Window.{IsExpandFault, SumsToWindow, expanded_of, step_to, up_to, withdrawn};
 
@@ -8,16 +7,17 @@ use crate::fault::ExpandFault;
 use crate::ticked::Ticked;
 use std::alloc::Global;
 use tk_base::NoMemory;
-use tk_input::{Change, Part};
+use tk_input::{Change, Changes, Part};
 
 const MAX_CHANGES: u64 = 1_000_000;
 
 /// Takes some changes back.
-fn withdraw(list: &mut Vec<Change>, changes: &[Change]) -> Result<(), NoMemory>
-    requires { All (λ c. unsigned_abs c.by < 2 ^ 127) changes.now }
-    ensures { OnOk result (changes_of list.new.items ≡ changes_of list.old.items ++ withdrawn (changes_of changes.now)) }
+fn withdraw(list: &mut Changes, changes: &Changes) -> Result<(), NoMemory>
+    requires { All (λ c. unsigned_abs c.1 < 2 ^ 127) changes.now }
+    ensures { OnOk result (list.new ≡ list.old ++ withdrawn changes.now) }
 {
-    for change in changes {
+    for i in 0..changes.len() {
+        let change = changes.at(i);
         list.push(Change {
             obj: change.obj,
             by: -change.by,
@@ -26,16 +26,25 @@ fn withdraw(list: &mut Vec<Change>, changes: &[Change]) -> Result<(), NoMemory>
     Ok(())
 }
 
+/// Adds some changes.
+fn add(list: &mut Changes, changes: &Changes) -> Result<(), NoMemory>
+    ensures { OnOk result (list.new ≡ list.old ++ changes.now) }
+{
+    for i in 0..changes.len() {
+        list.push(changes.at(i))?;
+    }
+    Ok(())
+}
+
 /// Moves the window to a tick.
-fn step(list: &mut Vec<Change>, ticked: &Ticked, width: u32, t: u32) -> Result<(), NoMemory>
+fn step(list: &mut Changes, ticked: &Ticked, width: u32, t: u32) -> Result<(), NoMemory>
     requires { IsTick ticked.now t }
-    ensures { OnOk result (changes_of list.new.items ≡ changes_of list.old.items ++ step_to width ticked.now t) }
+    ensures { OnOk result (list.new ≡ list.old ++ step_to width ticked.now t) }
 {
     if t > width {
         withdraw(list, ticked.changes(t - width))?;
     }
-    list.extend_from_slice(ticked.changes(t))?;
-    Ok(())
+    add(list, ticked.changes(t))
 }
 
 /// How many changes such a step has.
@@ -80,12 +89,13 @@ pub fn expand(alloc: Global, ticked: &Ticked, width: u32) -> Result<Expanded, Ex
     if length > MAX_CHANGES {
         return Err(ExpandFault::TooLong { length });
     }
-    let mut list = Vec::with_capacity(alloc, length as usize)?;
+    let mut list = Changes::new(alloc);
     let mut ends = Vec::with_capacity(alloc, ticked.ticks() as usize)?;
     for i in 0..ticked.ticks() {
         step(&mut list, ticked, width, i + 1)?;
         ends.push(list.len() as u32)?;
     }
+    list.shrink_to_fit();
     let part = Part::new(list).share(alloc)?;
     Ok(Expanded { part, ends })
 }

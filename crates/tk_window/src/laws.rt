@@ -7,7 +7,8 @@ ghost use Rattle.tk_window.specs.Validity.{IsWindowValid, expanded_ends, expande
 /// A cut at which ticks end has the totals of the windows at these ticks.
 pub fn totals_are_those_of_the_windows()
     ensures { (width o : ℕ) (logs : List (List (List (List (ℕ × ℤ))))) (cut ticks : List (List ℕ))
-        → ticks_at (expanded_ends width logs) cut ≡ Some ticks → total (expanded_logs width logs) o cut ≡ window_total width logs o ticks }
+        → ticks_at (expanded_ends width logs) cut ≡ Some ticks
+        → total (expanded_logs width logs) o cut ≡ window_total width logs o ticks }
 {}
 
 /// So a set that is valid there is valid for the windows.

@@ -2,7 +2,6 @@ ghost use Rattle.std.specs.Prelude.{◌≡◌, ◌<◌, ◌≤◌, ◌+◌, ◌^
 ghost use Rattle.csv.specs.Records.{fields_of};
 ghost use Rattle.tk_input.specs.Log.{IsFault};
 ghost use Rattle.tk_input.specs.Logs.{IsObject};
-ghost use Rattle.tk_input.specs.Part.{changes_of};
 ghost use Rattle.tk_window.specs.Reading.{IsChange, entry_of, grown};
 ghost use Rattle.tk_window.specs.Ticks.{AreOver, AreTicks, IsTick, is_mark as is_mark_of, next_entry as next_entry_of};
 ghost use Rattle.tk_window.specs.Window.{changes_at};
@@ -12,7 +11,7 @@ use std::alloc::Global;
 use std::marker::Model;
 use std::mem;
 use tk_base::NoMemory;
-use tk_input::{Catalog, Change, Part, PartFault, Records, next_change};
+use tk_input::{Catalog, Change, Changes, Part, PartFault, Records, next_change};
 
 const MAX_RECORDS: usize = 1_000_000;
 
@@ -68,11 +67,11 @@ fn next_entry(names: &Catalog, row: &ByteRecord, before: usize) -> Result<Option
 fn take_entry(
     alloc: Global,
     closed: &mut Vec<Part>,
-    last: &mut Vec<Change>,
+    last: &mut Changes,
     entry: Option<Change>,
 ) -> Result<(), NoMemory>
-    ensures { OnOk result (record { closed = closed.new.items; last = changes_of last.new.items }
-        ≡ grown (record { closed = closed.old.items; last = changes_of last.old.items }) (entry_of entry)) }
+    ensures { OnOk result (record { closed = closed.new.items; last = last.new }
+        ≡ grown (record { closed = closed.old.items; last = last.old }) (entry_of entry)) }
 {
     match entry {
         Some(change) => {
@@ -80,7 +79,7 @@ fn take_entry(
             Ok(())
         }
         None => {
-            let tick = mem::replace(last, Vec::new(alloc));
+            let tick = mem::replace(last, Changes::new(alloc));
             closed.push(Part::new(tick))?;
             Ok(())
         }
@@ -100,7 +99,7 @@ impl Ticked {
         let mut rows = Records::new(alloc, bytes);
         let mut row = ByteRecord::new(alloc);
         let mut closed = Vec::new(alloc);
-        let mut last = Vec::new(alloc);
+        let mut last = Changes::new(alloc);
         let mut records = 0;
         while rows.next(&mut row)? {
             let entry = next_entry(names, &row, records)?;
@@ -120,11 +119,11 @@ impl Ticked {
     }
 
     /// The changes of a tick, from 1.
-    pub fn changes(&self, t: u32) -> &[Change]
+    pub fn changes(&self, t: u32) -> &Changes
         requires { IsTick self.now t }
-        ensures value { changes_of result.now ≡ changes_at self.now t }
+        ensures value { result.now ≡ changes_at self.now t }
         ensures most { length result.now ≤ 1000000 }
-        ensures sizes { All (λ c. unsigned_abs c.by < 2 ^ 127) result.now }
+        ensures sizes { All (λ c. unsigned_abs c.1 < 2 ^ 127) result.now }
     {
         self.ticks[t as usize - 1].changes()
     }
@@ -144,6 +143,6 @@ impl Ticked {
         requires place { i < length (changes_at self.now t) }
         ensures { slice_get (changes_at self.now t) i ≡ Some (result.obj.0, result.by) }
     {
-        self.changes(t)[i as usize]
+        self.changes(t).at(i as usize)
     }
 }

@@ -29,8 +29,8 @@ fn shown(alloc: Global, text: &str, width: u32) -> Option<(Vec<i128>, Vec<u32>)>
 {
     let Expanded { part, ends } = expanded(alloc, text, width)?;
     let mut sizes = Vec::new(alloc);
-    for change in part.changes() {
-        sizes.push(change.by).ok()?;
+    for i in 0..part.len() {
+        sizes.push(part.at(i).by).ok()?;
     }
     Some((sizes, ends))
 }

@@ -2,7 +2,6 @@
 
 ghost use Rattle.std.specs.Prelude.{◌≡◌, ◌*◌, ◌≤◌, ◌^◌, All, if◌then◌else◌, ◌==◌, length, pos, take, unsigned_abs};
 ghost use Rattle.tk_input.specs.Logs.{ArePlaces, IsCut, sum_for, total as total_at, value_of, weight_for, weight_of};
-ghost use Rattle.tk_input.specs.Part.{changes_of};
 ghost use Rattle.tk_input.specs.Rows.{logs_in};
 
 use crate::change::Change;
@@ -15,25 +14,18 @@ fn by_of(change: Change, obj: Obj) -> i128
     if change.obj == obj { change.by } else { 0 }
 }
 
-fn sum_of(changes: &[Change], obj: Obj) -> i128
-    requires { weight_for obj.0 (changes_of changes.now) ≤ 2 ^ 100 }
-    ensures value { result ≡ sum_for obj.0 (changes_of changes.now) }
-    ensures size { unsigned_abs result ≤ weight_for obj.0 (changes_of changes.now) }
-{
-    let mut sum = 0;
-    for change in changes {
-        sum += by_of(*change, obj);
-    }
-    sum
-}
-
 fn front_sum(part: &Part, place: u32, obj: Obj) -> i128
     requires place { place ≤ length part.now }
     requires weight { weight_for obj.0 part.now ≤ 2 ^ 100 }
     ensures value { result ≡ sum_for obj.0 (take place part.now) }
     ensures size { unsigned_abs result ≤ 2 ^ 100 }
 {
-    sum_of(&part.changes()[..place as usize], obj)
+    let changes = part.changes();
+    let mut sum = 0;
+    for i in 0..place as usize {
+        sum += by_of(changes.at(i), obj);
+    }
+    sum
 }
 
 /// The sum of the changes of an object that these places of a monitor reach.

@@ -3,10 +3,10 @@
 
 ghost use Rattle.std.specs.Prelude.{◌≡◌, ◌+◌, ◌^◌, IfOk, All, EachIndex, if◌then◌else◌, ◌==◌, length, nat_lt, position, slice_index, unsigned_abs};
 ghost use Rattle.tk_input.specs.Logs.{IsObject, weight_for, weight_of};
-ghost use Rattle.tk_input.specs.Part.{changes_of};
 ghost use Rattle.tk_input.specs.Rows.{capped};
 
 use crate::change::Change;
+use crate::changes::Changes;
 use crate::part::Part;
 use std::alloc::Global;
 use tk_base::NoMemory;
@@ -22,18 +22,20 @@ fn add_weight(weights: &mut [u128], change: Change)
     weights[place] = weights[place].saturating_add(change.by.unsigned_abs());
 }
 
-fn weigh(weights: &mut [u128], changes: &[Change])
-    requires { All (λ c. IsObject (length weights.old) c.obj.0) changes.now }
-    ensures { EachIndex weights.new (λ i. slice_index weights.new i ≡ capped (slice_index weights.old i + weight_for (i + 1) (changes_of changes.now))) }
+fn weigh(weights: &mut [u128], changes: &Changes)
+    requires { All (λ c. IsObject (length weights.old) c.0) changes.now }
+    ensures { EachIndex weights.new (λ i. slice_index weights.new i
+        ≡ capped (slice_index weights.old i + weight_for (i + 1) changes.now)) }
 {
-    for change in changes {
-        add_weight(weights, *change);
+    for i in 0..changes.len() {
+        add_weight(weights, changes.at(i));
     }
 }
 
 fn weigh_all(weights: &mut [u128], row: &[Part])
     requires { All (λ part. All (λ c. IsObject (length weights.old) c.0) part) row.now }
-    ensures { EachIndex weights.new (λ i. slice_index weights.new i ≡ capped (slice_index weights.old i + weight_of row.now (i + 1))) }
+    ensures { EachIndex weights.new (λ i. slice_index weights.new i
+        ≡ capped (slice_index weights.old i + weight_of row.now (i + 1))) }
 {
     for part in row {
         weigh(weights, part.changes());

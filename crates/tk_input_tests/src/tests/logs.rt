@@ -6,7 +6,7 @@ ghost use Rattle.tk_input.specs.Logs.{IsObject};
 use std::alloc::Global;
 use std::test::Fail;
 use tk_base::{Cut, Mon, Obj, Places};
-use tk_input::{Change, Logs, LogsFault, Part};
+use tk_input::{Change, Changes, Logs, LogsFault, Part};
 
 const LIMIT: i128 = 1_267_650_600_228_229_401_496_703_205_376;
 
@@ -17,8 +17,11 @@ fn part_of(alloc: Global, by: i128, many: usize) -> Result<Part, Fail>
     ensures objects { IfOk result (λ p. All (λ c. IsObject 1 c.0) p) }
     ensures most { IfOk result (λ p. length p ≤ 1000000) }
 {
-    let list = vec![in alloc; Change { obj: Obj(1), by }; many]?;
-    Ok(Part::new(list))
+    let mut changes = Changes::new(alloc);
+    for _ in 0..many {
+        changes.push(Change { obj: Obj(1), by })?;
+    }
+    Ok(Part::new(changes))
 }
 
 /// So many parts of one monitor, each of so many changes by nothing.

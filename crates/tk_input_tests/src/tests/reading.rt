@@ -72,9 +72,9 @@ fn a_log_is_its_changes(rt: HostRuntime) -> Result<(), Fail> {
     let part = Part::read(alloc, b"a,1\nb,-0002\r\n\"a\",+3\nb,0", &names)?;
     let by = [(1, 1), (2, -2), (1, 3), (2, 0)];
     assert_eq!(rt; part.len(), by.len());
-    for (change, (obj, by)) in part.changes().iter().zip(by.iter()) {
+    for (i, (obj, by)) in by.iter().enumerate() {
         assert_eq!(rt;
-            *change,
+            part.at(i),
             Change {
                 obj: Obj(*obj),
                 by: *by
@@ -85,7 +85,22 @@ fn a_log_is_its_changes(rt: HostRuntime) -> Result<(), Fail> {
     let most = b"a,-99999999999999999999999999999999999999".as_slice();
     let part = Part::read(alloc, most, &names)?;
     let by = -99_999_999_999_999_999_999_999_999_999_999_999_999;
-    assert!(rt; part.changes().iter().all(|change| change.by == by));
+    assert_eq!(rt; part.len(), 1);
+    assert_eq!(rt; part.at(0).by, by);
+    Ok(())
+}
+
+#[test]
+fn a_log_keeps_its_changes_past_four_bytes(rt: HostRuntime) -> Result<(), Fail> {
+    let alloc = rt.alloc();
+    let names = Catalog::read(alloc, b"a\n")?;
+    let text = b"a,2147483647\na,-2147483648\na,2147483648\na,-1\n".as_slice();
+    let part = Part::read(alloc, text, &names)?;
+    let by = [2_147_483_647, -2_147_483_648, 2_147_483_648, -1];
+    assert_eq!(rt; part.len(), by.len());
+    for (i, by) in by.iter().enumerate() {
+        assert_eq!(rt; part.at(i).by, *by);
+    }
     Ok(())
 }
 

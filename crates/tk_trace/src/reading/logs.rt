@@ -3,7 +3,7 @@
 ghost use Rattle.std.specs.Prelude.{◌≡◌, ◌≤◌, ◌++◌, length, All, IfOk, OnOk};
 ghost use Rattle.tk_input.specs.Judged.{logs_of};
 ghost use Rattle.tk_input.specs.Logs.{IsObject};
-ghost use Rattle.tk_input.specs.Part.{changes_of, pair_of};
+ghost use Rattle.tk_input.specs.Changes.{pair_of};
 ghost use Rattle.tk_input.specs.Rows.{logs_in};
 ghost use Rattle.tk_trace.specs.Assigned.{assigned_from, under};
 ghost use Rattle.tk_trace.specs.Spelling.{IsOneOf};
@@ -13,7 +13,7 @@ use super::fields::{byte, i128_at, one_of, u32_at};
 use crate::fault::ParseFault;
 use std::alloc::Global;
 use tk_base::{Mon, NoMemory, Obj};
-use tk_input::{Change, Logs, LogsFault, Part};
+use tk_input::{Change, Changes, Logs, LogsFault, Part};
 
 const MAX_CHANGES: u32 = 1_000_000;
 
@@ -33,16 +33,17 @@ fn changes(
     objects: u32,
     count: u32,
     bytes: &[u8],
-) -> Result<(Vec<Change>, &[u8]), ParseFault>
-    ensures { Gives (λ x. (changes_of x.0.items, x.1.now)) result (times_at (change_at objects) count bytes.now) }
+) -> Result<(Changes, &[u8]), ParseFault>
+    ensures { Gives (λ x. (x.0, x.1.now)) result (times_at (change_at objects) count bytes.now) }
 {
-    let mut list = Vec::new(alloc);
+    let mut list = Changes::new(alloc);
     let mut rest = bytes;
     for _ in 0..count {
         let (item, after) = change(objects, rest)?;
         list.push(item)?;
         rest = after;
     }
+    list.shrink_to_fit();
     Ok((list, rest))
 }
 

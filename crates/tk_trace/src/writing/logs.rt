@@ -2,13 +2,13 @@
 
 ghost use Rattle.std.specs.Prelude.{◌≡◌, ◌++◌, ◌≤◌, length, All, OnOk};
 ghost use Rattle.std.specs.List.{flat_map};
-ghost use Rattle.tk_input.specs.Part.{changes_of, pair_of};
+ghost use Rattle.tk_input.specs.Changes.{pair_of};
 ghost use Rattle.tk_trace.specs.Spelling.{change as change_of, part as part_of, row as row_of};
 
 use super::fields::{count, number_u8, number_u32, signed_i128};
 use std::alloc::Global;
 use tk_base::{Mon, NoMemory};
-use tk_input::{Change, Logs, Part};
+use tk_input::{Change, Changes, Logs, Part};
 
 fn change(out: &mut Vec<u8>, change: Change) -> Result<(), NoMemory>
     ensures { OnOk result (out.new.items ≡ out.old.items ++ change_of (pair_of change)) }
@@ -17,11 +17,11 @@ fn change(out: &mut Vec<u8>, change: Change) -> Result<(), NoMemory>
     signed_i128(out, change.by)
 }
 
-fn changes(out: &mut Vec<u8>, changes: &[Change]) -> Result<(), NoMemory>
-    ensures { OnOk result (out.new.items ≡ out.old.items ++ flat_map change_of (changes_of changes.now)) }
+fn changes(out: &mut Vec<u8>, changes: &Changes) -> Result<(), NoMemory>
+    ensures { OnOk result (out.new.items ≡ out.old.items ++ flat_map change_of changes.now) }
 {
-    for item in changes {
-        change(out, *item)?;
+    for i in 0..changes.len() {
+        change(out, changes.at(i))?;
     }
     Ok(())
 }
@@ -54,6 +54,7 @@ fn row(out: &mut Vec<u8>, row: &[Part]) -> Result<(), NoMemory>
     parts(out, row)
 }
 
+/// Appends the logs.
 pub fn put_logs(alloc: Global, out: &mut Vec<u8>, logs: &Logs) -> Result<(), NoMemory>
     ensures { OnOk result (out.new.items ≡ out.old.items ++ flat_map row_of logs.now.logs) }
 {

@@ -1,5 +1,4 @@
-use Rattle.std.proofs.Common.{◌≡◌, ◌+◌, sym, ap, length, ℕ, ℤ, List, arith}
-use Rattle.tk_window.specs.Window.{step_to, up_to}
+use Rattle.std.proofs.Common.{sym, ap, length, ℕ, ℤ, List, arith}
 use Rattle.tk_window.proofs.WindowLemmas.{length-up_to_next, up_to_none}
 use Rattle.tk_window.proofs.expanding.expanded_length.Goals as goal
 

@@ -1,4 +1,4 @@
-use Rattle.std.proofs.Common.{◌≡◌, ◌∙◌, ◌<◌, ℕ, List, [], Some, None, Option, length, sym, ap, arith}
+use Rattle.std.proofs.Common.{◌∙◌, ◌<◌, ℕ, List, [], Some, Option, length, sym, ap, arith}
 use Rattle.std.specs.List.{zip}
 use Rattle.tk_window.specs.Expanded.{ends_shown}
 use Rattle.tk_window.specs.Window.{tick_ending}

@@ -1,21 +1,23 @@
-use Rattle.std.proofs.Common.{◌≡◌, ℕ, ℤ, List, All, replicate, arith, ap, subst, sym, ◌∙◌, FitsSigned, to_z, of_z}
+use Rattle.std.proofs.Common.{◌≡◌, ℕ, ℤ, List, [], ◌∷◌, ◌++◌, All, replicate, arith, ap, subst, sym, ◌∙◌, FitsSigned, to_z, of_z}
 use Rattle.std.specs.Int.{w128}
 use Rattle.std.proofs.lemmas.Int.{ints, to_z-of_z}
+use Rattle.std.proofs.lemmas.List.{replicate_more}
 use Rattle.std.proofs.lemmas.List.Elements.{All-replicate}
 use Rattle.tk_input.specs.Logs.{IsObject}
-use Rattle.tk_input.specs.Part.{changes_of}
-use Rattle.tk_input.specs.declared.change.Change.{Change}
-use Rattle.tk_input_tests.proofs.PartLemmas.{same_changes}
 use Rattle.tk_input_tests.proofs.tests.logs.part_of.Goals as goal
+
+pub loop-preserved : goal.loop-preserved
+loop-preserved c =
+    let same : ℕ × ℤ = (1, to_z w128 (of_z w128 c.args.by)) in
+    c.in_ok-push.ensures.ok ∙ ap (λ (list : List (ℕ × ℤ)). list ++ same ∷ []) c.loop.invariant ∙ replicate_more c.loop.counter same
 
 -- the changes are equal ones
 are : (c : goal.After-new) → c.new.result ≡ replicate c.args.many (1, c.args.by)
 are c =
     let fits : FitsSigned w128 c.args.by = omega (arith, ints, c.ranges.by.sfits) in
-    let change : Change = record { obj = record { 0 = 1 }; by = to_z w128 (of_z w128 c.args.by) } in
     c.new.ensures
-    ∙ ap (λ (list : List Change). changes_of list) (c.in_ok-list.ensures.items_if_clones_equal (λ y same. same))
-    ∙ same_changes c.args.many change
+    ∙ c.loop.invariant
+    ∙ ap (λ (n : ℕ). replicate n (1, to_z w128 (of_z w128 c.args.by))) (omega arith)
     ∙ ap (λ (by : ℤ). replicate c.args.many (1, by)) (to_z-of_z w128 c.args.by fits)
 
 pub returns-clause-value : goal.returns-clause-value

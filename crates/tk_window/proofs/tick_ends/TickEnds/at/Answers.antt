@@ -1,9 +1,8 @@
-use Rattle.std.proofs.Common.{◌≡◌, ◌∙◌, ◌+◌, ◌<◌, ◌++◌, ◌∷◌, ℕ, List, [], Some, None, Option, length, map, take, get_or, sym, ap, subst, arith}
+use Rattle.std.proofs.Common.{◌≡◌, ◌∙◌, ◌+◌, ◌<◌, ◌++◌, ◌∷◌, ℕ, List, [], Some, Option, length, map, take, sym, ap, subst, arith}
 use Rattle.std.specs.List.{zip}
 use Rattle.std.proofs.lemmas.Option.{get_or_from_slice_get}
 use Rattle.tk_window.specs.Expanded.{ends_shown, rows_shown}
 use Rattle.tk_window.specs.TickEnds.{all_of, ticks_at, ticks_in}
-use Rattle.tk_window.specs.declared.expanded.Expanded.{Expanded}
 use Rattle.tk_window.proofs.TickEndsLemmas.{found_all, found_next, found_none, length-rows, ticks_here}
 use Rattle.tk_window.proofs.tick_ends.TickEnds.at.Goals as goal
 
