@@ -10,6 +10,7 @@ mod ends;
 mod joined;
 mod kept;
 mod resting;
+mod same;
 mod story;
 mod validity;
 
@@ -25,6 +26,7 @@ pub use joined::{
 };
 pub use kept::{a_journal_begins_with_its_opening, ends_agree_or_differ, what_is_odd_was_not_sent};
 pub use resting::{still_at_the_ends_is_over, still_at_the_ends_is_stopped, still_is_quiet};
+pub use same::{is_same_entry, is_same_noted};
 pub use story::Story;
 pub use validity::{
     a_moment_is_a_story, empty_links_leave_no_round_open, published_is_valid, quiet_is_valid,

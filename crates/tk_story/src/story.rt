@@ -111,12 +111,14 @@ impl Story {
         }
     }
 
+    /// The logs that it is over.
     pub fn logs(&self) -> &Logs
         ensures { result.now ≡ self.now.story.logs }
     {
         &self.logs
     }
 
+    /// What its coordinator was made with.
     pub fn settings(&self) -> &Settings
         ensures { result.now ≡ self.now.story.settings }
     {
@@ -130,12 +132,14 @@ impl Story {
         &self.from
     }
 
+    /// The events kept with it, in order.
     pub fn events(&self) -> &[Event]
         ensures { result.now ≡ self.now.events }
     {
         self.events.as_slice()
     }
 
+    /// What its coordinator did.
     pub fn journal(&self) -> &[Noted]
         ensures value { result.now ≡ self.now.story.journal }
         ensures legal { IsStory self.now.story }
@@ -150,6 +154,7 @@ impl Story {
         self.coordinator.turns()
     }
 
+    /// What a monitor did.
     pub fn trail(&self, mon: Mon) -> &[Entry]
         requires some { 0 < mon.0 }
         requires monitor { mon.0 ≤ self.now.story.settings.monitors }

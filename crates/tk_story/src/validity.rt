@@ -18,8 +18,10 @@ pub fn quiet_is_valid()
 
 /// Where all links are empty, no round is open.
 pub fn empty_links_leave_no_round_open()
-    ensures { (s : StoryView) → IsStory s → ((mon : ℕ) → IsMonitor s.settings mon → taken_by (trail_of s mon) ≡ frames_to mon s.journal)
-        → ((mon : ℕ) → IsMonitor s.settings mon → frames_from mon s.journal ≡ sent_by (trail_of s mon)) → is_open s.settings s.journal ≡ false }
+    ensures { (s : StoryView) → IsStory s
+        → ((mon : ℕ) → IsMonitor s.settings mon → taken_by (trail_of s mon) ≡ frames_to mon s.journal)
+        → ((mon : ℕ) → IsMonitor s.settings mon → frames_from mon s.journal ≡ sent_by (trail_of s mon))
+        → is_open s.settings s.journal ≡ false }
 {}
 
 /// A published set holds at its cut, with its own k and epsilon.

@@ -25,7 +25,7 @@ use Rattle.tk_story.specs.declared.ends.received.Received.TheVariants as r
 use Rattle.tk_story.proofs.EndsLemmas.{front_maps}
 use Rattle.tk_story.proofs.KeptLemmas.{never_both, one_first}
 use Rattle.tk_story.proofs.PublishedLemmas.{IsPublished, last_is_full, published_holds}
-use Rattle.tk_verify.specs.Recorded.{Finds, IsFinished, IsFirstFaultOf, IsFirstUnordered, is_final, links_of}
+use Rattle.tk_verify.specs.Recorded.{Finds, ReachesItsEnd, IsFirstFaultOf, IsFirstUnordered, is_final, links_of}
 use Rattle.tk_verify.specs.Verifying.{AreLegalTrails}
 use Rattle.tk_verify.specs.declared.finding.Finding.{Finding}
 use Rattle.tk_verify.specs.declared.finding.Finding.TheVariants as f
@@ -151,7 +151,7 @@ last_is ps count p size at =
     let within = slice_get_within ps (count - 1) p at in
     sym (ap is_final (last_from None ps (count - 1) p at (omega (arith, size, within))))
 
-pub finished : (s : StoryView) → IsStory s → is_final (last_of (publications s.journal)) ≡ true → IsFinished s
+pub finished : (s : StoryView) → IsStory s → is_final (last_of (publications s.journal)) ≡ true → ReachesItsEnd s
 finished s h final =
     let k = one_less s.settings.monitors h.limits.some_monitor in
     let e = legal_ends (start s.settings) k.0 k.1 s.journal h.journal_legal in

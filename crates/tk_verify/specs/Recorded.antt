@@ -95,7 +95,7 @@ Finds s f.NoMemory = ⊥
 
 -- the journal came to its end: behind the final publication, at the full cut and valid there, stands Stop to each
 -- monitor and no more
-pub record IsFinished (s : StoryView) : Type 0 where
+pub record ReachesItsEnd (s : StoryView) : Type 0 where
   pub front : List Noted
   pub final : Publication
   pub is : s.journal ≡ front ++ n.Published final ∷ stops s.settings

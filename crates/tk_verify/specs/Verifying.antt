@@ -15,7 +15,7 @@ use Rattle.tk_story.specs.Kept.{KeptStory}
 use Rattle.tk_story.specs.Story.{IsStory, StoryView, setup_of, trail_of}
 use Rattle.tk_story.specs.declared.ends.join_fault.JoinFault.{JoinFault}
 use Rattle.tk_story.specs.declared.ends.join_fault.JoinFault.TheVariants as j
-use Rattle.tk_verify.specs.Recorded.{AreAgreed, Finds, IsFinished, is_final, recorded_from}
+use Rattle.tk_verify.specs.Recorded.{AreAgreed, Finds, ReachesItsEnd, is_final, recorded_from}
 use Rattle.tk_verify.specs.declared.finding.Finding.{Finding}
 use Rattle.tk_verify.specs.declared.finding.Finding.TheVariants as f
 use Rattle.tk_verify.specs.declared.halt.Halt.{Halt}
@@ -35,6 +35,10 @@ is_unjoined j.NoMemory = f.NoMemory
 abbrev pub AreLegalTrails : StoryView → Type 0
 AreLegalTrails s = (mon : ℕ) → IsMonitor s.settings mon → IsLegalTrail (setup_of s mon) (trail_of s mon)
 
+-- the story that nodes tell of a run from some places, legal or not
+abbrev pub driven_story : List (List ℕ) → Setup → LogSet → CoordinatorView → List MonitorView → StoryView
+driven_story from settings logs coordinator nodes = recorded_from from settings logs coordinator.journal (map (λ m. m.trail) nodes)
+
 -- nodes that were driven over a record: their histories are legal
 pub record AreDriven (settings : Setup) (logs : LogSet) (from : List (List ℕ)) (coordinator : CoordinatorView) (nodes : List MonitorView) : Type 0 where
   pub agreed : AreAgreed settings logs
@@ -42,9 +46,9 @@ pub record AreDriven (settings : Setup) (logs : LogSet) (from : List (List ℕ))
   pub settings_is : coordinator.settings ≡ settings
   pub made : map as_made nodes ≡ map (made_for settings logs from) (monitors settings)
   pub legal : IsLegal (start settings) coordinator.journal
-  pub trails : AreLegalTrails (recorded_from from settings logs coordinator.journal (map (λ m. m.trail) nodes))
+  pub trails : AreLegalTrails (driven_story from settings logs coordinator nodes)
 
 -- what a verification answers of a record: its story, or what is found
 abbrev pub Judges : StoryView → Result KeptStory Finding → Type 0
-Judges s (Ok kept) = (kept.story ≡ s) × (kept.events ≡ []) × IsStory s × IsFinished s × (is_final (last_of (publications s.journal)) ≡ true)
+Judges s (Ok kept) = (kept.story ≡ s) × (kept.events ≡ []) × IsStory s × ReachesItsEnd s × (is_final (last_of (publications s.journal)) ≡ true)
 Judges s (Err finding) = (finding ≡ f.NoMemory) ⊎ Finds s finding

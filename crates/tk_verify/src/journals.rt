@@ -11,12 +11,12 @@ ghost use Rattle.tk_verify.specs.Driving.{Halts, IsDriven, Leads};
 ghost use Rattle.tk_verify.specs.Recorded.{is_final};
 
 use crate::halt::Halt;
-use crate::same::is_same_noted;
 use std::alloc::Global;
 use tk_base::{Mon, NoMemory, Settings};
 use tk_coord::{CoordRefusal, Coordinator, RetuneRefusal};
 use tk_frames::Frame;
 use tk_journal::Noted;
+use tk_story::is_same_noted;
 
 /// Passes on want of memory alone.
 fn unless_memory(refusal: CoordRefusal) -> Result<(), NoMemory>
@@ -42,7 +42,8 @@ fn unless_room(refusal: RetuneRefusal) -> Result<(), NoMemory>
 fn take(coordinator: &mut Coordinator, mon: Mon, frame: &Frame) -> Result<(), NoMemory>
     requires { IsLegal (start coordinator.old.settings) coordinator.old.journal }
     ensures settings { coordinator.new.settings ≡ coordinator.old.settings }
-    ensures leads { OnOk result (Leads (IsLegal (start coordinator.old.settings)) coordinator.old.journal (n.Got mon frame.now) coordinator.new.journal) }
+    ensures leads { OnOk result (Leads (IsLegal (start coordinator.old.settings))
+        coordinator.old.journal (n.Got mon frame.now) coordinator.new.journal) }
 {
     if mon.0 == 0 || mon.0 > coordinator.settings().monitors() {
         return Ok(());
@@ -57,7 +58,8 @@ fn take(coordinator: &mut Coordinator, mon: Mon, frame: &Frame) -> Result<(), No
 fn retune(coordinator: &mut Coordinator, k: u32, epsilon: i128) -> Result<(), NoMemory>
     requires { IsLegal (start coordinator.old.settings) coordinator.old.journal }
     ensures settings { coordinator.new.settings ≡ coordinator.old.settings }
-    ensures leads { OnOk result (Leads (IsLegal (start coordinator.old.settings)) coordinator.old.journal (n.Tuned k epsilon) coordinator.new.journal) }
+    ensures leads { OnOk result (Leads (IsLegal (start coordinator.old.settings))
+        coordinator.old.journal (n.Tuned k epsilon) coordinator.new.journal) }
 {
     if epsilon < 0 {
         return Ok(());
@@ -72,7 +74,8 @@ fn retune(coordinator: &mut Coordinator, k: u32, epsilon: i128) -> Result<(), No
 fn hand_in(coordinator: &mut Coordinator, noted: &Noted) -> Result<(), NoMemory>
     requires { IsLegal (start coordinator.old.settings) coordinator.old.journal }
     ensures settings { coordinator.new.settings ≡ coordinator.old.settings }
-    ensures leads { OnOk result (Leads (IsLegal (start coordinator.old.settings)) coordinator.old.journal noted.now coordinator.new.journal) }
+    ensures leads { OnOk result (Leads (IsLegal (start coordinator.old.settings))
+        coordinator.old.journal noted.now coordinator.new.journal) }
 {
     match noted {
         Noted::Got(mon, frame) => take(coordinator, *mon, frame.get()),
@@ -86,7 +89,8 @@ fn hand_in(coordinator: &mut Coordinator, noted: &Noted) -> Result<(), NoMemory>
 fn reach(coordinator: &mut Coordinator, place: usize, noted: &Noted) -> Result<(), NoMemory>
     requires { IsLegal (start coordinator.old.settings) coordinator.old.journal }
     ensures settings { coordinator.new.settings ≡ coordinator.old.settings }
-    ensures leads { (seen : List Said) → IsDriven (IsLegal (start coordinator.old.settings)) seen coordinator.old.journal → length seen ≡ place
+    ensures leads { (seen : List Said) → IsDriven (IsLegal (start coordinator.old.settings)) seen coordinator.old.journal
+        → length seen ≡ place
         → OnOk result (Leads (IsLegal (start coordinator.old.settings)) seen noted.now coordinator.new.journal) }
 {
     if place < coordinator.journal().len() {

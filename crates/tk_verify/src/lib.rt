@@ -9,7 +9,6 @@ mod finding;
 mod halt;
 mod journals;
 mod laws;
-mod same;
 mod trails;
 mod verifying;
 

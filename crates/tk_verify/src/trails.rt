@@ -12,12 +12,12 @@ ghost use Rattle.tk_verify.specs.Driving.{Halts, IsDriven, Leads};
 ghost use Rattle.tk_verify.specs.Recorded.{AreAgreed};
 
 use crate::halt::Halt;
-use crate::same::is_same_entry;
 use std::alloc::Global;
 use tk_base::{Cut, Feeder, Mon, NoMemory, Settings};
 use tk_frames::Frame;
 use tk_input::Logs;
 use tk_monitor::Monitor;
+use tk_story::is_same_entry;
 use tk_trail::{Entry, MonitorRefusal};
 
 /// Raises the next change of a feeder, if there is such a feeder and it has one.

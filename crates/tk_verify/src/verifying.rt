@@ -7,8 +7,8 @@ ghost use Rattle.tk_journal.specs.Readings.{monitors};
 ghost use Rattle.tk_journal.specs.declared.noted.Noted.{Noted as Said};
 ghost use Rattle.tk_story.specs.Ends.{as_made, made_for};
 ghost use Rattle.tk_story.specs.Story.{IsStory};
-ghost use Rattle.tk_verify.specs.Verifying.{AreDriven, AreLegalTrails, Judges, is_found, is_unjoined};
-ghost use Rattle.tk_verify.specs.Recorded.{AreAgreed, Answers, Finds, IsFinished, is_final, recorded, recorded_from, trails_in};
+ghost use Rattle.tk_verify.specs.Verifying.{AreDriven, AreLegalTrails, Judges, driven_story, is_found, is_unjoined};
+ghost use Rattle.tk_verify.specs.Recorded.{AreAgreed, Answers, Finds, ReachesItsEnd, is_final, recorded, recorded_from, trails_in};
 ghost use Rattle.tk_verify.specs.declared.finding.Finding.{Finding as Found};
 ghost use Rattle.tk_verify.specs.declared.finding.Finding.TheVariants.{NoMemory as Memory};
 
@@ -66,12 +66,14 @@ fn drive_monitors(
     requires agreed { AreAgreed settings.now logs.now }
     requires cut { IsCut logs.now.logs from.now }
     requires trails { length trails.now ≡ settings.now.monitors }
-    ensures made { IfOk result (λ ms. map as_made ms.items ≡ map (made_for settings.now logs.now from.now) (monitors settings.now)) }
+    ensures made { IfOk result (λ ms. map as_made ms.items
+        ≡ map (made_for settings.now logs.now from.now) (monitors settings.now)) }
     ensures trails { IfOk result (λ ms. map (λ m. m.trail) ms.items ≡ trails_in trails.now) }
     ensures legal { (journal : List Said)
         → OnOk result (AreLegalTrails (recorded_from from.now settings.now logs.now journal (trails_in trails.now))) }
     ensures found { (journal : List Said)
-        → IfErr result (λ e. (e ≡ Memory) ⊎ Finds (recorded_from from.now settings.now logs.now journal (trails_in trails.now)) e) }
+        → IfErr result (λ e. (e ≡ Memory)
+        ⊎ Finds (recorded_from from.now settings.now logs.now journal (trails_in trails.now)) e) }
 {
     let mut monitors = Vec::new(alloc);
     for j in 0..settings.monitors() {
@@ -110,10 +112,10 @@ fn join(
     from: Cut,
 ) -> Result<Story, Finding>
     requires { AreDriven settings logs from coordinator monitors.items }
-    ensures story { IfOk result (λ s. s.story ≡ recorded_from from settings logs coordinator.journal (map (λ m. m.trail) monitors.items)) }
+    ensures story { IfOk result (λ s. s.story ≡ driven_story from settings logs coordinator monitors.items) }
     ensures events { IfOk result (λ s. s.events ≡ []) }
-    ensures legal { OnOk result (IsStory (recorded_from from settings logs coordinator.journal (map (λ m. m.trail) monitors.items))) }
-    ensures found { IfErr result (λ e. (e ≡ Memory) ⊎ Finds (recorded_from from settings logs coordinator.journal (map (λ m. m.trail) monitors.items)) e) }
+    ensures legal { OnOk result (IsStory (driven_story from settings logs coordinator monitors.items)) }
+    ensures found { IfErr result (λ e. (e ≡ Memory) ⊎ Finds (driven_story from settings logs coordinator monitors.items) e) }
 {
     // These are read for their clauses, the limits of settings and logs.
     let _ = settings.monitors();
@@ -177,7 +179,7 @@ pub fn verify(
     ensures story { IfOk result (λ s. s.story ≡ recorded settings logs journal.now (trails_in trails.now)) }
     ensures events { IfOk result (λ s. s.events ≡ []) }
     ensures legal { OnOk result (IsStory (recorded settings logs journal.now (trails_in trails.now))) }
-    ensures finished { OnOk result (IsFinished (recorded settings logs journal.now (trails_in trails.now))) }
+    ensures finished { OnOk result (ReachesItsEnd (recorded settings logs journal.now (trails_in trails.now))) }
     // Every record of such a story gives it, unless there is no memory.
     ensures succeeds { IsStory (recorded settings logs journal.now (trails_in trails.now))
         → is_final (last_of (publications journal.now)) ≡ true → IfErr result (λ e. e ≡ Memory) }

@@ -18,18 +18,21 @@ impl Model for Bytes {
 }
 
 impl Bytes {
+    /// Takes the bytes as they are.
     pub fn new(list: Vec<u8>) -> Bytes
         ensures { result ≡ list.items }
     {
         Bytes { list }
     }
 
+    /// The bytes, lent.
     pub fn as_slice(&self) -> &[u8]
         ensures { result.now ≡ self.now }
     {
         self.list.as_slice()
     }
 
+    /// The same bytes once more.
     pub fn try_clone(&self) -> Result<Bytes, NoMemory>
         ensures { IfOk result (λ b. b ≡ self.now) }
     {

@@ -16,6 +16,7 @@ use crate::ends::coord_end::CoordEnd;
 use crate::ends::join_fault::{Direction, JoinFault};
 use crate::ends::mon_end::MonEnd;
 use crate::ends::received::Received;
+use crate::same::is_same_frame;
 use tk_base::{Mon, NoMemory};
 use tk_coord::Coordinator;
 use tk_frames::Frame;
@@ -30,17 +31,11 @@ struct Way {
     direction: Direction,
 }
 
-fn is_same(sent: &Frame, received: &Frame) -> bool
-    ensures { IsTrue result ↔ (sent.now ≡ received.now) }
-{
-    sent == received
-}
-
 fn is_sent(sent: Option<&Frame>, received: &Frame) -> bool
     ensures { IsTrue result ↔ (option_copied sent.entry ≡ Some received.now) }
 {
     match sent {
-        Some(sent) => is_same(sent, received),
+        Some(sent) => is_same_frame(sent, received),
         None => false,
     }
 }
@@ -88,7 +83,8 @@ fn check_odd(
     odd: Option<&Received>,
 ) -> Result<(), JoinFault>
     ensures { (link : KeptLink) (frames : List Frame)
-        → AreTaken link frames (option_copied odd.entry) place (option_copied sent.entry) → Finds way.mon way.direction link result }
+        → AreTaken link frames (option_copied odd.entry) place (option_copied sent.entry)
+        → Finds way.mon way.direction link result }
 {
     match odd {
         None => Ok(()),

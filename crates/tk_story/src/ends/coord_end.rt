@@ -17,6 +17,7 @@ pub struct CoordEnd {
 }
 
 impl CoordEnd {
+    /// A coordinator, and what it received next of a monitor and did not take.
     pub fn new(coordinator: Coordinator, odd: Option<(Mon, Received)>) -> CoordEnd
         requires { ForSome odd (IsOddUp coordinator.settings coordinator.journal) }
         ensures coordinator { result.coordinator ≡ coordinator }

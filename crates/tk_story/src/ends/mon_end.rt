@@ -15,6 +15,7 @@ pub struct MonEnd {
 }
 
 impl MonEnd {
+    /// A monitor, and what it received next and did not take.
     pub fn new(monitor: Monitor, odd: Option<Received>) -> MonEnd
         requires { ForSome odd (IsOddDown monitor.setup monitor.trail) }
         ensures monitor { result.monitor ≡ monitor }

@@ -13,6 +13,7 @@ pub enum Received {
 }
 
 impl Received {
+    /// The same once more.
     pub fn try_clone(&self) -> Result<Received, NoMemory>
         ensures { IfOk result (λ received. received ≡ self.now) }
     {

@@ -5,7 +5,7 @@ use std::alloc::Global;
 use std::test::Fail;
 use tk_base::Mon;
 use tk_journal::Noted;
-use tk_story::Story;
+use tk_story::{Story, is_same_entry, is_same_noted};
 use tk_trail::Entry;
 use tk_world::{Moved, World, serialize};
 
@@ -39,38 +39,18 @@ fn again(alloc: Global, story: &Story) -> Result<Story, Fail> {
     Ok(story)
 }
 
-fn is_same_entry(one: &Noted, other: &Noted) -> bool {
-    match (one, other) {
-        (Noted::Got(from, frame), Noted::Got(by, same)) => from == by && frame.get() == same.get(),
-        (Noted::Sent(to, frame), Noted::Sent(also, same)) => {
-            to == also && frame.get() == same.get()
-        }
-        (Noted::Published(said), Noted::Published(same)) => said.get().number == same.get().number,
-        _ => false,
-    }
-}
-
 fn are_same_journals(one: &[Noted], other: &[Noted]) -> bool {
     let mut same = one.len() == other.len();
     for (left, right) in one.iter().zip(other.iter()) {
-        same = same && is_same_entry(left, right);
+        same = same && is_same_noted(left, right);
     }
     same
-}
-
-fn is_same_move(one: &Entry, other: &Entry) -> bool {
-    match (one, other) {
-        (Entry::Raised(feeder), Entry::Raised(same)) => feeder == same,
-        (Entry::Took(frame), Entry::Took(same)) => frame.get() == same.get(),
-        (Entry::Sent(frame), Entry::Sent(same)) => frame.get() == same.get(),
-        _ => false,
-    }
 }
 
 fn are_same_trails(one: &[Entry], other: &[Entry]) -> bool {
     let mut same = one.len() == other.len();
     for (left, right) in one.iter().zip(other.iter()) {
-        same = same && is_same_move(left, right);
+        same = same && is_same_entry(left, right);
     }
     same
 }

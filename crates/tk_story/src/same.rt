@@ -1,4 +1,5 @@
-// Whether a node did what a record says, entry by entry.
+//! Whether two entries of a journal, or of a trail, are the same.
+
 ghost use Rattle.std.specs.Prelude.{◌≡◌, ◌↔◌, IsTrue, Some, slice_get};
 ghost use Rattle.tk_journal.specs.declared.noted.Noted.TheVariants as n;
 ghost use Rattle.tk_trail.specs.declared.entry.Entry.TheVariants as e;
@@ -8,7 +9,8 @@ use tk_frames::Frame;
 use tk_journal::{Noted, Publication};
 use tk_trail::Entry;
 
-fn is_same_frame(a: &Frame, b: &Frame) -> bool
+/// Whether two frames are the same.
+pub fn is_same_frame(a: &Frame, b: &Frame) -> bool
     ensures { IsTrue result ↔ (a.now ≡ b.now) }
 {
     a == b
@@ -55,6 +57,7 @@ fn is_sending(entry: &Entry, frame: &Frame) -> bool
     }
 }
 
+/// Whether two entries of trails are the same.
 pub fn is_same_entry(a: &Entry, b: &Entry) -> bool
     ensures { IsTrue result ↔ (a.now ≡ b.now) }
 {
@@ -109,6 +112,7 @@ fn is_tuned(noted: &Noted, k: u32, epsilon: i128) -> bool
     }
 }
 
+/// Whether two entries of journals are the same.
 pub fn is_same_noted(a: &Noted, b: &Noted) -> bool
     ensures { IsTrue result ↔ (a.now ≡ b.now) }
 {
