@@ -7,5 +7,7 @@ ghost use Rattle.tk_rows.specs.Factors.{Grid};
 
 /// No number of a short or a full round leaves 128 bits, whether or not a factor is past its limit.
 pub fn rounds_stay_small()
-    ensures { (setup : Setup) (grid : Grid) (present members objects : List ℕ) (reports : List Reported) → CanDeal setup grid present objects reports → AreSized grid (round_parts setup grid present members objects reports) objects }
+    ensures { (setup : Setup) (grid : Grid) (present members objects : List ℕ) (reports : List Reported)
+        → CanDeal setup grid present objects reports
+        → AreSized grid (round_parts setup grid present members objects reports) objects }
 {}

@@ -11,7 +11,8 @@ ghost use Rattle.tk_alloc.specs.Strain.{IsShortNow, IsWideNow, is_strained};
 /// Where no outsider is above a member, nothing is broken.
 pub fn order_is_calm()
     ensures { (levels : List ℤ) (members : List ℕ) → 0 < length members
-        → ((t o : ℕ) → Contains members t → (Contains members o → ⊥) → 0 < o → o ≤ length levels → level_at levels o ≤ℤ level_at levels t)
+        → ((t o : ℕ) → Contains members t → (Contains members o → ⊥) → 0 < o → o ≤ length levels
+        → level_at levels o ≤ℤ level_at levels t)
         → is_strained levels members ≡ false }
 {}
 
@@ -23,6 +24,7 @@ pub fn a_short_round_mends()
 
 /// After a wide round whose reports speak of the present values nothing is broken at any of the monitors.
 pub fn a_wide_round_mends()
-    ensures { (setup : Setup) (grid : Grid) (present : List ℕ) (reports : List Reported) (place : ℕ) (report : Reported) (after : List ℤ)
-        → IsWideNow setup grid present reports place report after → is_strained after (chosen setup present reports (objects setup.objects)) ≡ false }
+    ensures { (setup : Setup) (grid : Grid) (present : List ℕ) (reports : List Reported) (place : ℕ) (report : Reported)
+        (after : List ℤ) → IsWideNow setup grid present reports place report after
+        → is_strained after (chosen setup present reports (objects setup.objects)) ≡ false }
 {}

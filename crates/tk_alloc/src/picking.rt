@@ -1,11 +1,10 @@
 ghost use Rattle.std.specs.Prelude.{◌≡◌, ℕ, ℤ, ◌<◌, ◌≤◌, IfOk, length, map, not, slice_index_or, pos};
-ghost use Rattle.std.specs.List.{filter};
 ghost use Rattle.std.specs.List.Sorted.{IsPermutation, IsSortedBy};
 ghost use Rattle.tk_base.specs.Ascending.{IsAscending, numbers_of};
 ghost use Rattle.tk_base.specs.Objects.{is_in};
 ghost use Rattle.tk_base.specs.Pairs.{objects_of};
 ghost use Rattle.tk_alloc.specs.Pick.{picked};
-ghost use Rattle.tk_alloc.specs.Candidates.{candidate, comes_first};
+ghost use Rattle.tk_alloc.specs.Candidates.{candidate, comes_first, up_to};
 
 use crate::candidate::Candidate;
 use std::alloc::Global;
@@ -57,7 +56,7 @@ fn first_ones(
     old: &ObjSet,
     last: Candidate,
 ) -> Result<Vec<Obj>, NoMemory>
-    ensures { IfOk result (λ v. numbers_of v.items ≡ objects_of (filter (λ p. not (comes_first last (candidate old.now p))) totals.now)) }
+    ensures { IfOk result (λ v. numbers_of v.items ≡ up_to last old.now totals.now) }
 {
     let mut list = Vec::new(alloc);
     for place in 0..totals.len() {

@@ -4,9 +4,9 @@ ghost use Rattle.tk_base.specs.Ascending.{IsAscending};
 ghost use Rattle.tk_base.specs.Objects.{is_in};
 ghost use Rattle.tk_base.specs.Pairs.{objects_of};
 ghost use Rattle.tk_rows.specs.Factors.{IsFactor};
-ghost use Rattle.tk_alloc.specs.Parts.{IsReallocation, above, by_monitor, dealt_from, leeway as leeway_of, monitor};
+ghost use Rattle.tk_alloc.specs.Parts.{IsReallocation, above, by_monitor, leeway as leeway_of, monitor};
 ghost use Rattle.tk_alloc.specs.Rounds.{AreValues};
-ghost use Rattle.tk_alloc.specs.Terms.{AreTerms, TakesPart, border_by, dealt_by, monitors_in, parts_of};
+ghost use Rattle.tk_alloc.specs.Terms.{AreTerms, TakesPart, border_by, coordinator_in, dealt_by, dealt_in, dealt_to, leeways_in, object_at, parts_of};
 
 use crate::pair_list::{add, into_pairs};
 use crate::picking::is_member;
@@ -54,7 +54,7 @@ fn gap(value: i128, factor: i128, border: i128) -> i128
 fn own_gap(terms: &Terms, table: &Table, reports: &[Reported], place: usize) -> i128
     requires terms { AreTerms table.now terms.now reports.now }
     requires place { place < length terms.now.own_values }
-    ensures value { result ≡ above table.now (slice_index (objects_of terms.now.own_values) place) (record { node = 0; weight = terms.now.own_weight; border = terms.now.own_border; values = terms.now.own_values }) }
+    ensures value { result ≡ above table.now (object_at terms.now place) (coordinator_in terms.now) }
     ensures size { unsigned_abs result ≤ 2 ^ 114 }
 {
     let (o, value) = terms.own_values.at(place);
@@ -65,7 +65,7 @@ fn gap_at(terms: &Terms, table: &Table, report: &Reported, place: usize) -> i128
     requires part { TakesPart table.now terms.now report.now }
     requires objects { All (λ o. o ≤ length table.now.rows) (objects_of terms.now.own_values) }
     requires place { place < length terms.now.own_values }
-    ensures value { result ≡ above table.now (slice_index (objects_of terms.now.own_values) place) (monitor (border_by terms.now.borders report.now) report.now) }
+    ensures value { result ≡ above table.now (object_at terms.now place) (monitor (border_by terms.now.borders report.now) report.now) }
     ensures size { unsigned_abs result ≤ 2 ^ 114 }
 {
     let (o, value) = report.values.at(place);
@@ -76,7 +76,7 @@ fn gap_at(terms: &Terms, table: &Table, report: &Reported, place: usize) -> i128
 pub fn leeway(terms: &Terms, table: &Table, reports: &[Reported], place: usize) -> i128
     requires terms { AreTerms table.now terms.now reports.now }
     requires place { place < length terms.now.own_values }
-    ensures value { result ≡ leeway_of table.now (parts_of terms.now reports.now) (slice_index (objects_of terms.now.own_values) place) }
+    ensures value { result ≡ leeway_of table.now (parts_of terms.now reports.now) (object_at terms.now place) }
     ensures size { unsigned_abs result < 2 ^ 122 }
 {
     let mut sum = own_gap(terms, table, reports, place);
@@ -94,7 +94,7 @@ pub fn leeways(
     reports: &[Reported],
 ) -> Result<Vec<i128>, NoMemory>
     requires { AreTerms table.now terms.now reports.now }
-    ensures value { IfOk result (λ v. v.items ≡ map (leeway_of table.now (parts_of terms.now reports.now)) (objects_of terms.now.own_values)) }
+    ensures value { IfOk result (λ v. v.items ≡ leeways_in table.now terms.now reports.now) }
     ensures size { IfOk result (λ v. All (λ z. unsigned_abs z < 2 ^ 122) v.items) }
 {
     let mut list = Vec::with_capacity(alloc, terms.own_values.len())?;
@@ -176,7 +176,7 @@ fn changes_at(
     requires some_weight { 0 < sum weights.now }
     requires weight { sum weights.now ≤ 1064 }
     ensures mon { IfOk result (λ c. c.mon ≡ report.now.mon) }
-    ensures changes { IfOk result (λ c. c.changes ≡ dealt_by report.now.values (border_by terms.now.borders report.now) weights.now p (objects_of terms.now.own_values) leeways.now) }
+    ensures changes { IfOk result (λ c. c.changes ≡ dealt_to terms.now report.now weights.now p leeways.now) }
 {
     let changes = factors(
         alloc,
@@ -201,11 +201,11 @@ fn all_changes(
     weights: &[u32],
 ) -> Result<Vec<MonChange>, NoMemory>
     requires terms { AreTerms table.now terms.now reports.now }
-    requires leeways { leeways.now ≡ map (leeway_of table.now (parts_of terms.now reports.now)) (objects_of terms.now.own_values) }
+    requires leeways { leeways.now ≡ leeways_in table.now terms.now reports.now }
     requires small { All (λ z. unsigned_abs z < 2 ^ 122) leeways.now }
     requires weights { weights.now ≡ terms.now.own_weight ∷ replicate (length reports.now) 1 }
     requires sum { sum weights.now ≡ terms.now.own_weight + length reports.now }
-    ensures { IfOk result (λ v. by_monitor v.items ≡ dealt_from table.now (parts_of terms.now reports.now) (objects_of terms.now.own_values) 1 (monitors_in terms.now reports.now)) }
+    ensures { IfOk result (λ v. by_monitor v.items ≡ dealt_in table.now terms.now reports.now) }
 {
     let _ = table;
     let mut at = Vec::with_capacity(alloc, reports.len())?;

@@ -13,6 +13,7 @@ pub enum Borders {
 impl Borders {
     ghost use Rattle.tk_alloc.specs.Terms.{border_by};
 
+    /// The border that a report has.
     pub fn at(&self, report: &Reported) -> i128
         ensures { result ≡ border_by self.now report.now }
     {

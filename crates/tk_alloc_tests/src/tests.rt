@@ -63,7 +63,8 @@ fn reallocation(
     two: Pairs,
 ) -> Result<Reallocation, Fail>
     ensures own { IfOk result (λ r. r.own ≡ own) }
-    ensures at { IfOk result (λ r. r.at.items ≡ (record { mon = record { 0 = 1 }; changes = one }) ∷ (record { mon = record { 0 = 2 }; changes = two }) ∷ []) }
+    ensures at { IfOk result (λ r. r.at.items ≡ (record { mon = record { 0 = 1 }; changes = one })
+        ∷ (record { mon = record { 0 = 2 }; changes = two }) ∷ []) }
 {
     let mut at = Vec::new(alloc);
     at.push(MonChange {

@@ -9,7 +9,8 @@ use tk_base::{NoMemory, Obj, ObjSet};
 /// The members and the failed objects, in one pass over both.
 pub fn resolution(alloc: Global, members: &ObjSet, failed: &ObjSet) -> Result<ObjSet, NoMemory>
     ensures holds { IfOk result (λ s. (o : ℕ) → is_in s o ≡ (is_in members.now o || is_in failed.now o)) }
-    ensures value { IfOk result (λ s. (n : ℕ) → All (λ o. o ≤ n) members.now → All (λ o. o ≤ n) failed.now → s ≡ resolution_of n members.now failed.now) }
+    ensures value { IfOk result (λ s. (n : ℕ) → All (λ o. o ≤ n) members.now → All (λ o. o ≤ n) failed.now
+        → s ≡ resolution_of n members.now failed.now) }
 {
     let mut list = Vec::new(alloc);
     let mut i = start(members);

@@ -8,12 +8,12 @@ use Rattle.tk_story.specs.Story.{IsStory, StoryView}
 use Rattle.tk_world.specs.Events.{after, begin}
 use Rattle.tk_world.specs.Runs.{RunsBy}
 use Rattle.tk_world.proofs.ReadLemmas.{reads}
-use Rattle.tk_drain.specs.Drive.{Drives, IsFinished, IsReached, keep_all}
+use Rattle.tk_drain.specs.Drive.{Drives, IsFinishing, IsReached, keep_all}
 use Rattle.tk_drain.specs.Resting.{RunsFrom}
 use Rattle.tk_drain.proofs.PassingLemmas.{finishes_reached, kept_reached, reached_join, settles_reached}
 use Rattle.tk_drain.proofs.RaiseLemmas.{run_alike}
 
-pub finished_reached : (begun end : KeptStory) → IsFinished begun end → IsReached begun end
+pub finished_reached : (begun end : KeptStory) → IsFinishing begun end → IsReached begun end
 finished_reached begun end f = reached_join begun f.settled end (settles_reached begun f.settled f.count f.settles) (finishes_reached _ f.settled end f.finishes)
 
 pub driven_reached : (order : List Event) (begun end : KeptStory) → Drives order begun end → IsReached begun end

@@ -12,7 +12,7 @@ use Rattle.tk_story.specs.Kept.{KeptStory}
 use Rattle.tk_story.specs.Moments.{IsOver}
 use Rattle.tk_story.specs.Story.{IsStory, StoryView, setup_of}
 use Rattle.tk_story.proofs.OverLemmas.{still_is_over}
-use Rattle.tk_drain.specs.Drive.{Finishes, IsFinished, all_raises, keep}
+use Rattle.tk_drain.specs.Drive.{Finishes, IsFinishing, all_raises, keep}
 use Rattle.tk_drain.specs.Drive.Finishes.{Done, Passes, Raises}
 use Rattle.tk_drain.proofs.KeepLemmas.{Leads, leads_join, leads_none, leads_one, leads_story}
 use Rattle.tk_drain.proofs.RestLemmas.{settles_rests}
@@ -94,7 +94,7 @@ part_ends (e ∷ events) a c mon g most (Raises event rest kept settled end stor
 
 -- ---- finishing
 
-pub finished_leads : (a c : KeptStory) → IsFinished a c → Finished a c
+pub finished_leads : (a c : KeptStory) → IsFinishing a c → Finished a c
 finished_leads a c f =
     let r = settles_rests a f.settled f.count f.settles in
     let x = finishes_leads (all_raises a.story.logs) f.settled c f.finishes in
@@ -104,7 +104,7 @@ finished_leads a c f =
       idle = λ _. x.idle r.idle;
     }
 
-pub finished_idle : (a c : KeptStory) → IsFinished a c → CanOnlyChange c.story
+pub finished_idle : (a c : KeptStory) → IsFinishing a c → CanOnlyChange c.story
 finished_idle a c f =
     let r = settles_rests a f.settled f.count f.settles in
     (finishes_leads (all_raises a.story.logs) f.settled c f.finishes).idle r.idle
@@ -140,7 +140,7 @@ raised_over b c logs h idle same finishes =
     still_is_over c.story hc (idle_is_still c.story hc (x.idle idle)) (all_ended c.story hc part)
 
 -- so finishing ends the run
-pub finished_over : (a c : KeptStory) (f : IsFinished a c) → IsStory f.settled.story → IsOver c.story
+pub finished_over : (a c : KeptStory) (f : IsFinishing a c) → IsStory f.settled.story → IsOver c.story
 finished_over a c f h =
     let r = settles_rests a f.settled f.count f.settles in
     let alike = run_alike a.story f.settled.story r.calms.took r.calms.leads.runs in

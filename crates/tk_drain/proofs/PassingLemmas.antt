@@ -10,7 +10,7 @@ use Rattle.tk_story.specs.Kept.{KeptStory}
 use Rattle.tk_story.specs.Story.{IsStory, StoryView, setup_of, trail_of}
 use Rattle.tk_world.specs.declared.moved.Moved.{Moved}
 use Rattle.tk_world.specs.declared.moved.Moved.TheVariants.{Yes, Idle}
-use Rattle.tk_drain.specs.Drive.{Finishes, IsFinished, IsReached, Settles, all_raises, keep, keep_all, longest_of, pass_of}
+use Rattle.tk_drain.specs.Drive.{Finishes, IsFinishing, IsReached, Settles, all_raises, keep, keep_all, longest_of, pass_of}
 use Rattle.tk_world.specs.World.{Moves}
 use Rattle.tk_input.specs.Logs.{LogSet}
 use Rattle.std.specs.Prelude.{flat_map}
@@ -155,7 +155,7 @@ pub kept_reached : (a : KeptStory) (events : List Event) → IsReached a (keep_a
 kept_reached a events = let t = took_of a events in leads_reached a (keep_all a events) t.took t.leads
 
 -- finishing is done after as many passes as the longest part has changes
-pub finished_of : (a b c : KeptStory) (count : ℕ) → Settles a b count → Finishes (flat_map (λ (_ : ℕ). pass_of b.story.logs) (range_with_len 0 (longest_of b.story.logs))) b c → IsFinished a c
+pub finished_of : (a b c : KeptStory) (count : ℕ) → Settles a b count → Finishes (flat_map (λ (_ : ℕ). pass_of b.story.logs) (range_with_len 0 (longest_of b.story.logs))) b c → IsFinishing a c
 unfolding all_raises
 finished_of a b c count settles finishes =
     let r = settles_rests a b count settles in
@@ -201,7 +201,7 @@ passed_more settled now new parts left n x h passes =
       covers = y.1;
     }
 
-pub passed_all : (old settled now : KeptStory) (parts : List (Mon × Feeder)) (count n longest : ℕ) → Settles old settled count → Passed settled now parts n → n ≡ longest → longest ≡ longest_of settled.story.logs → IsFinished old now
+pub passed_all : (old settled now : KeptStory) (parts : List (Mon × Feeder)) (count n longest : ℕ) → Settles old settled count → Passed settled now parts n → n ≡ longest → longest ≡ longest_of settled.story.logs → IsFinishing old now
 passed_all old settled now parts count n longest settles x all is =
     finished_of old settled now count settles (subst (λ (q : ℕ). Finishes (flat_map (λ (_ : ℕ). pass_of settled.story.logs) (range_with_len 0 q)) settled now) (all ∙ is) x.finishes)
 

@@ -68,7 +68,7 @@ pub data Finishes : List Event → KeptStory → KeptStory → Type 0 where
       → Settles (keep kept event) settled count → Finishes events settled end → Finishes (event ∷ events) kept end
 
 -- finishing: a settling, and then the raises that are left
-pub record IsFinished (begun end : KeptStory) : Type 0 where
+pub record IsFinishing (begun end : KeptStory) : Type 0 where
   pub settled : KeptStory
   pub count : ℕ
   pub settles : Settles begun settled count
@@ -76,7 +76,7 @@ pub record IsFinished (begun end : KeptStory) : Type 0 where
 
 -- the drive of an order from a beginning: its events, each kept where it is enabled, and then finishing
 pub record Drives (order : List Event) (begun end : KeptStory) : Type 0 where
-  pub finished : IsFinished (keep_all begun order) end
+  pub finished : IsFinishing (keep_all begun order) end
 
 -- the beginning of such raises: it stands before a raise, or in the settling of one
 pub data BeginsFinishes : List Event → KeptStory → KeptStory → Type 0 where

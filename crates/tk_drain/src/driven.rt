@@ -6,12 +6,12 @@ ghost use Rattle.tk_input.specs.declared.event.Event.{Event};
 ghost use Rattle.tk_story.specs.Kept.{KeptStory};
 ghost use Rattle.tk_story.specs.Story.{IsStory};
 ghost use Rattle.tk_world.specs.Events.{begin};
-ghost use Rattle.tk_drain.specs.Drive.{Drives, IsFinished, IsReached};
+ghost use Rattle.tk_drain.specs.Drive.{Drives, IsFinishing, IsReached};
 ghost use Rattle.tk_drain.specs.Resting.{RunsFrom};
 
 /// Where a world is finished, or driven by an order, some events have led there, each enabled where it stood.
 pub fn a_drive_is_reached()
-    ensures finished { (begun end : KeptStory) → IsFinished begun end → IsReached begun end }
+    ensures finished { (begun end : KeptStory) → IsFinishing begun end → IsReached begun end }
     ensures driven { (order : List Event) (begun end : KeptStory) → Drives order begun end → IsReached begun end }
 {}
 

@@ -2,7 +2,7 @@ ghost use Rattle.std.specs.Prelude.{◌≡◌, [], ◌∷◌, IfOk, OnErr, OnOk}
 ghost use Rattle.tk_story.specs.Moments.{IsOver};
 ghost use Rattle.tk_story.specs.Story.{IsStory};
 ghost use Rattle.tk_world.specs.Events.{raise_at};
-ghost use Rattle.tk_drain.specs.Drive.{BeginsDrive, BeginsFinishes, BeginsFinishing, Drives, IsFinished};
+ghost use Rattle.tk_drain.specs.Drive.{BeginsDrive, BeginsFinishes, BeginsFinishing, Drives, IsFinishing};
 ghost use Rattle.tk_drain.specs.Passing.{MayRaise, Passes, raises};
 
 use crate::parts::{longest_of, parts_of};
@@ -51,7 +51,7 @@ fn raise_each<N: Nodes>(
 /// Settles, then in passes raises one change of each part that has changes left, monitors and feeders ascending, and
 /// settles after each. A part that is at its end costs nothing in later passes.
 pub fn finish<N: Nodes>(alloc: Global, world: &mut World<N>) -> Result<(), NoMemory>
-    ensures finished { OnOk result (IsFinished world.old world.new) }
+    ensures finished { OnOk result (IsFinishing world.old world.new) }
     ensures over { OnOk result (IsOver world.new.story) }
     ensures err { OnErr result (BeginsFinishing world.old world.new) }
     ensures legal { IsStory world.new.story }

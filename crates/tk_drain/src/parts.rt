@@ -12,7 +12,8 @@ use tk_input::Logs;
 /// Appends the parts of one monitor, by feeder.
 fn push_parts(parts: &mut Vec<(Mon, Feeder)>, mon: Mon, feeders: u32) -> Result<(), NoMemory>
     requires { feeders ≤ 8 }
-    ensures { IfOk result (λ _. raises parts.new.items ≡ raises parts.old.items ++ map (raise_at mon.0) (range_with_len 1 feeders)) }
+    ensures { IfOk result (λ _. raises parts.new.items
+        ≡ raises parts.old.items ++ map (raise_at mon.0) (range_with_len 1 feeders)) }
 {
     for f in 0..feeders {
         parts.push((mon, Feeder(f + 1)))?;

@@ -40,7 +40,8 @@ pub fn few_events_of_each()
 
 /// At most 11 rounds open in it or were open at its beginning.
 pub fn a_settling_opens_few_rounds()
-    ensures { (s t : StoryView) (events : List Event) → IsStory s → list_all is_settling events ≡ true → after (Some s) events ≡ Some t
+    ensures { (s t : StoryView) (events : List Event) → IsStory s → list_all is_settling events ≡ true
+        → after (Some s) events ≡ Some t
         → rounds t.settings t.journal + (if is_open s.settings s.journal then 1 else 0) ≤ rounds s.settings s.journal + 11 }
 {}
 

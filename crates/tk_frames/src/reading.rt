@@ -67,6 +67,7 @@ fn groups(bytes: &[u8], limit: u128) -> Result<(u128, &[u8]), Unread>
     Ok((number, rest))
 }
 
+/// A byte, and what follows it.
 #[tactic(auto, unfolding(crate::specs::Reading::number_at, crate::specs::Reading::bytes_at))]
 pub fn byte(bytes: &[u8]) -> Result<(u8, &[u8]), Unread>
     ensures { Gives (λ x. (x.0, x.1.now)) result (number_at 1 1 bytes.now) }
@@ -77,6 +78,7 @@ pub fn byte(bytes: &[u8]) -> Result<(u8, &[u8]), Unread>
     Ok((*first, rest))
 }
 
+/// A number of 32 bits, and what follows it.
 #[tactic(auto, unfolding(crate::specs::Reading::number_at, crate::specs::Reading::bytes_at))]
 pub fn u32_at(version: u8, bytes: &[u8]) -> Result<(u32, &[u8]), Unread>
     ensures { Gives (λ x. (x.0, x.1.now)) result (number_at version 4 bytes.now) }
@@ -91,6 +93,7 @@ pub fn u32_at(version: u8, bytes: &[u8]) -> Result<(u32, &[u8]), Unread>
     Ok((number as u32, rest))
 }
 
+/// A number of 64 bits, and what follows it.
 #[tactic(auto, unfolding(crate::specs::Reading::number_at, crate::specs::Reading::bytes_at))]
 pub fn u64_at(version: u8, bytes: &[u8]) -> Result<(u64, &[u8]), Unread>
     ensures { Gives (λ x. (x.0, x.1.now)) result (number_at version 8 bytes.now) }
@@ -118,6 +121,7 @@ fn u128_at(version: u8, bytes: &[u8]) -> Result<(u128, &[u8]), Unread>
     groups(bytes, u128::MAX)
 }
 
+/// A whole number of 128 bits, and what follows it.
 #[tactic(auto, unfolding(crate::specs::Reading::signed_at))]
 pub fn i128_at(version: u8, bytes: &[u8]) -> Result<(i128, &[u8]), Unread>
     ensures { Gives (λ x. (x.0, x.1.now)) result (signed_at version bytes.now) }
@@ -131,6 +135,7 @@ pub fn i128_at(version: u8, bytes: &[u8]) -> Result<(i128, &[u8]), Unread>
     Ok((signed, rest))
 }
 
+/// A flag, and what follows it.
 #[tactic(auto, unfolding(crate::specs::Reading::flag_at))]
 pub fn flag(bytes: &[u8]) -> Result<(bool, &[u8]), Unread>
     ensures { Gives (λ x. (x.0, x.1.now)) result (flag_at bytes.now) }
@@ -228,6 +233,7 @@ fn numbers(
     Ok((list, rest))
 }
 
+/// A set of objects, and what follows it.
 #[tactic(auto, unfolding(crate::specs::Reading::counted_at))]
 pub fn set(alloc: Global, version: u8, bytes: &[u8]) -> Result<(ObjSet, &[u8]), Unread>
     ensures { Gives (λ x. (x.0, x.1.now)) result (set_at version bytes.now) }
@@ -240,6 +246,7 @@ pub fn set(alloc: Global, version: u8, bytes: &[u8]) -> Result<(ObjSet, &[u8]), 
     }
 }
 
+/// Objects with their numbers, and what follows them.
 #[tactic(auto, unfolding(crate::specs::Reading::counted_at))]
 pub fn pairs(alloc: Global, version: u8, bytes: &[u8]) -> Result<(Pairs, &[u8]), Unread>
     ensures { Gives (λ x. (x.0, x.1.now)) result (pairs_at version bytes.now) }
@@ -252,6 +259,7 @@ pub fn pairs(alloc: Global, version: u8, bytes: &[u8]) -> Result<(Pairs, &[u8]),
     }
 }
 
+/// Places, and what follows them.
 #[tactic(auto, unfolding(crate::specs::Reading::counted_at))]
 pub fn places(alloc: Global, version: u8, bytes: &[u8]) -> Result<(Places, &[u8]), Unread>
     ensures { Gives (λ x. (x.0, x.1.now)) result (places_at version bytes.now) }

@@ -19,6 +19,7 @@ fn groups(out: &mut Vec<u8>, value: u128) -> Result<(), NoMemory>
     Ok(())
 }
 
+/// Appends a byte.
 #[tactic(auto, unfolding(crate::specs::Spelling::number))]
 pub fn number_u8(out: &mut Vec<u8>, value: u8) -> Result<(), NoMemory>
     ensures { OnOk result (out.new.items ≡ out.old.items ++ number 1 1 value) }
@@ -27,6 +28,7 @@ pub fn number_u8(out: &mut Vec<u8>, value: u8) -> Result<(), NoMemory>
     Ok(())
 }
 
+/// Appends a number of 32 bits.
 #[tactic(auto, unfolding(crate::specs::Spelling::number))]
 pub fn number_u32(out: &mut Vec<u8>, version: u8, value: u32) -> Result<(), NoMemory>
     ensures bytes { OnOk result (out.new.items ≡ out.old.items ++ number version 4 value) }
@@ -39,6 +41,7 @@ pub fn number_u32(out: &mut Vec<u8>, version: u8, value: u32) -> Result<(), NoMe
     groups(out, value as u128)
 }
 
+/// Appends a number of 64 bits.
 #[tactic(auto, unfolding(crate::specs::Spelling::number))]
 pub fn number_u64(out: &mut Vec<u8>, version: u8, value: u64) -> Result<(), NoMemory>
     ensures bytes { OnOk result (out.new.items ≡ out.old.items ++ number version 8 value) }
@@ -84,6 +87,7 @@ fn zigzag(value: i128) -> u128
     }
 }
 
+/// Appends a whole number of 128 bits.
 #[tactic(auto, unfolding(crate::specs::Spelling::signed))]
 pub fn signed_i128(out: &mut Vec<u8>, version: u8, value: i128) -> Result<(), NoMemory>
     ensures bytes { OnOk result (out.new.items ≡ out.old.items ++ signed version value) }
@@ -131,6 +135,7 @@ fn pair(
     signed_i128(out, version, under)
 }
 
+/// Appends a set of objects.
 #[tactic(auto, unfolding(crate::specs::Spelling::counted))]
 pub fn set(out: &mut Vec<u8>, version: u8, set: &ObjSet) -> Result<(), NoMemory>
     ensures bytes { OnOk result (out.new.items ≡ out.old.items ++ set_of version set.now) }
@@ -147,6 +152,7 @@ pub fn set(out: &mut Vec<u8>, version: u8, set: &ObjSet) -> Result<(), NoMemory>
     Ok(())
 }
 
+/// Appends objects with their numbers.
 #[tactic(auto, unfolding(crate::specs::Spelling::counted))]
 pub fn pairs(out: &mut Vec<u8>, version: u8, pairs: &Pairs) -> Result<(), NoMemory>
     ensures bytes { OnOk result (out.new.items ≡ out.old.items ++ pairs_of version pairs.now) }
@@ -163,6 +169,7 @@ pub fn pairs(out: &mut Vec<u8>, version: u8, pairs: &Pairs) -> Result<(), NoMemo
     Ok(())
 }
 
+/// Appends places.
 #[tactic(auto, unfolding(crate::specs::Spelling::counted))]
 pub fn places(out: &mut Vec<u8>, version: u8, places: &Places) -> Result<(), NoMemory>
     ensures bytes { OnOk result (out.new.items ≡ out.old.items ++ places_of version places.now) }

@@ -23,13 +23,15 @@ pub fn no_report_stands()
 
 /// A Report or Settled that was got under the last number leaves a current answer; a Report stays one.
 pub fn an_answer_stands()
-    ensures { (o : Opening) (a after : List Noted) (from : Mon) (frame : Frame) → IsLegal o (a ++ n.Got from frame ∷ after) → is_answer (assigns_sent from.0 (a ++ n.Got from frame ∷ after)) frame ≡ true
+    ensures { (o : Opening) (a after : List Noted) (from : Mon) (frame : Frame) → IsLegal o (a ++ n.Got from frame ∷ after)
+        → is_answer (assigns_sent from.0 (a ++ n.Got from frame ∷ after)) frame ≡ true
         → IsAnswered from.0 (a ++ n.Got from frame ∷ after) (is_report (Some frame)) }
 {}
 
 /// A told end stays told, and a current Settled is what was accepted last.
 pub fn a_told_end_stays_told()
-    ensures told { (o : Opening) (a after : List Noted) (from : Mon) (seq : ℕ) (places : List ℕ) → IsLegal o (a ++ n.Got from (f.Settled seq true places) ∷ after)
+    ensures told { (o : Opening) (a after : List Noted) (from : Mon) (seq : ℕ) (places : List ℕ)
+        → IsLegal o (a ++ n.Got from (f.Settled seq true places) ∷ after)
         → seq ≡ assigns_sent from.0 (a ++ n.Got from (f.Settled seq true places) ∷ after)
         → (p : Progress) × (progress_of from.0 (a ++ n.Got from (f.Settled seq true places) ∷ after) ≡ Some p) × (p.last ≡ true) }
     ensures current { (mon : ℕ) (j : List Noted) (p : Progress) → settled_of mon j ≡ Some p → progress_of mon j ≡ Some p }
@@ -48,7 +50,8 @@ pub fn nothing_stays_due()
 
 /// Cuts never go back.
 pub fn publications_never_go_back()
-    ensures { (o : Opening) (a b c : List Noted) (p q : Publication) (mon i : ℕ) → IsLegal o (a ++ n.Published p ∷ b ++ n.Published q ∷ c) → IsMonitor o.settings mon
+    ensures { (o : Opening) (a b c : List Noted) (p q : Publication) (mon i : ℕ)
+        → IsLegal o (a ++ n.Published p ∷ b ++ n.Published q ∷ c) → IsMonitor o.settings mon
         → slice_index_or (places_of p.cut mon) i 0 ≤ slice_index_or (places_of q.cut mon) i 0 }
 {}
 
@@ -59,7 +62,8 @@ pub fn an_answer_was_got()
 
 /// While a round is open, whoever it did not ask stands with a Report.
 pub fn who_was_not_asked_has_reported()
-    ensures { (o : Opening) (j : List Noted) (mon : ℕ) → IsSetUp o → IsLegal o j → IsMonitor o.settings mon → is_open o.settings j ≡ true
+    ensures { (o : Opening) (j : List Noted) (mon : ℕ) → IsSetUp o → IsLegal o j → IsMonitor o.settings mon
+        → is_open o.settings j ≡ true
         → is_some (asked_of (last_round j) mon j) ≡ false → is_report (answer_of mon j) ≡ true }
 {}
 

@@ -54,7 +54,8 @@ pub fn a_report_can_be_dealt_with()
     ensures { (o : Opening) (j : List Noted) (mon seq : ℕ) (border : ℤ) (failed : List ℕ) (values : List (ℕ × ℤ))
         → IsSetUp o → IsLegal o j → IsMonitor o.settings mon
         → refusal_of o.settings j mon (f.Report seq border failed values) ≡ None → seq ≡ assigns_sent mon j
-        → CanDeal (in_force o.settings j) (table_at o.settings j) (members_at j) (objects_of values) (reported mon border values ∷ []) }
+        → CanDeal (in_force o.settings j) (table_at o.settings j) (members_at j) (objects_of values)
+        (reported mon border values ∷ []) }
 {}
 
 /// The Values that end a full round leave reports that it can be dealt with.
@@ -64,7 +65,8 @@ pub fn a_full_round_can_be_dealt_with()
         → refusal_of o.settings j mon (f.Values round seq border values) ≡ None
         → let now = j ++ n.Got (record { 0 = mon }) (f.Values round seq border values) ∷ [] in
         is_open o.settings now ≡ false → is_wide o.settings now ≡ false
-        → CanDeal (in_force o.settings now) (table_at o.settings now) (members_at now) (objects_over (reports_at o.settings now)) (reports_at o.settings now) }
+        → let reports = reports_at o.settings now in
+        CanDeal (in_force o.settings now) (table_at o.settings now) (members_at now) (objects_over reports) reports }
 {}
 
 /// The numbers of rounds count up.

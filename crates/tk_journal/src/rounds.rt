@@ -40,7 +40,8 @@ pub fn a_wide_end_leaves_order()
     ensures { (o : Opening) (j : List Noted) (from : Mon) (frame : Frame) → IsRoundEnd o j from frame
         → let now = j ++ n.Got from frame ∷ [] in
         is_wide o.settings now ≡ true
-        → All (λ r. KeepsOrder (j ++ turn_of o.settings j (n.Got from frame)) r (objects o.settings.objects)) (reports_at o.settings now) }
+        → All (λ r. KeepsOrder (j ++ turn_of o.settings j (n.Got from frame)) r (objects o.settings.objects))
+        (reports_at o.settings now) }
 {}
 
 /// The end of a full round leaves none of its objects above a member at any monitor, at the values that it reported.
@@ -49,7 +50,8 @@ pub fn a_full_end_leaves_order()
     ensures several { (o : Opening) (j : List Noted) (from : Mon) (frame : Frame) → IsRoundEnd o j from frame
         → let now = j ++ n.Got from frame ∷ [] in
         is_wide o.settings now ≡ false → is_within_limit (full_at o.settings now (reports_at o.settings now)) ≡ true
-        → All (λ r. KeepsOrder (j ++ turn_of o.settings j (n.Got from frame)) r (objects_over (reports_at o.settings now))) (reports_at o.settings now) }
+        → All (λ r. KeepsOrder (j ++ turn_of o.settings j (n.Got from frame)) r (objects_over (reports_at o.settings now)))
+        (reports_at o.settings now) }
     ensures one { (o : Opening) (j : List Noted) (from : Mon) (border : ℤ) (failed : List ℕ) (values : List (ℕ × ℤ))
         → IsLoneTurn o j from border failed values
         → let frame = f.Report (assigns_sent from.0 j) border failed values in
@@ -63,7 +65,8 @@ pub fn a_short_turn_leaves_order()
         → IsShortTurn o j from border failed values
         → let frame = f.Report (assigns_sent from.0 j) border failed values in
         KeepsOrder (j ++ turn_of o.settings j (n.Got from frame)) (reported from.0 border values) (objects_of values) }
-    ensures calm { (o : Opening) (j : List Noted) (from : Mon) (border : ℤ) (failed : List ℕ) (values : List (ℕ × ℤ)) (value : ℕ → ℤ)
+    ensures calm { (o : Opening) (j : List Noted) (from : Mon) (border : ℤ) (failed : List ℕ) (values : List (ℕ × ℤ))
+        (value : ℕ → ℤ)
         → IsShortTurn o j from border failed values → AreSpokenOf o.settings j (reported from.0 border values) value
         → let after = j ++ turn_of o.settings j (n.Got from (f.Report (assigns_sent from.0 j) border failed values)) in
         is_strained (levels_with o.settings after from.0 value) (members_at after) ≡ false }

@@ -30,6 +30,8 @@ pub fn each_collect_is_answered()
 
 /// What is gathered in an open round came as Values of that round, over the last Assign.
 pub fn gathered_are_fresh()
-    ensures { (o : Opening) (j : List Noted) (mon : ℕ) → IsSetUp o → IsLegal o j → IsMonitor o.settings mon → is_open o.settings j ≡ true
-        → (r : Reported) → values_of (last_round j) mon j ≡ Some r → Contains (frames_from mon j) (f.Values (last_round j) (assigns_sent mon j) r.border r.values) }
+    ensures { (o : Opening) (j : List Noted) (mon : ℕ) → IsSetUp o → IsLegal o j → IsMonitor o.settings mon
+        → is_open o.settings j ≡ true
+        → (r : Reported) → values_of (last_round j) mon j ≡ Some r
+        → Contains (frames_from mon j) (f.Values (last_round j) (assigns_sent mon j) r.border r.values) }
 {}

@@ -29,7 +29,8 @@ pub fn each_turn_has_a_shape()
 /// How many reports in a row failed the short test, over one more turn.
 pub fn the_streak_over_a_turn()
     ensures { (s : Setup) (before : List Noted) (from : Mon) (frame : Frame) (rest : List Noted) → inputs_of rest ≡ []
-        → streak s (before ++ n.Got from frame ∷ rest) ≡ (if is_calm s (before ++ n.Got from frame ∷ rest) then 0 else streak s before + (if fails_at s before from.0 frame then 1 else 0)) }
+        → let now = before ++ n.Got from frame ∷ rest in
+        streak s now ≡ (if is_calm s now then 0 else streak s before + (if fails_at s before from.0 frame then 1 else 0)) }
 {}
 
 /// The streak is a reading of the turns of a legal journal, and so is the number of rounds: those opened in full and those

@@ -164,7 +164,8 @@ fn line_by(
     ticks: Option<&TickEnds>,
 ) -> Result<Option<Vec<u8>>, NoMemory>
     requires { AreNamed (length names.now) entry.now }
-    ensures { IfOk result (λ line. option_map (λ l. l.items) line ≡ line_with (option_map (λ t. t.now) ticks.entry) names.now tuned entry.now) }
+    ensures { IfOk result (λ line. option_map (λ l. l.items) line
+        ≡ line_with (option_map (λ t. t.now) ticks.entry) names.now tuned entry.now) }
 {
     match ticks {
         None => line_in(alloc, entry, names, tuned),
@@ -262,7 +263,8 @@ pub fn print_ticked<O: Sink>(
 ) -> Result<(), PrintFault>
     requires names { length names.now ≡ story.now.story.settings.objects }
     ensures ok { OnOk result (Grows (O.written out.old) (O.written out.new) (ticked_text_of ends.now names.now story.now.story)) }
-    ensures err { OnErr result (GrowsByFront (O.written out.old) (O.written out.new) (ticked_text_of ends.now names.now story.now.story)) }
+    ensures err { OnErr result (GrowsByFront (O.written out.old) (O.written out.new)
+        (ticked_text_of ends.now names.now story.now.story)) }
     ensures failed { IsErrOf result PrintFault.WriteFailed → HasRisen (O.fault_count out.old) (O.fault_count out.new) }
     ensures counted { O.fault_count out.new ≡ print_faults result (O.fault_count out.old) }
 {

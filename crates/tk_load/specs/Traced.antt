@@ -6,7 +6,7 @@ use Rattle.tk_trace.specs.Checked.{Faults}
 use Rattle.tk_trace.specs.Recorded.{recorded_of}
 use Rattle.tk_trace.specs.Spelling.{IsTrace}
 use Rattle.tk_trace.specs.declared.trace.Trace.{Trace}
-use Rattle.tk_verify.specs.Recorded.{IsFinished}
+use Rattle.tk_verify.specs.Recorded.{ReachesItsEnd}
 use Rattle.tk_load.specs.Faults.{Fault}
 use Rattle.tk_load.specs.Input.{bytes_from}
 use Rattle.tk_load.specs.Reads.{IsRead, Says}
@@ -19,7 +19,7 @@ pub record IsSpelledBy (bytes : List ℕ) (trace : Trace) : Type 0 where
   pub starts : trace.story.story.from ≡ beginnings trace.story.story.logs
   pub events : trace.story.events ≡ []
   pub legal : IsStory trace.story.story
-  pub finished : IsFinished trace.story.story
+  pub finished : ReachesItsEnd trace.story.story
 
 -- a status tells what is wrong with the bytes of a file of this name; want of memory is free
 abbrev pub TellsWrong : List ℕ → List ℕ → Status → Type 0

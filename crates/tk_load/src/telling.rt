@@ -74,7 +74,8 @@ fn push_bad_input(
     number: u32,
     kind: InputKind,
 ) -> Result<(), AllocError>
-    ensures { OnOk result (line.new.items ≡ line.old.items ++ (place_text file.now ++ (codes ": " ++ (line_text number ++ kind_text kind)))) }
+    ensures { OnOk result (line.new.items
+        ≡ line.old.items ++ (place_text file.now ++ (codes ": " ++ (line_text number ++ kind_text kind)))) }
 {
     line.extend_from_slice(place(file))?;
     line.extend_from_slice(b": ")?;
@@ -91,7 +92,8 @@ fn push_of_file(line: &mut Vec<u8>, file: &[u8], fault: &[u8]) -> Result<(), All
 }
 
 fn push_object(line: &mut Vec<u8>, object: u32) -> Result<(), AllocError>
-    ensures { OnOk result (line.new.items ≡ line.old.items ++ (codes ": object " ++ (decimal object ++ codes ": the changes pass the limit"))) }
+    ensures { OnOk result (line.new.items
+        ≡ line.old.items ++ (codes ": object " ++ (decimal object ++ codes ": the changes pass the limit"))) }
 {
     line.extend_from_slice(b": object ")?;
     push_number(line, object)?;

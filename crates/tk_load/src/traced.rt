@@ -6,7 +6,7 @@ ghost use Rattle.tk_load.specs.Traced.{LoadsTrace, TellsWrong, TracesBytes};
 ghost use Rattle.tk_story.specs.Story.{IsStory};
 ghost use Rattle.tk_trace.specs.Checked.{Faults};
 ghost use Rattle.tk_trace.specs.declared.trace_fault.TraceFault.TheVariants.{NoMemory as Memory};
-ghost use Rattle.tk_verify.specs.Recorded.{IsFinished};
+ghost use Rattle.tk_verify.specs.Recorded.{ReachesItsEnd};
 
 use crate::reading::read as read_file;
 use crate::status::Status;
@@ -31,7 +31,7 @@ fn bad_trace(alloc: Global, file: &str, fault: TraceFault) -> Status
 fn trace_of(alloc: Global, bytes: &[u8], file: &str) -> Result<Trace, Status>
     ensures named { IfOk result (λ t. length t.names ≡ t.story.story.settings.objects) }
     ensures legal { IfOk result (λ t. IsStory t.story.story) }
-    ensures finished { IfOk result (λ t. IsFinished t.story.story) }
+    ensures finished { IfOk result (λ t. ReachesItsEnd t.story.story) }
     ensures traces { TracesBytes file.now bytes.now result }
 {
     match read(alloc, bytes) {
@@ -44,7 +44,7 @@ fn trace_of(alloc: Global, bytes: &[u8], file: &str) -> Result<Trace, Status>
 pub fn load_trace<F: Files>(alloc: Global, file: &str, files: &mut F) -> Result<Trace, Status>
     ensures named { IfOk result (λ t. length t.names ≡ t.story.story.settings.objects) }
     ensures legal { IfOk result (λ t. IsStory t.story.story) }
-    ensures finished { IfOk result (λ t. IsFinished t.story.story) }
+    ensures finished { IfOk result (λ t. ReachesItsEnd t.story.story) }
     ensures read { LoadsTrace (F.content files.old) (F.fault_count files.old) (F.fault_count files.new) file.now result }
     ensures kept { AreKept (F.content files.old) (F.content files.new) (F.fault_count files.old) (F.fault_count files.new) }
 {

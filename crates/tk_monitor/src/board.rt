@@ -186,7 +186,8 @@ impl Board {
 
     /// The least member level minus the greatest level of an outsider, read at two roots.
     pub fn slack(&self) -> Option<i128>
-        ensures { result ≡ difference (least_member_of self.now.levels self.now.members) (greatest_outside_of self.now.levels self.now.members) }
+        ensures { result ≡ difference (least_member_of self.now.levels self.now.members)
+            (greatest_outside_of self.now.levels self.now.members) }
     {
         if self.members.len() == 0 {
             return None;

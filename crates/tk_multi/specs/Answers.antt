@@ -4,7 +4,7 @@ use Rattle.tk_input.specs.Logs.{LogSet}
 use Rattle.tk_story.specs.Kept.{KeptStory}
 use Rattle.tk_story.specs.Moments.{IsOver}
 use Rattle.tk_story.specs.Story.{IsStory}
-use Rattle.tk_drain.specs.Drive.{Drives, IsFinished}
+use Rattle.tk_drain.specs.Drive.{Drives, IsFinishing}
 use Rattle.tk_drain.specs.Resting.{RunsFrom}
 use Rattle.tk_multi.specs.Multi.{begun}
 use Rattle.tk_multi.specs.Order.{MultiOrdered}
@@ -35,7 +35,7 @@ pub record AreAnswers (all : LogSet) (events : List MultiEvent) (alones : List A
 pub record IsEnd (world kept : KeptStory) : Type 0 where
   pub legal : IsStory kept.story
   pub over : IsOver kept.story
-  pub finished : IsFinished world kept
+  pub finished : IsFinishing world kept
 
 -- so was each of some stories
 abbrev pub AreFinished : List KeptStory → List KeptStory → Type 0

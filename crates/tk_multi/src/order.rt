@@ -83,7 +83,8 @@ fn take_line(
         ≡ Ok (record { events = events.new.items; lines = lines.new.items })) }
     ensures err { IfErr result (λ e. IsFault e
         (line_added (record { events = events.old.items; lines = lines.old.items }) (number, line.now))) }
-    ensures pairs { OnOk result (length events.old.items ≡ length lines.old.items → length events.new.items ≡ length lines.new.items) }
+    ensures pairs { OnOk result (length events.old.items ≡ length lines.old.items
+        → length events.new.items ≡ length lines.new.items) }
 {
     let Some(event) = event_of(line) else {
         return Err(OrderFault::BadOrder(number));

@@ -19,7 +19,8 @@ fn add_parts(
     list: &mut Vec<(Mon, Part)>,
 ) -> Result<(), NoMemory>
     requires { IsMonitor logs.now mon.0 }
-    ensures { OnOk result (list.new.items ≡ list.old.items ++ under mon.0 (map (watched_in watch.now) (parts_of logs.now.logs mon.0))) }
+    ensures { OnOk result (list.new.items
+        ≡ list.old.items ++ under mon.0 (map (watched_in watch.now) (parts_of logs.now.logs mon.0))) }
 {
     let parts = logs.parts(alloc, mon)?;
     for part in parts.as_slice() {

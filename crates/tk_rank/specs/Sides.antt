@@ -1,5 +1,5 @@
 -- The members and the outsiders in two trees. No public clause cites this file.
-use Rattle.std.specs.Prelude.{◌≡◌, ℕ, ◌<◌, ◌≤◌, ℤ, pos, ◌-ℤ◌, Bool, ◌||◌, nat_lt, if◌then◌else◌, List, length, Option, Some, None}
+use Rattle.std.specs.Prelude.{◌≡◌, ◌==◌, ℕ, ◌<◌, ◌≤◌, ℤ, pos, ◌-ℤ◌, Bool, ◌||◌, nat_lt, if◌then◌else◌, List, length, Option, Some, None}
 use Rattle.tk_base.specs.Objects.{is_in}
 use Rattle.tk_border.specs.Levels.{level_at}
 use Rattle.tk_rank.specs.Ranked.{IsRanked}
@@ -19,6 +19,10 @@ pub record AreSides (levels : List ℤ) (is_member : ℕ → Bool) (members outs
   pub outsider_room : length levels ≤ length outsiders
   pub member : (o : ℕ) → 0 < o → leaf_at members o ≡ member_leaf levels is_member o
   pub outsider : (o : ℕ) → 0 < o → leaf_at outsiders o ≡ outsider_leaf levels is_member o
+
+-- a test with another answer for one object
+abbrev pub with_answer : ℕ → Bool → (ℕ → Bool) → ℕ → Bool
+with_answer o answer test q = if q == o then answer else test q
 
 -- what holds of the fields of a rank, the list of whose members has so much room
 pub record IsKept (levels : List ℤ) (members : List ℕ) (capacity : ℕ) (member_leaves outsider_leaves : List (Option ℤ)) : Type 0 where

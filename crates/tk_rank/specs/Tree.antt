@@ -1,8 +1,9 @@
 -- A tournament tree of numbers, some of its leaves empty. No public clause cites this file.
-use Rattle.std.specs.Prelude.{◌≡◌, ℕ, ◌+◌, ◌-◌, ◌*◌, ◌/◌, ◌<◌, ◌≤◌, ℤ, Bool, false, List, length, drop, Option, Some, None, slice_index_or}
+use Rattle.std.specs.Prelude.{◌≡◌, ℕ, ◌+◌, ◌-◌, ◌*◌, ◌/◌, ◌<◌, ◌≤◌, ℤ, Bool, false, List, length, drop, Option, Some, None, slice_index_or, filter, not}
 use Rattle.std.specs.Int.{int_max, IsPowerOfTwo}
 use Rattle.std.specs.List.{filter_map}
 use Rattle.std.specs.Ordering.{int_cmp, is_lt}
+use Rattle.tk_base.specs.Objects.{is_in}
 
 -- the greater of two numbers, each of which may be missing
 abbrev pub greater : Option ℤ → Option ℤ → Option ℤ
@@ -47,6 +48,14 @@ pub record IsPart (leaves width node first : ℕ) : Type 0 where
 -- the number at the leaf of an object
 abbrev pub leaf_at : List (Option ℤ) → ℕ → Option ℤ
 leaf_at leaves o = slice_index_or leaves (o - 1) None
+
+-- those of some objects whose number is above a level
+abbrev pub those_over : ℤ → List (Option ℤ) → List ℕ → List ℕ
+those_over level leaves some = filter (λ o. is_over level (leaf_at leaves o)) some
+
+-- those of some objects that are outside a set
+abbrev pub others_in : List ℕ → List ℕ → List ℕ
+others_in set some = filter (λ o. not (is_in set o)) some
 
 -- the numbers of those of some objects that have one
 abbrev pub standing : List (Option ℤ) → List ℕ → List ℤ

@@ -4,7 +4,7 @@ ghost use Rattle.std.specs.List.{range_with_len};
 ghost use Rattle.tk_base.specs.Ascending.{numbers_of};
 ghost use Rattle.tk_base.specs.Objects.{is_in};
 ghost use Rattle.tk_border.specs.Levels.{greatest_of, IsPassed};
-ghost use Rattle.tk_rank.specs.Tree.{is_over as is_over_of, leaf_at, leaves_of, standing, width_of, IsPart, IsTree};
+ghost use Rattle.tk_rank.specs.Tree.{is_over as is_over_of, leaf_at, leaves_of, others_in, standing, those_over, width_of, IsPart, IsTree};
 
 use crate::node::Node;
 use tk_base::{NoMemory, Obj, ObjSet};
@@ -97,7 +97,8 @@ pub(crate) fn collect(
 ) -> Result<(), NoMemory>
     requires tree { IsTree nodes.now }
     requires part { IsPart (width_of nodes.now) part.width part.node part.first }
-    ensures { IfOk result (λ _. numbers_of found.new.items ≡ numbers_of found.old.items ++ filter (λ o. is_over_of level (leaf_at (leaves_of nodes.now) o)) (range_with_len part.first part.width)) }
+    ensures { IfOk result (λ _. numbers_of found.new.items
+        ≡ numbers_of found.old.items ++ those_over level (leaves_of nodes.now) (range_with_len part.first part.width)) }
 {
     if !nodes[part.node].is_over(level) {
         return Ok(());
@@ -116,7 +117,8 @@ pub(crate) fn outside(nodes: &[Node], set: &ObjSet, part: Part, place: usize) ->
     requires tree { IsTree nodes.now }
     requires part { IsPart (width_of nodes.now) part.width part.node part.first }
     requires passed { IsPassed set.now place part.first }
-    ensures number { result.0 ≡ greatest_of (standing (leaves_of nodes.now) (filter (λ o. not (is_in set.now o)) (range_with_len part.first part.width))) }
+    ensures number { result.0
+        ≡ greatest_of (standing (leaves_of nodes.now) (others_in set.now (range_with_len part.first part.width))) }
     ensures passed { IsPassed set.now result.1 (part.first + part.width) }
 {
     if !is_reached(set, part, place) {

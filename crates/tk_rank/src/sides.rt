@@ -3,7 +3,7 @@ ghost use Rattle.std.specs.Prelude.{◌≡◌, ℕ, ◌+◌, ◌-◌, ◌^◌, �
 ghost use Rattle.tk_base.specs.Ascending.{IsAscending, numbers_of};
 ghost use Rattle.tk_base.specs.Objects.{is_in};
 ghost use Rattle.tk_border.specs.Levels.{holds, AreMembers, AreObjects, AreSmall};
-ghost use Rattle.tk_rank.specs.Sides.{AreSides};
+ghost use Rattle.tk_rank.specs.Sides.{AreSides, with_answer};
 ghost use Rattle.tk_rank.specs.Tree.{leaf_at};
 
 use crate::node::Node;
@@ -33,7 +33,8 @@ fn place(levels: &[i128], o: Obj, is_member: bool, members: &mut Tree, outsiders
     requires sizes { AreSmall levels.now }
     requires member_room { length levels.now ≤ length members.old }
     requires outsider_room { length levels.now ≤ length outsiders.old }
-    ensures { (p : ℕ → Bool) → AreSides levels.now p members.old outsiders.old → AreSides levels.now (λ q. if q == o.0 then is_member else p q) members.new outsiders.new }
+    ensures { (p : ℕ → Bool) → AreSides levels.now p members.old outsiders.old
+        → AreSides levels.now (with_answer o.0 is_member p) members.new outsiders.new }
 {
     let level = levels[(o.0 - 1) as usize];
     if is_member {
@@ -51,7 +52,8 @@ pub(crate) fn relevel(o: Obj, level: i128, members: &mut Tree, outsiders: &mut T
     requires of_members { o.0 ≤ length members.old }
     requires of_outsiders { o.0 ≤ length outsiders.old }
     requires size { unsigned_abs level < 2 ^ 114 }
-    ensures { (levels : List ℤ) (p : ℕ → Bool) → o.0 ≤ length levels → AreSides levels p members.old outsiders.old → AreSides (slice_set levels (o.0 - 1) level) p members.new outsiders.new }
+    ensures { (levels : List ℤ) (p : ℕ → Bool) → o.0 ≤ length levels → AreSides levels p members.old outsiders.old
+        → AreSides (slice_set levels (o.0 - 1) level) p members.new outsiders.new }
 {
     // Most objects are outsiders: their tree alone is read then.
     if outsiders.leaf(o).is_some() {

@@ -3,7 +3,7 @@ ghost use Rattle.std.specs.List.{range_with_len};
 ghost use Rattle.tk_base.specs.Ascending.{numbers_of};
 ghost use Rattle.tk_base.specs.Objects.{objects, is_in};
 ghost use Rattle.tk_border.specs.Levels.{outside as outside_of, greatest_of};
-ghost use Rattle.tk_rank.specs.Tree.{leaf_at, standing, is_over};
+ghost use Rattle.tk_rank.specs.Tree.{leaf_at, standing, is_over, those_over};
 
 use crate::node::Node;
 use crate::nodes::{Part, collect, outside, put};
@@ -69,7 +69,7 @@ impl Tree {
 
     /// The objects whose number is above a level, in the time of what is found times a logarithm.
     pub fn above(&self, alloc: Global, level: i128) -> Result<Vec<Obj>, NoMemory>
-        ensures { IfOk result (λ v. numbers_of v.items ≡ filter (λ o. is_over level (leaf_at self.now o)) (objects (length self.now))) }
+        ensures { IfOk result (λ v. numbers_of v.items ≡ those_over level self.now (objects (length self.now))) }
     {
         let mut found = Vec::new(alloc);
         let nodes = self.nodes.as_slice();

@@ -78,7 +78,8 @@ impl Table {
         requires { IsReplacement self.old change.now }
         ensures monitors { self.new.monitors ≡ self.old.monitors }
         ensures objects { length self.new.rows ≡ length self.old.rows }
-        ensures factors { (node o : ℕ) → 0 < o → factor_at self.new node o ≡ factor_in (changes_at change.now node) o (factor_at self.old node o) }
+        ensures factors { (node o : ℕ) → 0 < o
+            → factor_at self.new node o ≡ factor_in (changes_at change.now node) o (factor_at self.old node o) }
     {
         for place in 0..change.own.len() {
             let (o, own) = change.own.at(place);

@@ -10,7 +10,8 @@ use Rattle.tk_load.specs.Traced.{LoadsTrace, TracesRead}
 use Rattle.tk_load.specs.declared.input.Input.{Input}
 use Rattle.tk_load.specs.declared.status.Status.{Status}
 use Rattle.tk_load.specs.declared.status.Status.TheVariants as s
-use Rattle.tk_run.specs.Ends.{Ends, EndsAsked, EndsWords, IsDone, IsRefused, IsToldBy, IsTracedOf, check_text}
+use Rattle.tk_run.specs.Ends.{Ends, EndsAsked, EndsWords, IsDone, IsToldBy, IsTracedOf, check_text, served}
+use Rattle.tk_run.proofs.EndsLemmas.{not_refused}
 
 -- the status of a file that gives no trace is a fault of it
 abbrev IsOfFile : Status → Type 0
@@ -67,18 +68,6 @@ untraced gives IsOf text before (s.LinkDiffers mon direction place sent received
 -- ---- the trace of a finished run
 
 module _ (words : List (List ℕ)) (file : List ℕ) (told : List ℕ → Option (List ℕ)) (old new : List ℕ → ℕ) (before after : Option (List ℕ)) (understood : words_of words ≡ Some (Checks file)) where
-  not_refused : (status : Status) → IsRefused words status → IsDone status
-  not_refused s.Usage none = absurd (cc (none, understood))
-  not_refused s.NoMemory none = tt
-  not_refused s.Done none = absurd none
-  not_refused (s.ReadFault name) none = absurd none
-  not_refused (s.BadInput name line kind) none = absurd none
-  not_refused (s.TooGreat mon obj) none = absurd none
-  not_refused s.WriteFault none = absurd none
-  not_refused s.LinkFault none = absurd none
-  not_refused (s.LinkDiffers mon direction place sent received) none = absurd none
-  not_refused (s.BadTrace name fault) none = absurd none
-
   module _ (reads : (status : Status) → LoadsTrace told old new file (Err status) → status ≡ s.NoMemory) where
     ended : (status : Status) → (status ≡ s.WriteFault → ⊥) → Ends (LoadsTrace told old new file) IsToldBy check_text before after status → IsDone status
     ended (s.ReadFault name) written ends = let is = reads (s.ReadFault name) ends.0 in absurd (cc (is))
@@ -93,7 +82,7 @@ module _ (words : List (List ℕ)) (file : List ℕ) (told : List ℕ → Option
     ended (s.LinkDiffers mon direction place sent received) written ends = absurd ends
 
     pub trace_is_checked : (status : Status) → (status ≡ s.WriteFault → ⊥) → EndsWords words told old new before after status → IsDone status
-    trace_is_checked status written (inl refused) = not_refused status refused.0
+    trace_is_checked status written (inl refused) = not_refused words (Checks file) status (ap served understood) refused.0
     trace_is_checked status written (inr ends) =
         let same : ends.asked ≡ Checks file = let found = ends.understood in cc (found, understood) in
         ended status written (subst (λ (a : Asked). EndsAsked a told old new before after status) same ends.ends)

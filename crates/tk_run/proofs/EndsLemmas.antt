@@ -1,11 +1,12 @@
 -- How runs end.
-use Rattle.std.proofs.Common.{◌≡◌, ℕ, List, Option, Result, Ok, Err, refl, subst, inl}
+use Rattle.std.proofs.Common.{◌≡◌, ℕ, List, Option, Some, Result, Ok, Err, refl, subst, inl}
 use Rattle.tk_input.specs.Sink.{Grows, GrowsByFront}
 use Rattle.tk_load.specs.Faults.{Fault}
 use Rattle.tk_load.specs.Reads.{Tells}
 use Rattle.tk_load.specs.declared.status.Status.{Status}
 use Rattle.tk_load.specs.declared.status.Status.TheVariants as s
-use Rattle.tk_run.specs.Ends.{Ends, HasRun, IsCutShort}
+use Rattle.tk_words.specs.Words.{Asked, words_of}
+use Rattle.tk_run.specs.Ends.{Ends, HasRun, IsCutShort, IsDone, IsRefused, served}
 
 -- a status that tells a fault of the input is not that of a run, nor of its output
 pub not_done : {V : Type 0} (status : Status) (meant : Result V Fault) → Tells status meant → status ≡ s.Done → ⊥
@@ -34,3 +35,16 @@ module _ {I S : Type 0} (gives : Result I Status → Type 0) (IsOf : I → S →
 
     pub cut_short : GrowsByFront old new bytes → IsCutShort gives IsOf text old new
     cut_short grows = record { input = input; given = given; made = made; story = story; written = subst (λ (b : List ℕ). GrowsByFront old new b) same grows }
+
+-- words that are served are not refused
+pub not_refused : (words : List (List ℕ)) (asked : Asked) (status : Status) → served (words_of words) ≡ Some asked → IsRefused words status → IsDone status
+not_refused words asked s.Usage some none = absurd (cc (none, some))
+not_refused words asked s.NoMemory some none = tt
+not_refused words asked s.Done some none = absurd none
+not_refused words asked (s.ReadFault file) some none = absurd none
+not_refused words asked (s.BadInput file line kind) some none = absurd none
+not_refused words asked (s.TooGreat mon obj) some none = absurd none
+not_refused words asked s.WriteFault some none = absurd none
+not_refused words asked s.LinkFault some none = absurd none
+not_refused words asked (s.LinkDiffers mon direction place sent received) some none = absurd none
+not_refused words asked (s.BadTrace file fault) some none = absurd none

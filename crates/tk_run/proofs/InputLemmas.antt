@@ -1,5 +1,5 @@
 -- An input that the files tell is run.
-use Rattle.std.proofs.Common.{◌≡◌, ℕ, List, Option, Some, Ok, Err, refl, subst, inl, inr}
+use Rattle.std.proofs.Common.{◌≡◌, ℕ, List, Option, Some, Ok, Err, refl, ap, subst, inl, inr}
 use Rattle.tk_words.specs.Words.{Asked, ReplayWords, words_of}
 use Rattle.tk_words.specs.Words.Asked.{Replays}
 use Rattle.tk_load.specs.Input.{input_of}
@@ -9,21 +9,10 @@ use Rattle.tk_load.specs.declared.input.Input.{Input}
 use Rattle.tk_load.specs.declared.status.Status.{Status}
 use Rattle.tk_load.specs.declared.status.Status.TheVariants as s
 use Rattle.tk_load.proofs.ToldLemmas.{meant_as_told}
-use Rattle.tk_run.specs.Ends.{Ends, EndsAsked, EndsWords, IsDone, IsRefused, IsStoryOf, replay_text}
+use Rattle.tk_run.specs.Ends.{Ends, EndsAsked, EndsWords, IsDone, IsStoryOf, replay_text, served}
+use Rattle.tk_run.proofs.EndsLemmas.{not_refused}
 
 module _ (words : List (List ℕ)) (asked : ReplayWords) (told : List ℕ → Option (List ℕ)) (old new : List ℕ → ℕ) (before after : Option (List ℕ)) (understood : words_of words ≡ Some (Replays asked)) where
-  not_refused : (status : Status) → IsRefused words status → IsDone status
-  not_refused s.Usage none = absurd (cc (none, understood))
-  not_refused s.NoMemory none = tt
-  not_refused s.Done none = absurd none
-  not_refused (s.ReadFault file) none = absurd none
-  not_refused (s.BadInput file line kind) none = absurd none
-  not_refused (s.TooGreat mon obj) none = absurd none
-  not_refused s.WriteFault none = absurd none
-  not_refused s.LinkFault none = absurd none
-  not_refused (s.LinkDiffers mon direction place sent received) none = absurd none
-  not_refused (s.BadTrace file fault) none = absurd none
-
   module _ (contents : List ℕ → List ℕ) (are : AreTold told old new contents asked.sources) (input : Input) (is : input_of (read_by contents asked.sources) ≡ Ok input) where
     no_fault : (status : Status) → Loads told old new asked.sources (Err status) → IsDone status
     no_fault (s.ReadFault file) loads = let meant = meant_as_told told old new contents asked.sources (Err (s.ReadFault file)) are loads in absurd (cc (meant, is))
@@ -51,7 +40,7 @@ module _ (words : List (List ℕ)) (asked : ReplayWords) (told : List ℕ → Op
     ended (s.BadTrace file fault) written ends = no_fault (s.BadTrace file fault) ends.0
 
     pub input_is_run : (status : Status) → (status ≡ s.WriteFault → ⊥) → EndsWords words told old new before after status → IsDone status
-    input_is_run status written (inl refused) = not_refused status refused.0
+    input_is_run status written (inl refused) = not_refused words (Replays asked) status (ap served understood) refused.0
     input_is_run status written (inr ends) =
         let same : ends.asked ≡ Replays asked = let found = ends.understood in cc (found, understood) in
         ended status written (subst (λ (a : Asked). EndsAsked a told old new before after status) same ends.ends)

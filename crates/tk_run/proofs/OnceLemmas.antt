@@ -4,7 +4,7 @@ use Rattle.tk_input.specs.declared.event.Event.{Event}
 use Rattle.tk_story.specs.Kept.{KeptStory}
 use Rattle.tk_story.specs.Story.{StoryView}
 use Rattle.tk_world.specs.Events.{CanOnlyChange, next_of}
-use Rattle.tk_drain.specs.Drive.{Finishes, IsFinished, Settles, all_raises, keep, keep_all, swept}
+use Rattle.tk_drain.specs.Drive.{Finishes, IsFinishing, Settles, all_raises, keep, keep_all, swept}
 use Rattle.tk_drain.specs.Drive.Finishes.{Done, Passes, Raises}
 use Rattle.tk_drain.specs.Drive.Settles.{Rests, Sweeps}
 use Rattle.tk_load.specs.declared.input.Input.{Input}
@@ -53,7 +53,7 @@ finishes_once (e ∷ events) a b c (Raises event rest kept settled end story cou
     let same : settled ≡ on.settled = settles_once (keep a e) settled on.settled count on.count settles on.settles in
     finishes_once events settled b c more (subst (λ (k : KeptStory). Finishes events k c) (sym same) on.finishes)
 
-finished_once : (begun a b : KeptStory) → IsFinished begun a → IsFinished begun b → a ≡ b
+finished_once : (begun a b : KeptStory) → IsFinishing begun a → IsFinishing begun b → a ≡ b
 finished_once begun a b one other =
     let same : one.settled ≡ other.settled = settles_once begun one.settled other.settled one.count other.count one.settles other.settles in
     finishes_once (all_raises begun.story.logs) one.settled a b one.finishes (subst (λ (k : KeptStory). Finishes (all_raises begun.story.logs) k b) (sym same) other.finishes)

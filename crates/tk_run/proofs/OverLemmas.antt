@@ -10,7 +10,7 @@ use Rattle.tk_journal.specs.declared.noted.Noted.TheVariants as n
 use Rattle.tk_journal.specs.declared.publication.Publication.{Publication}
 use Rattle.tk_journal.proofs.Appends.{is_stopped-append}
 use Rattle.tk_story.specs.Story.{IsStory, StoryView}
-use Rattle.tk_verify.specs.Recorded.{IsFinished}
+use Rattle.tk_verify.specs.Recorded.{ReachesItsEnd}
 
 or_any : (b : Bool) → (b || true) ≡ true
 or_any true = refl
@@ -25,5 +25,5 @@ stopped_by s (suc k) j p is some =
     ∙ ap (λ m. list_any is_stop j || list_any is_stop (n.Published p ∷ map (λ mon. n.Sent (record { 0 = mon }) f.Stop) (range_with_len 1 m))) is
     ∙ or_any (list_any is_stop j)
 
-pub finished_is_stopped : (s : StoryView) → IsStory s → IsFinished s → is_stopped s.journal ≡ true
+pub finished_is_stopped : (s : StoryView) → IsStory s → ReachesItsEnd s → is_stopped s.journal ≡ true
 finished_is_stopped s h end = ap (λ (j : List Noted). is_stopped j) end.is ∙ stopped_by s.settings s.settings.monitors end.front end.final refl h.limits.some_monitor

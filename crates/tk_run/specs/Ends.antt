@@ -147,7 +147,7 @@ RunsAsked (Restarts words) told old new before after = AreSeveral (HasRun (Loads
 RunsAsked (Traces words) told old new before after = IsOne (HasRun (Loads told old new words.sources) IsTracedOf trace_text before after)
 RunsAsked (Checks file) told old new before after = IsOne (HasRun (LoadsTrace told old new file) IsToldBy check_text before after)
 
--- how what words ask for has ended
+-- how what words ask for has ended; of a trace that was cut short a front of that of the story was written
 abbrev pub EndsAsked : Asked → (List ℕ → Option (List ℕ)) → (List ℕ → ℕ) → (List ℕ → ℕ) → Option (List ℕ) → Option (List ℕ) → Status → Type 0
 EndsAsked (Replays words) told old new before after = Ends (Loads told old new words.sources) IsStoryOf replay_text before after
 EndsAsked (Generates words) told old new before after = Ends (Meets (λ input. input) (generated_of words)) IsStoryOf summary_text before after

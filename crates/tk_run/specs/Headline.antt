@@ -9,7 +9,7 @@ use Rattle.tk_journal.specs.declared.noted.Noted.TheVariants as n
 use Rattle.tk_journal.specs.declared.publication.Publication.{Publication}
 use Rattle.tk_story.specs.Moments.{AreMembersValid, IsMoment, IsPublishedValid, IsQuiet}
 use Rattle.tk_story.specs.Story.{IsStory, StoryView}
-use Rattle.tk_verify.specs.Recorded.{IsFinished}
+use Rattle.tk_verify.specs.Recorded.{ReachesItsEnd}
 
 -- each published set is valid over exactly the cut beside it, with the k and epsilon beside it
 abbrev pub ArePublishedValid : StoryView → Type 0
@@ -41,7 +41,7 @@ pub record IsSoundSoFar (s : StoryView) : Type 0 where
 pub record IsSound (s : StoryView) : Type 0 where
   pub quiet : (t : StoryView) → IsMoment t s → IsQuiet t → AreMembersValid t
   pub published : ArePublishedValid s
-  pub final : IsFinished s
+  pub final : ReachesItsEnd s
   pub alone : HasEnded s.settings s.journal
   pub numbered : AreNumbered (publications s.journal)
   pub forward : NeverGoBack s

@@ -13,7 +13,7 @@ ghost use Rattle.tk_run.specs.Headline.{IsSound, IsSoundSoFar};
 ghost use Rattle.tk_run.specs.Sessions.{AreSound, AreStoriesOf};
 ghost use Rattle.tk_story.specs.Moments.{IsOver};
 ghost use Rattle.tk_story.specs.Story.{IsStory, StoryView};
-ghost use Rattle.tk_verify.specs.Recorded.{IsFinished};
+ghost use Rattle.tk_verify.specs.Recorded.{ReachesItsEnd};
 ghost use Rattle.tk_words.specs.Words.{ReplayWords, words_of};
 ghost use Rattle.tk_words.specs.Words.Asked.{Checks, Replays};
 
@@ -27,7 +27,7 @@ use tk_trace::nothing_is_wrong_with_a_finished_run;
 
 /// A legal story that came to its end, whatever events made it: its journal, or each node's part too.
 pub fn a_finished_run_is_sound()
-    ensures finished { (s : StoryView) → IsStory s → IsFinished s → IsSound s }
+    ensures finished { (s : StoryView) → IsStory s → ReachesItsEnd s → IsSound s }
     ensures over { (s : StoryView) → IsStory s → IsOver s → IsSound s }
 {
     a_moment_is_a_story();
@@ -69,7 +69,8 @@ pub fn an_input_has_one_story()
 pub fn an_input_is_run()
     ensures { (words : List (List ℕ)) (asked : ReplayWords) (told : List ℕ → Option (List ℕ)) (old new : List ℕ → ℕ)
         (before after : Option (List ℕ)) (contents : List ℕ → List ℕ) (input : Input) (status : Status)
-        → words_of words ≡ Some (Replays asked) → AreTold told old new contents asked.sources → input_of (read_by contents asked.sources) ≡ Ok input
+        → words_of words ≡ Some (Replays asked) → AreTold told old new contents asked.sources
+        → input_of (read_by contents asked.sources) ≡ Ok input
         → (status ≡ NotWritten → ⊥) → EndsWords words told old new before after status → IsDone status }
 {}
 

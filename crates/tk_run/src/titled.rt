@@ -21,7 +21,8 @@ pub fn print_titled<O: Sink>(
 ) -> Result<(), PrintFault>
     requires { length names.now ≡ story.now.story.settings.objects }
     ensures ok { OnOk result (Grows (O.written out.old) (O.written out.new) (title.now ++ text_of names.now story.now.story)) }
-    ensures err { OnErr result (GrowsByFront (O.written out.old) (O.written out.new) (title.now ++ text_of names.now story.now.story)) }
+    ensures err { OnErr result (GrowsByFront (O.written out.old) (O.written out.new)
+        (title.now ++ text_of names.now story.now.story)) }
     ensures failed { IsErrOf result PrintFault.WriteFailed → HasRisen (O.fault_count out.old) (O.fault_count out.new) }
     ensures counted { O.fault_count out.new ≡ print_faults result (O.fault_count out.old) }
 {

@@ -7,16 +7,19 @@ pub struct Alarm {
 }
 
 impl Alarm {
+    /// No alarm is raised.
     pub fn new() -> Alarm {
         Alarm {
             raised: AtomicBool::new(false),
         }
     }
 
+    /// Raises it, for good.
     pub fn raise(&self) {
         self.raised.store(true, Ordering::SeqCst);
     }
 
+    /// Whether it is raised.
     pub fn raised(&self) -> bool {
         self.raised.load(Ordering::SeqCst)
     }

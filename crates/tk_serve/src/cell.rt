@@ -48,6 +48,7 @@ pub struct Shared<W: Wire, N: PortName> {
 pub type PortCell<W, N> = Mutex<Shared<W, N>>;
 
 impl<W: Wire, N: PortName> Shared<W, N> {
+    /// A port behind a lock that nobody holds.
     pub fn new(port: Port<W>) -> Shared<W, N>
         requires settings { port.monitor.settings ≡ N.settings }
         requires setup { port.monitor.setup ≡ N.setup }

@@ -9,7 +9,7 @@ use Rattle.tk_story.specs.Kept.{KeptStory}
 use Rattle.tk_story.specs.Moments.{IsOver, cut_of}
 use Rattle.tk_story.specs.Story.{IsStory, StoryView}
 use Rattle.tk_world.specs.Events.{begin}
-use Rattle.tk_drain.specs.Drive.{Drives, IsFinished, IsReached, keep, keep_all}
+use Rattle.tk_drain.specs.Drive.{Drives, IsFinishing, IsReached, keep, keep_all}
 use Rattle.tk_session.specs.Chain.{IsChainFrom, IsChainOf, IsSession, KeepStretches, begun}
 use Rattle.tk_session.specs.Chain.KeepStretches.{Last, Restarts}
 use Rattle.tk_session.specs.Order.{event_of, is_restart, stretches}
@@ -29,7 +29,7 @@ abbrev pub StoriesEndAtCuts : Type 0
 StoriesEndAtCuts = (s : StoryView) → IsStory s → IsCut s.logs.logs (cut_of s)
 
 abbrev pub FinishesAreReached : Type 0
-FinishesAreReached = (begun end : KeptStory) → IsFinished begun end → IsReached begun end
+FinishesAreReached = (begun end : KeptStory) → IsFinishing begun end → IsReached begun end
 
 -- ---- stretches
 

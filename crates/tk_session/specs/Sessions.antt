@@ -4,7 +4,7 @@ use Rattle.tk_base.specs.History.{IsFront}
 use Rattle.tk_story.specs.Kept.{KeptStory}
 use Rattle.tk_story.specs.Moments.{IsOver, cut_of}
 use Rattle.tk_story.specs.Story.{IsStory}
-use Rattle.tk_drain.specs.Drive.{IsFinished, keep}
+use Rattle.tk_drain.specs.Drive.{IsFinishing, keep}
 use Rattle.tk_session.specs.Chain.{begun}
 use Rattle.tk_session.specs.declared.session_line.SessionLine.{SessionLine}
 use Rattle.tk_session.specs.declared.session_line.SessionLine.TheVariants.{Step, Restart}
@@ -44,6 +44,6 @@ pub record PlaysFront (lines : List SessionLine) (old new : SessionsView) : Type
 pub record AreFinished (sessions : SessionsView) (stories : List KeptStory) : Type 0 where
   pub last : KeptStory
   pub legal : IsStory last.story
-  pub finished : IsFinished sessions.present last
+  pub finished : IsFinishing sessions.present last
   pub over : IsOver last.story
   pub are : stories ≡ sessions.past ++ last ∷ []

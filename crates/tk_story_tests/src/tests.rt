@@ -118,7 +118,8 @@ fn end_of(monitor: Monitor, stop: bool) -> Result<MonEnd, Fail>
 
 /// The ends of monitor 1, which raised a change or not, and of monitor 2, which received a Stop too early or not.
 fn pair(alloc: Global, run: &Run, raises: bool, stop: bool) -> Result<Vec<MonEnd>, Fail>
-    ensures { IfOk result (λ ends. map (λ end. as_made end.monitor) ends.items ≡ map (made_for run.now.settings run.now.logs run.now.from) (monitors run.now.settings)) }
+    ensures { IfOk result (λ ends. map (λ end. as_made end.monitor) ends.items
+        ≡ map (made_for run.now.settings run.now.logs run.now.from) (monitors run.now.settings)) }
 {
     let one = monitor(alloc, run, 1, raises)?;
     let one = end_of(one, false)?;

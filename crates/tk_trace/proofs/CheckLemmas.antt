@@ -13,7 +13,7 @@ use Rattle.tk_journal.specs.declared.noted.Noted.TheVariants as n
 use Rattle.tk_journal.specs.declared.publication.Publication.{Publication}
 use Rattle.tk_trail.specs.declared.entry.Entry.{Entry}
 use Rattle.tk_story.specs.Story.{IsStory, StoryView}
-use Rattle.tk_verify.specs.Recorded.{Finds, IsFinished, is_final, recorded as told_by}
+use Rattle.tk_verify.specs.Recorded.{Finds, ReachesItsEnd, is_final, recorded as told_by}
 use Rattle.tk_verify.specs.declared.finding.Finding.{Finding}
 use Rattle.tk_verify.specs.declared.finding.Finding.TheVariants as f
 use Rattle.tk_trace.specs.Checked.{Faults, IsFoundIn, IsKeptOf, as_found, as_unread, told}
@@ -121,8 +121,8 @@ pub kept_legal : (r : Recorded) (result : Result Trace TraceFault) → IfOk resu
 kept_legal r (Ok kept) is = subst IsStory (sym is.story) is.legal
 kept_legal r (Err e) is = tt
 
-pub kept_finished : (r : Recorded) (result : Result Trace TraceFault) → IfOk result (IsKeptOf r) → IfOk result (λ kept. IsFinished kept.story.story)
-kept_finished r (Ok kept) is = subst IsFinished (sym is.story) is.finished
+pub kept_finished : (r : Recorded) (result : Result Trace TraceFault) → IfOk result (IsKeptOf r) → IfOk result (λ kept. ReachesItsEnd kept.story.story)
+kept_finished r (Ok kept) is = subst ReachesItsEnd (sym is.story) is.finished
 kept_finished r (Err e) is = tt
 
 -- whether the last publication of a run is the final one
@@ -147,7 +147,7 @@ last_push : (ps : List Publication) (p : Publication) → last_of (ps ++ p ∷ [
 last_push ps p = fold-append (λ _ e. Some e) None ps (p ∷ [])
 
 -- the final publication of a finished story is its last one
-pub final_is : (s : StoryView) → IsFinished s → is_final (last_of (publications s.journal)) ≡ true
+pub final_is : (s : StoryView) → ReachesItsEnd s → is_final (last_of (publications s.journal)) ≡ true
 final_is s is =
     let last : publications s.journal ≡ publications is.front ++ is.final ∷ [] =
     ap publications is.is ∙ filter_map-append published_in is.front (n.Published is.final ∷ stops s.settings)

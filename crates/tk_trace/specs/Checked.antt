@@ -1,7 +1,7 @@
 -- What is answered of bytes that should be a trace of a run to its end.
 use Rattle.std.specs.Prelude.{◌≡◌, ◌⊎◌, ℕ, List, [], Result, Ok, Err}
 use Rattle.tk_story.specs.Story.{IsStory, StoryView}
-use Rattle.tk_verify.specs.Recorded.{Finds, IsFinished, recorded as told_by}
+use Rattle.tk_verify.specs.Recorded.{Finds, ReachesItsEnd, recorded as told_by}
 use Rattle.tk_verify.specs.declared.finding.Finding.{Finding}
 use Rattle.tk_verify.specs.declared.finding.Finding.TheVariants as f
 use Rattle.tk_trace.specs.Recorded.{Recorded}
@@ -52,4 +52,4 @@ pub record IsKeptOf (r : Recorded) (trace : Trace) : Type 0 where
   pub story : trace.story.story ≡ told r
   pub events : trace.story.events ≡ []
   pub legal : IsStory (told r)
-  pub finished : IsFinished (told r)
+  pub finished : ReachesItsEnd (told r)

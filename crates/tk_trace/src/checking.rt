@@ -5,7 +5,7 @@ ghost use Rattle.tk_base.specs.History.{last_of};
 ghost use Rattle.tk_journal.specs.Publishing.{publications};
 ghost use Rattle.tk_story.specs.Story.{IsStory, StoryView};
 ghost use Rattle.tk_input.specs.Logs.{beginnings};
-ghost use Rattle.tk_verify.specs.Recorded.{IsFinished, is_final};
+ghost use Rattle.tk_verify.specs.Recorded.{ReachesItsEnd, is_final};
 ghost use Rattle.tk_trace.specs.Checked.{Faults, IsKeptOf, Refuses, told};
 ghost use Rattle.tk_trace.specs.Recorded.{recorded, recorded_of};
 ghost use Rattle.tk_trace.specs.Spelling.{IsRecorded, IsTrace};
@@ -51,7 +51,7 @@ pub fn read(alloc: Global, bytes: &[u8]) -> Result<Trace, TraceFault>
     ensures starts { IfOk result (λ t. t.story.story.from ≡ beginnings t.story.story.logs) }
     ensures events { IfOk result (λ t. t.story.events ≡ []) }
     ensures legal { IfOk result (λ t. IsStory t.story.story) }
-    ensures finished { IfOk result (λ t. IsFinished t.story.story) }
+    ensures finished { IfOk result (λ t. ReachesItsEnd t.story.story) }
     // Every trace of such a story is read, unless there is no memory.
     ensures succeeds { (names : List (List ℕ)) (s : StoryView) → IsTrace bytes.now (recorded_of names s)
         → s.from ≡ beginnings s.logs → IsStory s → is_final (last_of (publications s.journal)) ≡ true

@@ -58,6 +58,7 @@ pub fn write<O: Sink>(
     ensures err { OnErr result (GrowsByFront (O.written out.old) (O.written out.new) (trace_of names.now story.now.story)) }
     ensures failed { IsErrOf result PrintFault.WriteFailed → HasRisen (O.fault_count out.old) (O.fault_count out.new) }
     ensures counted { O.fault_count out.new ≡ print_faults result (O.fault_count out.old) }
+    ensures unput { IsErrOf result PrintFault.NoMemory → O.written out.new ≡ O.written out.old }
     // All of it is within the rules, so what was written is a trace of this run, and of no other.
     ensures recorded { OnOk result (IsRecorded (recorded_of names.now story.now.story)) }
 {

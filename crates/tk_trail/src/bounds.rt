@@ -36,16 +36,20 @@ pub fn settled_places_are_within_limits()
 
 /// A Report names some outsiders.
 pub fn a_report_names_outsiders()
-    ensures { (setup : MonitorSetup) (before after : List Entry) (seq : ℕ) (border : ℤ) (failed : List ℕ) (values : List (ℕ × ℤ)) →
-        IsLegal setup (before ++ Sent (f.Report seq border failed values) ∷ after) → AreSomeOutsiders setup before failed }
+    ensures { (setup : MonitorSetup) (before after : List Entry) (seq : ℕ) (border : ℤ) (failed : List ℕ)
+        (values : List (ℕ × ℤ))
+        → IsLegal setup (before ++ Sent (f.Report seq border failed values) ∷ after) → AreSomeOutsiders setup before failed }
 {}
 
 /// A border that is sent is at most the level of each member, and at least -2^113.
 pub fn borders_are_within_limits()
-    ensures report { (setup : MonitorSetup) (before after : List Entry) (seq : ℕ) (border : ℤ) (failed : List ℕ) (values : List (ℕ × ℤ)) → IsSetup setup →
-        IsLegal setup (before ++ Sent (f.Report seq border failed values) ∷ after) → IsBorderWithin setup before border }
-    ensures values { (setup : MonitorSetup) (before after : List Entry) (round seq : ℕ) (border : ℤ) (values : List (ℕ × ℤ)) → IsSetup setup →
-        IsLegal setup (before ++ Sent (f.Values round seq border values) ∷ after) → IsBorderWithin setup before border }
+    ensures report { (setup : MonitorSetup) (before after : List Entry) (seq : ℕ) (border : ℤ) (failed : List ℕ)
+        (values : List (ℕ × ℤ))
+        → IsSetup setup
+        → IsLegal setup (before ++ Sent (f.Report seq border failed values) ∷ after) → IsBorderWithin setup before border }
+    ensures values { (setup : MonitorSetup) (before after : List Entry) (round seq : ℕ) (border : ℤ) (values : List (ℕ × ℤ))
+        → IsSetup setup
+        → IsLegal setup (before ++ Sent (f.Values round seq border values) ∷ after) → IsBorderWithin setup before border }
 {}
 
 /// Every frame that a monitor sends fits in both versions: it has no more items than there can be objects.

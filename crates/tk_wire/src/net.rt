@@ -86,7 +86,8 @@ pub trait Net {
     /// The link to a connection that waits, if one does.
     fn accept(&mut self) -> Result<Option<Self::Link>, NetFault>
         requires { (state self.old).listens ≡ true }
-        ensures link { IfOk result (λ got. IfSome got (λ link. IsNew Self.Link.tells (Self.Link.traffic link) (Self.Link.counts link))) }
+        ensures link { IfOk result (λ got. IfSome got (λ link.
+            IsNew Self.Link.tells (Self.Link.traffic link) (Self.Link.counts link))) }
         ensures state { state self.new ≡ called result (state self.old) }
         ensures knocking { tells_knocking ≡ true → Accepts result (knocking self.old) (knocking self.new) };
 

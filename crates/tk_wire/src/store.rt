@@ -60,6 +60,7 @@ fn take_behind<W: Wire>(wire: &mut W, bytes: &mut [u8], end: usize) -> Took
 }
 
 impl Store {
+    /// No bytes are held.
     pub fn new(alloc: Global) -> Store
         ensures { result.held ≡ [] }
     {
@@ -70,6 +71,7 @@ impl Store {
         }
     }
 
+    /// The bytes that are held, in order.
     pub fn held(&self) -> &[u8]
         ensures { result.now ≡ self.now.held }
     {

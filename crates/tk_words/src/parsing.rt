@@ -21,7 +21,8 @@ fn fault_of(error: Error) -> WordsFault
 /// What clap finds in the words of a command, the first of them included.
 pub fn parse<'a>(command: Command<'a>, words: &'a [String]) -> Result<ArgMatches<'a>, WordsFault>
     requires { is_simple_and_free (app_of command) ≡ true }
-    ensures ok { IfOk result (λ m. found_in (app_of command.entry) (map string_bytes words.entry.now) ≡ Some (rows_of (found_of m))) }
+    ensures ok { IfOk result (λ m. found_in (app_of command.entry) (map string_bytes words.entry.now)
+        ≡ Some (rows_of (found_of m))) }
     ensures usage { IsErrOf result WordsFault.Usage → found_in (app_of command.entry) (map string_bytes words.entry.now) ≡ None }
 {
     match command.try_get_matches_from(words) {

@@ -80,8 +80,10 @@ pub fn sources_with<'a>(
     order: Option<&'a str>,
     width: Option<u64>,
 ) -> Result<Sources<'a>, WordsFault>
-    ensures ok { IfOk result (λ r. spec.sources_with (option_map (λ s. s.now) order.entry) width (rows_of (found_of matches.now)) ≡ Some (asked_sources r)) }
-    ensures usage { IsErrOf result WordsFault.Usage → spec.sources_with (option_map (λ s. s.now) order.entry) width (rows_of (found_of matches.now)) ≡ None }
+    ensures ok { IfOk result (λ r. spec.sources_with (option_map (λ s. s.now) order.entry) width (rows_of (found_of matches.now))
+        ≡ Some (asked_sources r)) }
+    ensures usage { IsErrOf result WordsFault.Usage
+        → spec.sources_with (option_map (λ s. s.now) order.entry) width (rows_of (found_of matches.now)) ≡ None }
     ensures monitors { IfOk result (λ r. AreOfMonitors r.logs.items) }
 {
     let Some(k) = short(matches, "k") else {

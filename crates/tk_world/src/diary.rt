@@ -31,6 +31,7 @@ impl Model for Diary {
 }
 
 impl Diary {
+    /// An empty one, with room for so many raises.
     pub fn new(alloc: Global, raises: usize) -> Result<Diary, NoMemory>
         requires { raises < 2 ^ 32 }
         ensures { IfOk result (λ d. d ≡ record { events = []; raises = raises; spare = 0 }) }
@@ -42,6 +43,7 @@ impl Diary {
         })
     }
 
+    /// Where its memory comes from.
     pub fn alloc(&self) -> Global {
         *self.events.allocator()
     }
@@ -58,6 +60,7 @@ impl Diary {
         Ok(())
     }
 
+    /// Notes a raise, without memory.
     pub fn raised(&mut self, mon: Mon, f: Feeder)
         requires { 0 < self.old.raises }
         ensures { self.new ≡ record self.old {
@@ -69,6 +72,7 @@ impl Diary {
         self.raises -= 1;
     }
 
+    /// Notes an event for which there is room.
     pub fn note(&mut self, event: Event)
         requires { 0 < self.old.spare }
         ensures { self.new ≡ record self.old {
@@ -80,6 +84,7 @@ impl Diary {
         self.spare -= 1;
     }
 
+    /// The events, in order.
     pub fn into_events(self) -> Vec<Event>
         ensures { result.items ≡ self.events }
     {

@@ -11,7 +11,8 @@ ghost use Rattle.tk_world.specs.Runs.{RunsBy};
 
 /// The opening alone is a story.
 pub fn a_beginning_is_a_story()
-    ensures { (settings : Setup) (logs : LogSet) (from : List (List ℕ)) → IsWithinLimits settings → AreLogs logs → logs.objects ≡ settings.objects → length logs.logs ≡ settings.monitors → IsCut logs.logs from
+    ensures { (settings : Setup) (logs : LogSet) (from : List (List ℕ)) → IsWithinLimits settings → AreLogs logs
+        → logs.objects ≡ settings.objects → length logs.logs ≡ settings.monitors → IsCut logs.logs from
         → IsStory (begin settings logs from) }
 {}
 

@@ -14,18 +14,21 @@ pub struct Work {
 }
 
 impl Work {
+    /// No monitor.
     pub fn none() -> Work
         ensures { (q : ℕ) → has result q ≡ false }
     {
         Work { bits: 0 }
     }
 
+    /// Whether there is none.
     pub fn is_empty(&self) -> bool
         ensures { result ≡ true → (q : ℕ) → has self.now q ≡ false }
     {
         self.bits == 0
     }
 
+    /// Whether a monitor is one of them.
     pub fn contains(&self, mon: Mon) -> bool
         ensures { result ≡ has self.now mon.0 }
     {
@@ -36,6 +39,7 @@ impl Work {
         (bits >> (mon.0 - 1)) & 1 == 1
     }
 
+    /// Adds a monitor.
     pub fn insert(&mut self, mon: Mon)
         requires some { 1 ≤ mon.0 }
         requires within { mon.0 ≤ 64 }
@@ -44,6 +48,7 @@ impl Work {
         self.bits |= 1 << (mon.0 - 1);
     }
 
+    /// Takes a monitor out.
     pub fn remove(&mut self, mon: Mon)
         requires some { 1 ≤ mon.0 }
         requires within { mon.0 ≤ 64 }
@@ -53,6 +58,7 @@ impl Work {
         self.bits = bits & !(1 << (mon.0 - 1));
     }
 
+    /// Adds a monitor where that is wanted.
     pub fn insert_if(&mut self, mon: Mon, is_wanted: bool)
         requires some { 1 ≤ mon.0 }
         requires within { mon.0 ≤ 64 }
@@ -63,6 +69,7 @@ impl Work {
         }
     }
 
+    /// Takes a monitor out where that is wanted.
     pub fn remove_if(&mut self, mon: Mon, is_wanted: bool)
         requires some { 1 ≤ mon.0 }
         requires within { mon.0 ≤ 64 }

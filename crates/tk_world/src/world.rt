@@ -248,6 +248,7 @@ impl<N: Nodes> World<N> {
         cut_at(self.diary.alloc(), &self.nodes)
     }
 
+    /// The present members.
     pub fn members(&self) -> &ObjSet
         ensures value { result.now ≡ members_at self.now.story.journal }
         ensures legal { IsStory self.now.story }
@@ -255,6 +256,7 @@ impl<N: Nodes> World<N> {
         self.nodes.coordinator().members()
     }
 
+    /// What its coordinator was made with.
     pub fn settings(&self) -> &Settings
         ensures value { result.now ≡ self.now.story.settings }
         ensures legal { IsStory self.now.story }
@@ -262,6 +264,7 @@ impl<N: Nodes> World<N> {
         self.nodes.coordinator().settings()
     }
 
+    /// The logs that it is over.
     pub fn logs(&self) -> &Logs
         ensures { result.now ≡ self.now.story.logs }
     {

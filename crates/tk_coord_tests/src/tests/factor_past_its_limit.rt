@@ -32,7 +32,8 @@ fn only_a(alloc: Global) -> Result<ObjSet, Fail>
 /// These factors at the coordinator and at two monitors.
 fn reallocation(alloc: Global, own: Pairs, one: Pairs, two: Pairs) -> Result<Reallocation, Fail>
     ensures own { IfOk result (λ r. r.own ≡ own) }
-    ensures at { IfOk result (λ r. r.at.items ≡ (record { mon = record { 0 = 1 }; changes = one }) ∷ (record { mon = record { 0 = 2 }; changes = two }) ∷ []) }
+    ensures at { IfOk result (λ r. r.at.items ≡ (record { mon = record { 0 = 1 }; changes = one })
+        ∷ (record { mon = record { 0 = 2 }; changes = two }) ∷ []) }
 {
     let mut at = Vec::new(alloc);
     at.push(MonChange {

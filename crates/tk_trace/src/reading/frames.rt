@@ -16,6 +16,7 @@ fn frame(alloc: Global, bytes: &[u8]) -> Result<(Frame, &[u8]), ParseFault>
     }
 }
 
+/// A frame, and what follows it.
 pub fn kept_frame(alloc: Global, bytes: &[u8]) -> Result<(KeptFrame, &[u8]), ParseFault>
     ensures { Gives (λ x. (x.0, x.1.now)) result (frame_at bytes.now) }
 {

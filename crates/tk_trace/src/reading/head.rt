@@ -9,6 +9,7 @@ use std::alloc::Global;
 use tk_base::Settings;
 use tk_input::{Catalog, CatalogFault};
 
+/// The settings, and what follows them.
 #[tactic(auto, unfolding(crate::specs::Reading::setup_at))]
 pub fn setup(bytes: &[u8]) -> Result<(Settings, &[u8]), ParseFault>
     ensures { Gives (λ x. (x.0, x.1.now)) result (setup_at bytes.now) }
@@ -71,6 +72,7 @@ fn catalogue(alloc: Global, list: &[Vec<u8>]) -> Result<Catalog, ParseFault>
     }
 }
 
+/// The names, and what follows them.
 #[tactic(auto, unfolding(crate::specs::Reading::names_at))]
 pub fn names(alloc: Global, objects: u32, bytes: &[u8]) -> Result<(Catalog, &[u8]), ParseFault>
     ensures { Gives (λ x. (x.0, x.1.now)) result (names_at objects bytes.now) }

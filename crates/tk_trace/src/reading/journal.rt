@@ -136,6 +136,7 @@ fn entries_noted(
     Ok((list, rest))
 }
 
+/// The journal, and what follows it.
 #[tactic(auto, unfolding(crate::specs::Reading::journal_at))]
 pub fn journal(
     alloc: Global,

@@ -125,6 +125,7 @@ pub fn places(out: &mut Vec<u8>, places: &Places) -> Result<(), NoMemory>
     places_items(out, places)
 }
 
+/// Appends a frame.
 pub fn frame(alloc: Global, out: &mut Vec<u8>, frame: &Frame) -> Result<(), NoMemory>
     requires short { IsShort frame.now }
     requires hello { IsBadHello frame.now → ⊥ }

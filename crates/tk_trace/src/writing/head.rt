@@ -8,6 +8,7 @@ use super::fields::{bounds, number_u8, number_u32};
 use tk_base::{NoMemory, Obj, Settings};
 use tk_input::Catalog;
 
+/// Appends the settings.
 pub fn put_setup(out: &mut Vec<u8>, settings: &Settings) -> Result<(), NoMemory>
     ensures { OnOk result (out.new.items ≡ out.old.items ++ setup_of settings.now) }
 {
@@ -26,6 +27,7 @@ fn name(out: &mut Vec<u8>, name: &[u8]) -> Result<(), NoMemory>
     Ok(())
 }
 
+/// Appends the names.
 pub fn put_names(out: &mut Vec<u8>, names: &Catalog) -> Result<(), NoMemory>
     requires { All (λ name. length name < 256) names.now }
     ensures { OnOk result (out.new.items ≡ out.old.items ++ flat_map name_of names.now) }

@@ -77,6 +77,7 @@ fn entries(
     Ok(())
 }
 
+/// Appends the journal.
 pub fn put_journal(
     alloc: Global,
     out: &mut Vec<u8>,

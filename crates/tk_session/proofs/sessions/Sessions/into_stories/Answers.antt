@@ -1,6 +1,6 @@
 use Rattle.std.proofs.Common.{ap, subst, List, ◌∷◌, [], ◌++◌, ◌∙◌}
 use Rattle.tk_story.specs.Kept.{KeptStory}
-use Rattle.tk_drain.specs.Drive.{IsFinished}
+use Rattle.tk_drain.specs.Drive.{IsFinishing}
 use Rattle.tk_session.proofs.sessions.Sessions.into_stories.Goals as goal
 
 pub returns : goal.returns
@@ -10,7 +10,7 @@ returns c =
     record {
       last = last;
       legal = c.finish.ensures.legal;
-      finished = subst (λ (k : KeptStory). IsFinished k last) c.into_parts-past.ensures.present c.in_ok-finish.ensures.finished;
+      finished = subst (λ (k : KeptStory). IsFinishing k last) c.into_parts-past.ensures.present c.in_ok-finish.ensures.finished;
       over = c.in_ok-finish.ensures.over;
       are = c.in_ok-push.ensures.items
           ∙ ap (λ (ks : List KeptStory). ks ++ story ∷ []) (c.in_ok-stories.ensures ∙ c.into_parts-past.ensures.past)
