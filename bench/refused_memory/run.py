@@ -39,8 +39,12 @@ def build(room):
     source.mkdir(parents=True)
     shutil.copy(HERE / "main.rt.in", source / "main.rt")
     (top / "crates.txt").write_text((ROOT / "crates.txt").read_text() + USED)
-    subprocess.run(["rt", "run"], cwd=source.parent, capture_output=True, check=False)
-    return source.parent / "out" / "in_memory"
+    ended = subprocess.run(["rt", "run"], cwd=source.parent, capture_output=True, text=True, check=False)
+    program = source.parent / "out" / "in_memory"
+    # It is run without words, so its status is 2 where all is well.
+    if not program.exists():
+        sys.exit(f"in_memory was not built:\n{ended.stdout[-2000:]}{ended.stderr[-2000:]}")
+    return program
 
 
 def words_of(name):
