@@ -1,11 +1,11 @@
 -- The tests of `==` tell equal lists from others.
-use Rattle.std.proofs.Common.{◌≡◌, ℕ, ℤ, Bool, true, false, ◌&&◌, ◌↔◌, List, nat_eq, sym, ap, ◌∙◌, refl}
+use Rattle.std.proofs.Common.{◌≡◌, ℕ, ℤ, Bool, true, false, not, ◌&&◌, ◌↔◌, List, nat_eq, sym, ap, ◌∙◌, refl}
 use Rattle.std.specs.Prelude.{IsTrue}
 use Rattle.std.specs.Bool.{Decides}
 use Rattle.std.specs.Ordering.{int_eq}
 use Rattle.std.specs.Cmp.{unsigned_Decides, signed_Decides}
 use Rattle.std.specs.Cmp.Lexicographic.{pointwise, pointwise_decides, bytes_decides}
-use Rattle.std.proofs.lemmas.Bool.{true≢false}
+use Rattle.std.proofs.lemmas.Bool.{true≢false, false≢true}
 use Rattle.tk_base.specs.Equal.{pair_eq}
 
 pub numbers_tell : (xs ys : List ℕ) → Decides (pointwise nat_eq xs ys) (xs ≡ ys)
@@ -29,6 +29,14 @@ pair_tells p q = (
       λ i. (objects i, numbers i),
   λ e. joined (nat_eq p.0 q.0) (int_eq p.1 q.1) ((unsigned_Decides p.0 q.0).1 (ap (λ (r : ℕ × ℤ). r.0) e)) ((signed_Decides p.1 q.1).1 (ap (λ (r : ℕ × ℤ). r.1) e)),
 )
+
+unturned : (b : Bool) → false ≡ not b → b ≡ true
+unturned true h = refl
+unturned false h = absurd (false≢true h)
+
+-- two pairs of which `!=` does not hold are the same
+pub same_pair : (p q : ℕ × ℤ) → false ≡ not (pair_eq p q) → p ≡ q
+same_pair p q told = (pair_tells p q).0 (unturned (pair_eq p q) told)
 
 pub pairs_tell : (ps qs : List (ℕ × ℤ)) → Decides (pointwise pair_eq ps qs) (ps ≡ qs)
 pairs_tell = pointwise_decides pair_tells

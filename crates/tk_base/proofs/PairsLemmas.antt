@@ -1,17 +1,41 @@
 -- Pairs as lists of fields, and the number under an object.
-use Rattle.std.proofs.Common.{◌≡◌, ◌≢◌, ℕ, suc, zero, ◌+◌, ◌<◌, ◌≤◌, ℤ, List, [], ◌∷◌, length, map, get_or, Contains, Option, Some, None, cond, true, false, eqb, refl, sym, ap, ◌∙◌, subst, arith, eq-eqb, ne_eqb}
+use Rattle.std.proofs.Common.{◌≡◌, ◌≢◌, ℕ, suc, zero, ◌+◌, ◌<◌, ℤ, List, [], ◌∷◌, ◌++◌, length, map, take, get_or, Contains, Some, None, cond, refl, sym, ap, ◌∙◌, subst, arith, eq-eqb, ne_eqb}
 use Rattle.std.specs.Prelude.{slice_get}
-use Rattle.std.proofs.lemmas.Option.{get_or_from_slice_get}
-use Rattle.std.proofs.lemmas.List.{length-map, get_or-map, get_or_default}
+use Rattle.std.proofs.lemmas.Option.{get_or_from_slice_get, slice_get_within}
+use Rattle.std.proofs.lemmas.List.{length-map, get_or-map, take_more_same, map_push, map_more}
 use Rattle.tk_base.specs.declared.ids.Obj.{Obj}
+use Rattle.tk_base.specs.declared.narrow_pair.NarrowPair.{NarrowPair}
 use Rattle.tk_base.specs.Ascending.{IsAscending}
-use Rattle.tk_base.specs.Pairs.{pairs_of, objects_of, value_at}
+use Rattle.tk_base.specs.Pairs.{pairs_of, narrow_pair_of, objects_of, value_at}
 use Rattle.tk_base.proofs.AscendingLemmas.{ascending_apart}
 
 -- the objects of the pairs are those of the fields
 pub objects_of-pairs_of : (xs : List (Obj × ℤ)) → objects_of (pairs_of xs) ≡ map (λ p. p.0.0) xs
 objects_of-pairs_of [] = refl
 objects_of-pairs_of (x ∷ xs) = ap (λ rest. x.0.0 ∷ rest) (objects_of-pairs_of xs)
+
+-- the same of pairs in 8 bytes
+pub objects_of-narrow : (xs : List NarrowPair) → objects_of (map narrow_pair_of xs) ≡ map (λ p. p.obj.0) xs
+objects_of-narrow [] = refl
+objects_of-narrow (x ∷ xs) = ap (λ rest. x.obj.0 ∷ rest) (objects_of-narrow xs)
+
+-- the object at a place of the list
+pub object_at : (xs : List (Obj × ℤ)) (i : ℕ) (d : Obj × ℤ) → i < length xs → get_or (objects_of (pairs_of xs)) i 0 ≡ (get_or xs i d).0.0
+object_at xs i d within = ap (λ numbers. get_or numbers i 0) (objects_of-pairs_of xs) ∙ get_or-map (λ (p : Obj × ℤ). p.0.0) xs i d 0 within
+
+-- one pair more in 8 bytes
+pub narrow_more : (narrow more : List NarrowPair) (xs : List (Obj × ℤ)) (i : ℕ) (d : Obj × ℤ) (p : NarrowPair) → i < length xs → more ≡ narrow ++ p ∷ [] → map narrow_pair_of narrow ≡ pairs_of (take i xs) → narrow_pair_of p ≡ ((get_or xs i d).0.0, (get_or xs i d).1) → map narrow_pair_of more ≡ pairs_of (take (i + 1) xs)
+narrow_more narrow more xs i d p within is front last =
+    ap (λ (all : List NarrowPair). map narrow_pair_of all) is ∙ map_push narrow_pair_of narrow p
+    ∙ ap (λ (ps : List (ℕ × ℤ)). ps ++ narrow_pair_of p ∷ []) front
+    ∙ ap (λ (q : ℕ × ℤ). pairs_of (take i xs) ++ q ∷ []) last
+    ∙ sym (map_more (λ (q : Obj × ℤ). (q.0.0, q.1)) xs i d within)
+
+-- two lists that are the same up to a place, and there, are the same behind it
+pub same_one_more : (ps qs : List (ℕ × ℤ)) (i : ℕ) (p : ℕ × ℤ) → slice_get ps i ≡ Some p → slice_get qs i ≡ Some p → take i ps ≡ take i qs → take (i + 1) ps ≡ take (i + 1) qs
+same_one_more ps qs i p left right front =
+    take_more_same ps qs i p (slice_get_within ps i p left) (slice_get_within qs i p right) front
+    (get_or_from_slice_get ps i p p left ∙ sym (get_or_from_slice_get qs i p p right))
 
 -- the first pair with an object gives its number
 first_found : (ps : List (ℕ × ℤ)) (o i : ℕ) (d : ℕ × ℤ) → i < length ps → (get_or ps i d).0 ≡ o → ((j : ℕ) → j < i → (get_or ps j d).0 ≢ o) → value_at ps o ≡ Some (get_or ps i d).1
@@ -43,7 +67,3 @@ value_at-got ps o i p up within got is =
     let here : get_or ps i p ≡ p = get_or_from_slice_get ps i p p got in
     value_at-found ps o i p up within (sym (get_or-map (λ (q : ℕ × ℤ). q.0) ps i p 0 within) ∙ is)
     ∙ ap (λ (q : ℕ × ℤ). Some q.1) here
-
--- no number is under an object that the fields lack
-pub value_at-missing : (xs : List (Obj × ℤ)) (o : ℕ) → (Contains (map (λ p. p.0.0) xs) o → ⊥) → value_at (pairs_of xs) o ≡ None
-value_at-missing xs o none = value_at-absent (pairs_of xs) o (subst (λ numbers. Contains numbers o → ⊥) (sym (objects_of-pairs_of xs)) none)

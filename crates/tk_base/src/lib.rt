@@ -2,12 +2,13 @@
 //!
 //! It promises that a set and a list of pairs ascend strictly, that settings are within the limits of
 //! this system, and that a clone equals what it was made of. It stands on nothing.
-//! Only the four `try_clone` take memory.
+//! Only the four `try_clone` answer want of memory; `Pairs::new` takes some for its small form, and does without.
 #![tactic(auto)]
 
 mod cut;
 mod ids;
 mod memory;
+mod narrow_pair;
 mod numbered;
 mod obj_set;
 mod pairs;
@@ -19,6 +20,7 @@ mod tests;
 pub use cut::Cut;
 pub use ids::{Feeder, Mon, Obj};
 pub use memory::NoMemory;
+pub use narrow_pair::NarrowPair;
 pub use numbered::NotAscending;
 pub use obj_set::ObjSet;
 pub use pairs::Pairs;

@@ -64,3 +64,38 @@ fn a_clone_is_made_with_ample_memory(rt: HostRuntime) -> Result<(), Fail> {
     assert!(rt; cut.try_clone()? == cut);
     Ok(())
 }
+
+/// Whether two lists made of these pairs are equal and unlike one with another number, and of the first its length, its
+/// last pair, and what stands under 2 and under 3. Where the run refuses an allocation, their forms may differ.
+fn told(
+    alloc: Global,
+    first: i128,
+    last: i128,
+) -> Option<((bool, bool), usize, (Obj, i128), [Option<i128>; 2])> {
+    let pairs = Pairs::new(vec![in alloc; (Obj(2), first), (Obj(5), last)].ok()?).ok()?;
+    let same = Pairs::new(vec![in alloc; (Obj(2), first), (Obj(5), last)].ok()?).ok()?;
+    let other = Pairs::new(vec![in alloc; (Obj(2), 9), (Obj(5), last)].ok()?).ok()?;
+    let equal = (pairs == same, pairs == other);
+    Some((
+        equal,
+        pairs.len(),
+        pairs.at(1),
+        [pairs.get(Obj(2)), pairs.get(Obj(3))],
+    ))
+}
+
+#[test]
+fn pairs_are_the_same_in_both_forms(rt: HostRuntime) -> Result<(), Fail> {
+    let cases = [
+        (5, -7),
+        (2_147_483_647, -2_147_483_648),
+        (2_147_483_648, 0),
+        (0, -2_147_483_649),
+        (1_000_000_000_000_000_000_000, -1),
+    ];
+    for (first, last) in cases {
+        let kept = ((true, false), 2, (Obj(5), last), [Some(first), None]);
+        assert_eq!(rt; told(rt.alloc(), first, last).ok_or(NoMemory)?, kept);
+    }
+    Ok(())
+}

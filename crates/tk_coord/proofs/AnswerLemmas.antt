@@ -18,7 +18,7 @@ use Rattle.tk_coord.specs.Grounds.{IsAnswered, IsGrounded}
 use Rattle.tk_coord.specs.Steps.{Follows, IsCounted, IsStep, Tells, report_frame}
 use Rattle.tk_coord.specs.declared.outcomes.Grounds.{Grounds}
 use Rattle.tk_coord.specs.declared.step.Step.{Step}
-use Rattle.tk_coord.specs.declared.step.Told.TheVariants as told
+use Rattle.tk_coord.specs.declared.step.Statement.TheVariants as stated
 use Rattle.tk_coord.proofs.GroundLemmas.{grounds_are, holds_over}
 use Rattle.tk_coord.proofs.GrowLemmas.{orderly_at}
 use Rattle.tk_coord.proofs.TellLemmas.{report_tells}
@@ -39,9 +39,9 @@ can_deal s j report frame h a =
 
 -- and by the fields that the coordinator keeps
 pub deals : (s : Setup) (j : List Noted) (g : Grounds) (report : Reported) (frame : Frame) → IsGrounded s j g → IsAnswered s j frame report
-    → CanDeal g.standing.settings g.board.now.table g.board.now.members (objects_of report.values) (report ∷ [])
+    → CanDeal g.phase.settings g.board.now.table g.board.now.members (objects_of report.values) (report ∷ [])
 deals s j g report frame h a =
-    holds_over (λ q t ms. CanDeal q t ms (objects_of report.values) (report ∷ [])) s j g.standing.settings g.board.now.table g.board.now.members (grounds_are s j g h) (can_deal s j report frame h.journal a)
+    holds_over (λ q t ms. CanDeal q t ms (objects_of report.values) (report ∷ [])) s j g.phase.settings g.board.now.table g.board.now.members (grounds_are s j g h) (can_deal s j report frame h.journal a)
 
 -- its Report takes part in what is dealt
 pub takes_part : (s : Setup) (j : List Noted) (g : Grounds) (report : Reported) (frame : Frame) → IsGrounded s j g → IsAnswered s j frame report
@@ -49,7 +49,7 @@ pub takes_part : (s : Setup) (j : List Noted) (g : Grounds) (report : Reported) 
 takes_part s j g report frame h a = All-head (CanTakePart g.board.now.table g.board.now.members (objects_of report.values)) report [] (deals s j g report frame h a).take
 
 -- its step, by what follows it and how it counts
-pub report_step : (s : Setup) (j : List Noted) (report : Reported) (frame : Frame) (step : Step) → IsJournal s j → (a : IsAnswered s j frame report) → step.told ≡ told.Report
+pub report_step : (s : Setup) (j : List Noted) (report : Reported) (frame : Frame) (step : Step) → IsJournal s j → (a : IsAnswered s j frame report) → step.statement ≡ stated.Report
     → Follows s j report.mon (report_frame j report a.failed) step.outcome
     → IsCounted s j report.mon.0 (report_frame j report a.failed) step.turn.kind step.turn.fails step.turn.widens → IsStep s j report.mon frame step
 report_step s j report frame step h a tells follows counts =

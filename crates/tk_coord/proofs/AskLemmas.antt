@@ -20,16 +20,16 @@ use Rattle.tk_journal.proofs.Counting.{AreCounted}
 use Rattle.tk_journal.proofs.Same.{table_by}
 use Rattle.tk_journal.proofs.Rounding.{is_in_range}
 use Rattle.tk_journal.proofs.Sound.{new_values, new_asked}
-use Rattle.tk_coord.specs.declared.link.Link.{Link}
+use Rattle.tk_coord.specs.declared.peer.Peer.{Peer}
 use Rattle.tk_coord.specs.declared.round.Round.{Round}
 use Rattle.tk_coord.specs.declared.state.State.{State}
 use Rattle.tk_coord.specs.Board.{BoardView}
 use Rattle.tk_coord.specs.Keeping.{AreChanged, is_but}
-use Rattle.tk_coord.specs.State.{kind_in, link_at, AreLinks, IsRound, Holds}
+use Rattle.tk_coord.specs.State.{kind_in, peer_at, ArePeers, IsRound, Holds}
 use Rattle.tk_coord.specs.Steps.{IsAsked, is_opener, asked_mons}
 use Rattle.tk_coord.proofs.AskedLemmas.{asked_open}
 use Rattle.tk_coord.proofs.ElementLemmas.{read_set}
-use Rattle.tk_coord.proofs.LinkLemmas.{same_link}
+use Rattle.tk_coord.proofs.PeerLemmas.{same_peer}
 
 -- ---- who is asked
 
@@ -109,31 +109,31 @@ report_now s j round asked mons mon k none =
     ∙ ap (λ (b : Bool). if is_some (if b then Some asked else None) then values_of (last_round after) mon after else answered_report mon (answer_of mon after)) none
     ∙ ap (answered_report mon) (answer_now j round asked mons mon)
 
--- ---- the links and the round
+-- ---- the peers and the round
 
--- the link of a monitor over the Collects: it is waited for, but for the one with whose Report the round begins
-link_asked : (s : Setup) (j : List Noted) (round : ℕ) (asked mons : List ℕ) (mon : ℕ) (opener : Option Reported) → IsNew s j round asked mons → is_in mons mon ≡ not (is_opener opener mon)
-    → link_at (j ++ collects round asked mons) mon ≡ record (link_at j mon) { waits = not (is_opener opener mon) }
-link_asked s j round asked mons mon opener k is =
-    same_link (link_at (j ++ collects round asked mons) mon) (record (link_at j mon) { waits = not (is_opener opener mon) })
+-- the peer of a monitor over the Collects: it is waited for, but for the one with whose Report the round begins
+peer_asked : (s : Setup) (j : List Noted) (round : ℕ) (asked mons : List ℕ) (mon : ℕ) (opener : Option Reported) → IsNew s j round asked mons → is_in mons mon ≡ not (is_opener opener mon)
+    → peer_at (j ++ collects round asked mons) mon ≡ record (peer_at j mon) { waits = not (is_opener opener mon) }
+peer_asked s j round asked mons mon opener k is =
+    same_peer (peer_at (j ++ collects round asked mons) mon) (record (peer_at j mon) { waits = not (is_opener opener mon) })
     (sent_now j round asked mons mon)
     (ap kind_in (answer_now j round asked mons mon))
     (batch_progress mon j (λ m. m) (λ _. f.Collect round asked) mons)
     (waits_now s j round asked mons mon k ∙ is)
 
--- the links over the Collects
-links_asked : (s : Setup) (j : List Noted) (round : ℕ) (asked : List ℕ) (opener : Option Reported) (but : Option ℕ) (old new : List Link) → IsNew s j round asked (asked_mons s opener)
+-- the peers over the Collects
+peers_asked : (s : Setup) (j : List Noted) (round : ℕ) (asked : List ℕ) (opener : Option Reported) (but : Option ℕ) (old new : List Peer) → IsNew s j round asked (asked_mons s opener)
     → ((i : ℕ) → is_but but i ≡ is_opener opener (suc i)) → length new ≡ length old → AreChanged (λ i l. record l { waits = not (is_but but i) }) old new
-    → AreLinks s j old → AreLinks s (j ++ collects round asked (asked_mons s opener)) new
-links_asked s j round asked opener but old new k same count changed h = record {
+    → ArePeers s j old → ArePeers s (j ++ collects round asked (asked_mons s opener)) new
+peers_asked s j round asked opener but old new k same count changed h = record {
   count = count ∙ h.count;
   each = λ i l is.
       let before = changed i l is in
       let range : IsMonitor s (suc i) = record { from_one = omega arith; within = (let w = slice_get_within new i l is in let c = h.count in omega (arith, w, c, count)) } in
       before.2
-      ∙ ap (λ (m : Link). record m { waits = not (is_but but i) }) (h.each i before.0 before.1)
-      ∙ ap (λ (b : Bool). record (link_at j (suc i)) { waits = not b }) (same i)
-      ∙ sym (link_asked s j round asked (asked_mons s opener) (suc i) opener k (asked_one s opener (suc i) range));
+      ∙ ap (λ (m : Peer). record m { waits = not (is_but but i) }) (h.each i before.0 before.1)
+      ∙ ap (λ (b : Bool). record (peer_at j (suc i)) { waits = not b }) (same i)
+      ∙ sym (peer_asked s j round asked (asked_mons s opener) (suc i) opener k (asked_one s opener (suc i) range));
 }
 
 -- what is not refused holds
@@ -196,10 +196,10 @@ round_asked s j entries round opener old gathered a h =
 pub record IsAskedOf (asks : Round) (opener : Option Reported) (but : Option ℕ) (old new : State) : Type 0 where
   pub board : new.board ≡ old.board
   pub same : (i : ℕ) → is_but but i ≡ is_opener opener (suc i)
-  pub links : List Link
-  pub are : new.links.items ≡ links
-  pub count : length links ≡ length old.links.items
-  pub each : AreChanged (λ i l. record l { waits = not (is_but but i) }) old.links.items links
+  pub peers : List Peer
+  pub are : new.peers.items ≡ peers
+  pub count : length peers ≡ length old.peers.items
+  pub each : AreChanged (λ i l. record l { waits = not (is_but but i) }) old.peers.items peers
   pub round : new.round ≡ asks
   pub gathered : new.gathered.items ≡ with_opener opener old.gathered.items
 
@@ -214,7 +214,7 @@ holds_asked s j entries round opener but old new a n h =
     subst (λ (es : List Noted). Holds s (j ++ es) new) (sym a.sends) (record {
       members = ap (λ (b : BoardView). b.members) n.board ∙ h.members ∙ sym (plain_members j (λ m. m) (λ _. f.Collect round.number round.asked) mons (λ _. refl));
       table = ap (λ (b : BoardView). b.table) n.board ∙ h.table ∙ sym (table_by s j after (assigns_now j round.number round.asked mons));
-      links = subst (λ (ls : List Link). AreLinks s after ls) (sym n.are) (links_asked s j round.number round.asked opener but old.links.items n.links k n.same n.count n.each h.links);
+      peers = subst (λ (ls : List Peer). ArePeers s after ls) (sym n.are) (peers_asked s j round.number round.asked opener but old.peers.items n.peers k n.same n.count n.each h.peers);
       round = subst (λ (r : Round). IsRound s after r new.gathered.items) (sym n.round)
           (subst (λ (g : List Reported). IsRound s after round g) (sym n.gathered) (round_asked s j entries round opener old.round old.gathered.items a h.round));
     })

@@ -21,13 +21,13 @@ use Rattle.tk_journal.proofs.Batches.{named, named_assigns, named_answer, unname
 use Rattle.tk_journal.proofs.Counting.{named_round, named_asked}
 use Rattle.tk_journal.proofs.Same.{waits_by}
 use Rattle.tk_journal.proofs.Orderly.{Row, sends, open_named}
-use Rattle.tk_coord.specs.declared.link.Link.{Link}
+use Rattle.tk_coord.specs.declared.peer.Peer.{Peer}
 use Rattle.tk_coord.specs.declared.round.Round.{Round}
 use Rattle.tk_coord.specs.declared.state.State.{State}
 use Rattle.tk_coord.specs.Keeping.{AreChanged, one_more, assigned_at}
-use Rattle.tk_coord.specs.State.{kind_in, link_at, AreLinks, IsRound, Holds}
+use Rattle.tk_coord.specs.State.{kind_in, peer_at, ArePeers, IsRound, Holds}
 use Rattle.tk_coord.specs.Steps.{AreAssigned, IsReplaced}
-use Rattle.tk_coord.proofs.LinkLemmas.{same_link}
+use Rattle.tk_coord.proofs.PeerLemmas.{same_peer}
 
 -- ---- the changes of one monitor
 
@@ -41,16 +41,16 @@ are_above : (low : ℕ) (at : List MonChange) → EachIndex (monitors_of at) (λ
 are_above low [] h = tt
 are_above low (c ∷ at) h = (h 0 (omega arith), are_above c.mon.0 at (λ k within. h (suc k) (omega (arith, within))))
 
--- the changes of a monitor: none, and its link stays
+-- the changes of a monitor: none, and its peer stays
 record IsUnnamed (at : List MonChange) (mon : ℕ) : Type 0 where
   none : filter (λ (d : Row). d.0 == mon) (by_monitor at) ≡ []
-  same : (l : Link) → assigned_at mon at l ≡ l
+  same : (l : Peer) → assigned_at mon at l ≡ l
 
--- or those of one row, and its link is that of one more Assign
+-- or those of one row, and its peer is that of one more Assign
 record IsNamed (P : ℕ → Type 0) (at : List MonChange) (mon : ℕ) : Type 0 where
   row : Row
   alone : filter (λ (d : Row). d.0 == mon) (by_monitor at) ≡ row ∷ []
-  next : (l : Link) → assigned_at mon at l ≡ one_more l
+  next : (l : Peer) → assigned_at mon at l ≡ one_more l
   holds : P mon
 
 -- a monitor that is not above the first is not named
@@ -129,11 +129,11 @@ unfolding assigns_sent
 count_sent j members rows mon found is =
     ap length (named_assigns mon j to (seq j) members changes rows ∙ ap (λ (ds : List Row). assigns_to mon j ++ map (λ d. record { members = members; changes = d.1 }) ds) is)
 
--- a monitor that is sent nothing has the link that it had
-link_unnamed : (j : List Noted) (members : List ℕ) (rows : List Row) (mon : ℕ) → filter (λ (d : Row). d.0 == mon) rows ≡ [] → link_at (j ++ sends j members rows) mon ≡ link_at j mon
+-- a monitor that is sent nothing has the peer that it had
+peer_unnamed : (j : List Noted) (members : List ℕ) (rows : List Row) (mon : ℕ) → filter (λ (d : Row). d.0 == mon) rows ≡ [] → peer_at (j ++ sends j members rows) mon ≡ peer_at j mon
 unfolding assigns_sent
-link_unnamed j members rows mon none =
-    same_link (link_at (j ++ sends j members rows) mon) (link_at j mon)
+peer_unnamed j members rows mon none =
+    same_peer (peer_at (j ++ sends j members rows) mon) (peer_at j mon)
     (count_sent j members rows mon [] none ∙ ap length (append-nil (assigns_to mon j)))
     (ap kind_in (unnamed_answer mon j to (seq j) members changes rows none))
     (batch_progress mon j to (named (seq j) members changes) rows)
@@ -143,36 +143,36 @@ link_unnamed j members rows mon none =
 one_counted : (a : ℕ) → a < 2 ^ 64 - 1 → min (a + 1) (2 ^ 64 - 1) ≡ a + 1
 one_counted a low = omega (arith, low)
 
--- a monitor that is sent one Assign has the link of one more
-link_named : (j : List Noted) (members : List ℕ) (rows : List Row) (mon : ℕ) (row : Row) → filter (λ (d : Row). d.0 == mon) rows ≡ row ∷ [] → assigns_sent mon j < 2 ^ 64 - 1
-    → link_at (j ++ sends j members rows) mon ≡ one_more (link_at j mon)
+-- a monitor that is sent one Assign has the peer of one more
+peer_named : (j : List Noted) (members : List ℕ) (rows : List Row) (mon : ℕ) (row : Row) → filter (λ (d : Row). d.0 == mon) rows ≡ row ∷ [] → assigns_sent mon j < 2 ^ 64 - 1
+    → peer_at (j ++ sends j members rows) mon ≡ one_more (peer_at j mon)
 unfolding assigns_sent
-link_named j members rows mon row alone room =
+peer_named j members rows mon row alone room =
     let assign : Assign = record { members = members; changes = row.1 } in
-    same_link (link_at (j ++ sends j members rows) mon) (one_more (link_at j mon))
+    same_peer (peer_at (j ++ sends j members rows) mon) (one_more (peer_at j mon))
     (count_sent j members rows mon (row ∷ []) alone ∙ length-append (assigns_to mon j) (assign ∷ []) ∙ sym (one_counted (assigns_sent mon j) room))
     (ap kind_in (named_answer mon j to (seq j) members changes rows row [] alone))
     (batch_progress mon j to (named (seq j) members changes) rows)
     (waits_sent j members rows mon)
 
--- the link of each monitor over the Assigns
-link_sent : (j : List Noted) (members : List ℕ) (at : List MonChange) (mon : ℕ) → IsUnnamed at mon ⊎ IsNamed (λ q. assigns_sent q j < 2 ^ 64 - 1) at mon
-    → link_at (j ++ sends j members (by_monitor at)) mon ≡ assigned_at mon at (link_at j mon)
-link_sent j members at mon (inl none) = link_unnamed j members (by_monitor at) mon none.none ∙ sym (none.same (link_at j mon))
-link_sent j members at mon (inr one) = link_named j members (by_monitor at) mon one.row one.alone one.holds ∙ sym (one.next (link_at j mon))
+-- the peer of each monitor over the Assigns
+peer_sent : (j : List Noted) (members : List ℕ) (at : List MonChange) (mon : ℕ) → IsUnnamed at mon ⊎ IsNamed (λ q. assigns_sent q j < 2 ^ 64 - 1) at mon
+    → peer_at (j ++ sends j members (by_monitor at)) mon ≡ assigned_at mon at (peer_at j mon)
+peer_sent j members at mon (inl none) = peer_unnamed j members (by_monitor at) mon none.none ∙ sym (none.same (peer_at j mon))
+peer_sent j members at mon (inr one) = peer_named j members (by_monitor at) mon one.row one.alone one.holds ∙ sym (one.next (peer_at j mon))
 
 -- ---- the state
 
--- the links after the Assigns
-links_sent : (s : Setup) (j : List Noted) (members : List ℕ) (at : List MonChange) (old new : List Link) → IsAscending (monitors_of at) → All (λ c. assigns_sent c.mon.0 j < 2 ^ 64 - 1) at
-    → length new ≡ length old → AreChanged (λ i l. assigned_at (suc i) at l) old new → AreLinks s j old → AreLinks s (j ++ sends j members (by_monitor at)) new
-links_sent s j members at old new order room count changed h = record {
+-- the peers after the Assigns
+peers_sent : (s : Setup) (j : List Noted) (members : List ℕ) (at : List MonChange) (old new : List Peer) → IsAscending (monitors_of at) → All (λ c. assigns_sent c.mon.0 j < 2 ^ 64 - 1) at
+    → length new ≡ length old → AreChanged (λ i l. assigned_at (suc i) at l) old new → ArePeers s j old → ArePeers s (j ++ sends j members (by_monitor at)) new
+peers_sent s j members at old new order room count changed h = record {
   count = count ∙ h.count;
   each = λ i l is.
       let before = changed i l is in
       before.2
       ∙ ap (assigned_at (suc i) at) (h.each i before.0 before.1)
-      ∙ sym (link_sent j members at (suc i) (named_or_not (λ q. assigns_sent q j < 2 ^ 64 - 1) 0 at (suc i) (are_above 0 at order) room));
+      ∙ sym (peer_sent j members at (suc i) (named_or_not (λ q. assigns_sent q j < 2 ^ 64 - 1) 0 at (suc i) (are_above 0 at order) room));
 }
 
 -- no round is open over the Assigns
@@ -193,10 +193,10 @@ round_sent s j members rows round gathered closed h =
 pub record AreAssignedOf (change : Reallocation) (old new : State) : Type 0 where
   pub members : new.board.members ≡ change.members
   pub table : IsReplaced old.board.table change new.board.table
-  pub links : List Link
-  pub are : new.links.items ≡ links
-  pub count : length links ≡ length old.links.items
-  pub each : AreChanged (λ i l. assigned_at (suc i) change.at.items l) old.links.items links
+  pub peers : List Peer
+  pub are : new.peers.items ≡ peers
+  pub count : length peers ≡ length old.peers.items
+  pub each : AreChanged (λ i l. assigned_at (suc i) change.at.items l) old.peers.items peers
   pub round : new.round ≡ old.round
   pub gathered : new.gathered.items ≡ old.gathered.items
 
@@ -208,9 +208,9 @@ holds_assigned s j entries change old new a n h =
     record {
       members = n.members ∙ sym a.members;
       table = a.table new.board.table (subst (λ (g : Grid). IsReplaced g change new.board.table) h.table n.table);
-      links = subst (λ (es : List Noted). AreLinks s (j ++ es) new.links.items) (sym a.sends)
-          (subst (λ (ls : List Link). AreLinks s after ls) (sym n.are)
-          (links_sent s j change.members change.at.items old.links.items n.links a.fits.order a.room n.count n.each h.links));
+      peers = subst (λ (es : List Noted). ArePeers s (j ++ es) new.peers.items) (sym a.sends)
+          (subst (λ (ls : List Peer). ArePeers s after ls) (sym n.are)
+          (peers_sent s j change.members change.at.items old.peers.items n.peers a.fits.order a.room n.count n.each h.peers));
       round = subst (λ (es : List Noted). IsRound s (j ++ es) new.round new.gathered.items) (sym a.sends)
           (subst (λ (r : Round). IsRound s after r new.gathered.items) (sym n.round)
           (subst (λ (g : List Reported). IsRound s after old.round g) (sym n.gathered)

@@ -31,10 +31,10 @@ use Rattle.tk_journal.proofs.Tables.{rows_count}
 use Rattle.tk_journal.proofs.Tuning.{force_closed}
 use Rattle.tk_journal.proofs.WholeLemmas.{opened_legal}
 use Rattle.tk_coord.specs.Coordinator.{Begins, IsJournal, CoordinatorView}
-use Rattle.tk_coord.specs.State.{Holds, Stands, kind_in, link_at, next_settings}
-use Rattle.tk_coord.specs.declared.link.Link.{Link}
+use Rattle.tk_coord.specs.State.{Holds, Stands, kind_in, peer_at, next_settings}
+use Rattle.tk_coord.specs.declared.peer.Peer.{Peer}
 use Rattle.tk_coord.specs.declared.round.Round.{Round}
-use Rattle.tk_coord.specs.declared.standing.Standing.{Standing}
+use Rattle.tk_coord.specs.declared.phase.Phase.{Phase}
 use Rattle.tk_coord.specs.declared.state.State.{State}
 use Rattle.tk_coord.proofs.BatchLemmas.{opened_running}
 use Rattle.tk_coord.proofs.BeginLemmas.{Given, changes_in}
@@ -69,12 +69,12 @@ begun_waits : (o : Opening) (mon : ℕ) → IsMonitor o.settings mon → waits_f
 begun_waits o mon m = closed_waits o.settings (opened o) (opened_closed o) mon m
 
 -- what is known of a monitor that was sent one Assign
-abbrev pub new_link : Link
-new_link = record { assigns = 1; answer = None; progress = None; waits = false }
+abbrev pub new_peer : Peer
+new_peer = record { assigns = 1; answer = None; progress = None; waits = false }
 
 -- that is what the journal says of it
-begun_link : (o : Opening) (mon : ℕ) → IsSetUp o → IsMonitor o.settings mon → new_link ≡ link_at (opened o) mon
-begun_link o mon set m =
+begun_peer : (o : Opening) (mon : ℕ) → IsSetUp o → IsMonitor o.settings mon → new_peer ≡ peer_at (opened o) mon
+begun_peer o mon set m =
     let rows = enumerate_from 1 o.factors in
     let high = m.within in
     let one = one_row (λ (p : Given). p.0) 1 o.settings.monitors rows mon (numbered_factors 1 o.factors ∙ ap (range_with_len 1) set.factors) m.from_one (omega (arith, high)) in
@@ -91,8 +91,8 @@ begun_link o mon set m =
 
 -- what is kept of the monitors and of the rounds at the beginning
 pub record IsNew (monitors : ℕ) (state : State) : Type 0 where
-  pub count : length state.links.items ≡ monitors
-  pub links : (i : ℕ) (l : Link) → slice_get state.links.items i ≡ Some l → l ≡ new_link
+  pub count : length state.peers.items ≡ monitors
+  pub peers : (i : ℕ) (l : Peer) → slice_get state.peers.items i ≡ Some l → l ≡ new_peer
   pub round : state.round ≡ record { number = 0; waiting = false; wide = false; asked = [] }
   pub reports : length state.gathered.items ≡ monitors
 
@@ -106,11 +106,11 @@ opened_holds o state set members table new =
     record {
       members = members ∙ sym (begun_members o set);
       table = table;
-      links = record {
+      peers = record {
         count = new.count;
         each = λ i l there.
-            let inside = slice_get_within state.links.items i l there in
-            new.links i l there ∙ begun_link o (suc i) set (record { from_one = omega arith; within = (let c = new.count in omega (arith, inside, c)) });
+            let inside = slice_get_within state.peers.items i l there in
+            new.peers i l there ∙ begun_peer o (suc i) set (record { from_one = omega arith; within = (let c = new.count in omega (arith, inside, c)) });
       };
       round = record {
         number = ap (λ (r : Round). r.number) new.round ∙ sym (begun_round o);
@@ -149,9 +149,9 @@ opened_stands o set = record {
 }
 
 -- what stands at the beginning
-pub begun_stands : (s : Setup) (members : List ℕ) (table : Grid) (j : List Noted) (standing : Standing) → Begins s members table j
-    → standing ≡ record { settings = s; next = s; stopped = false } → Stands s j standing
-begun_stands s members table j standing b is =
+pub begun_stands : (s : Setup) (members : List ℕ) (table : Grid) (j : List Noted) (phase : Phase) → Begins s members table j
+    → phase ≡ record { settings = s; next = s; stopped = false } → Stands s j phase
+begun_stands s members table j phase b is =
     let o = b.opening in
     subst (Stands s j) (sym is)
     (subst (λ (x : Setup). Stands x j (record { settings = x; next = x; stopped = false })) b.settings

@@ -15,7 +15,7 @@ use Rattle.tk_base.proofs.AscendingLemmas.{ascending_positive}
 use Rattle.tk_base.proofs.PairsLemmas.{value_at-absent}
 use Rattle.tk_border.specs.Levels.{AreSmall, holds, level_at, own_border}
 use Rattle.tk_alloc.proofs.MemberLemmas.{contained_is_in}
-use Rattle.tk_rank.specs.Ranked.{Ranked}
+use Rattle.tk_rank.specs.Rank.{RankView}
 use Rattle.tk_rows.specs.Factors.{Grid, AreBalanced, IsFactor, factor_at}
 use Rattle.tk_rows.specs.Replacing.{factor_in}
 use Rattle.tk_rows.specs.declared.reallocation.Reallocation.{Reallocation}
@@ -88,11 +88,11 @@ own_after old new r is up within =
     ∙ sym (own_level new (suc i))))
 
 -- the rank of a table and its members after a reallocation
-pub ranks_after : (old new : Grid) (ranks : Ranked) (members : List ℕ) (r : Reallocation) → IsReplaced old r new → IsAscending (objects_of r.own) → All (λ o. o ≤ length old.rows) (objects_of r.own)
+pub ranks_after : (old new : Grid) (ranks : RankView) (members : List ℕ) (r : Reallocation) → IsReplaced old r new → IsAscending (objects_of r.own) → All (λ o. o ≤ length old.rows) (objects_of r.own)
     → ranks ≡ ranks_of old members
     → record { levels = relevelled ranks.levels r.own; members = r.members } ≡ ranks_of new r.members
 ranks_after old new ranks members r is up within tie =
-    ap (λ (ls : List ℤ). record { levels = ls; members = r.members }) (ap (λ (k : Ranked). relevelled k.levels r.own) tie ∙ own_after old new r is up within)
+    ap (λ (ls : List ℤ). record { levels = ls; members = r.members }) (ap (λ (k : RankView). relevelled k.levels r.own) tie ∙ own_after old new r is up within)
 
 -- one more object has another level
 pub relevelled_more : (levels now : List ℤ) (own : List (ℕ × ℤ)) (i : ℕ) (p : ℕ × ℤ) → slice_get own i ≡ Some p
@@ -125,12 +125,12 @@ held : (present objects : List ℕ) → All (Contains objects) present → holds
 held present objects among = list_all-from_AllPass (is_in objects) present (λ k d below. contained_is_in objects (get_or present k d) (among k d below))
 
 -- so they hold those of the rank
-pub are_held : (table : Grid) (present objects : List ℕ) (ranks : Ranked) → ranks ≡ ranks_of table present
+pub are_held : (table : Grid) (present objects : List ℕ) (ranks : RankView) → ranks ≡ ranks_of table present
     → All (Contains objects) present → IsTrue (holds objects ranks.members)
-are_held table present objects ranks tie among = subst (λ (r : Ranked). IsTrue (holds objects r.members)) (sym tie) (held present objects among)
+are_held table present objects ranks tie among = subst (λ (r : RankView). IsTrue (holds objects r.members)) (sym tie) (held present objects among)
 
 -- what the rank tells is the border of the round
-pub rank_border : (s : Setup) (table : Grid) (present objects : List ℕ) (ranks : Ranked) → ranks ≡ ranks_of table present
+pub rank_border : (s : Setup) (table : Grid) (present objects : List ℕ) (ranks : RankView) → ranks ≡ ranks_of table present
     → own_border ranks.levels ranks.members s.epsilon objects ≡ round_border s table present objects
 unfolding round_border
-rank_border s table present objects ranks tie = ap (λ (r : Ranked). own_border r.levels r.members s.epsilon objects) tie
+rank_border s table present objects ranks tie = ap (λ (r : RankView). own_border r.levels r.members s.epsilon objects) tie

@@ -20,9 +20,9 @@ use Rattle.tk_journal.specs.declared.turn.TurnKind.TheVariants.{Stale, Note, Sho
 use Rattle.tk_coord.specs.Dealing.{Ends, IsAssigned, OpensOrEnds, OpensWide, closed}
 use Rattle.tk_coord.specs.Grounds.{IsAnswered, IsGrounded}
 use Rattle.tk_coord.specs.Steps.{IsCounted, asks_wide, quiet_turn, report_frame}
-use Rattle.tk_coord.specs.declared.link.Link.{Link}
+use Rattle.tk_coord.specs.declared.peer.Peer.{Peer}
 use Rattle.tk_coord.specs.declared.outcomes.Grounds.{Grounds}
-use Rattle.tk_coord.specs.declared.standing.Standing.{Standing}
+use Rattle.tk_coord.specs.declared.phase.Phase.{Phase}
 use Rattle.tk_coord.specs.declared.step.Outcome.{Outcome}
 use Rattle.tk_coord.proofs.DemandLemmas.{fails_fresh, report_kind, with_values}
 use Rattle.tk_coord.proofs.GroundLemmas.{force_large}
@@ -99,10 +99,10 @@ end_counts s j mon number seq border values wide closed is =
 -- ---- a fresh Report that finds no round open
 
 -- the end of a round opens a wide one where a factor would be past its limit
-ends_wide : (grid : Grid) (links : List Link) (standing : Standing) (rounds : ℕ) (decided : Decided) (outcome : Outcome) (within : Bool) → is_within_limit decided ≡ within
-    → Ends grid links standing rounds decided outcome → asks_wide outcome.reply ≡ not within
-ends_wide grid links standing rounds decided outcome true fits ends = ap asks_wide (ends.within fits).reply
-ends_wide grid links standing rounds decided outcome false fits ends = ap asks_wide (ends.past fits).reply
+ends_wide : (grid : Grid) (peers : List Peer) (phase : Phase) (rounds : ℕ) (decided : Decided) (outcome : Outcome) (within : Bool) → is_within_limit decided ≡ within
+    → Ends grid peers phase rounds decided outcome → asks_wide outcome.reply ≡ not within
+ends_wide grid peers phase rounds decided outcome true fits ends = ap asks_wide (ends.within fits).reply
+ends_wide grid peers phase rounds decided outcome false fits ends = ap asks_wide (ends.past fits).reply
 
 -- it fails the short test where it does not pass it
 fails_by : (s : Setup) (j : List Noted) (report : Reported) (frame : Frame) (passes : Bool) → (a : IsAnswered s j frame report) → passes_at s j report ≡ passes
@@ -133,34 +133,34 @@ short_counts_as s j report frame true false a passed fits is = answered_counts s
 short_counts_as s j report frame false false a passed fits is = absurd (cc)
 
 pub short_counts : (s : Setup) (j : List Noted) (g : Grounds) (report : Reported) (frame : Frame) (outcome : Outcome) → IsGrounded s j g → (a : IsAnswered s j frame report) → passes_at s j report ≡ true
-    → Ends g.board.now.table g.links.now g.standing g.rounds (short_decides g.standing.settings g.board.now.table g.board.now.members report) outcome
+    → Ends g.board.now.table g.peers.now g.phase g.rounds (short_decides g.phase.settings g.board.now.table g.board.now.members report) outcome
     → IsCounted s j report.mon.0 (report_frame j report a.failed) (if asks_wide outcome.reply then Wide else Short) false (asks_wide outcome.reply)
 short_counts s j g report frame outcome h a passed ends =
     short_counts_as s j report frame (asks_wide outcome.reply) (is_within_limit (short_at s j report)) a passed refl
-    (ends_wide g.board.now.table g.links.now g.standing g.rounds (short_decides g.standing.settings g.board.now.table g.board.now.members report) outcome (is_within_limit (short_at s j report))
+    (ends_wide g.board.now.table g.peers.now g.phase g.rounds (short_decides g.phase.settings g.board.now.table g.board.now.members report) outcome (is_within_limit (short_at s j report))
     (ap is_within_limit (same_short s j g report h)) ends)
 
 -- it fails, and eight have failed before
 pub tired_counts : (s : Setup) (j : List Noted) (g : Grounds) (report : Reported) (frame : Frame) (outcome : Outcome) → (a : IsAnswered s j frame report) → passes_at s j report ≡ false
-    → nat_lt (streak s j) 8 ≡ false → OpensWide g.standing g.rounds outcome → IsCounted s j report.mon.0 (report_frame j report a.failed) Wide true (asks_wide outcome.reply)
+    → nat_lt (streak s j) 8 ≡ false → OpensWide g.phase g.rounds outcome → IsCounted s j report.mon.0 (report_frame j report a.failed) Wide true (asks_wide outcome.reply)
 tired_counts s j g report frame outcome a failed many o =
     answered_counts s j report frame false (is_within_limit (short_at s j report)) false (asks_wide outcome.reply) Wide a failed refl many refl (ap asks_wide o.reply)
 
 -- it fails, and fewer have failed before: with one monitor its full round ends at once
 full_wide : (s : Setup) (j : List Noted) (g : Grounds) (report : Reported) (outcome : Outcome) (one : Bool) → IsGrounded s j g → s.monitors == 1 ≡ one
-    → OpensOrEnds g.board.now.table g.links.now g.standing g.rounds g.board.now.members report outcome
+    → OpensOrEnds g.board.now.table g.peers.now g.phase g.rounds g.board.now.members report outcome
     → asks_wide outcome.reply ≡ ((s.monitors == 1) && not (is_within_limit (full_at s j (report ∷ []))))
 full_wide s j g report outcome true h one o =
-    let large = force_large s j g.standing.settings h.stands.settings in
-    ends_wide g.board.now.table g.links.now g.standing (g.rounds + 1) (full_decides g.standing.settings g.board.now.table g.board.now.members (report ∷ [])) outcome (is_within_limit (full_at s j (report ∷ [])))
+    let large = force_large s j g.phase.settings h.stands.settings in
+    ends_wide g.board.now.table g.peers.now g.phase (g.rounds + 1) (full_decides g.phase.settings g.board.now.table g.board.now.members (report ∷ [])) outcome (is_within_limit (full_at s j (report ∷ [])))
     (ap is_within_limit (same_full s j g (report ∷ []) h)) (o.alone (ap (λ (k : ℕ). k == 1) large.monitors ∙ one))
     ∙ sym (ap (λ b. b && not (is_within_limit (full_at s j (report ∷ [])))) one)
 full_wide s j g report outcome false h one o =
-    let large = force_large s j g.standing.settings h.stands.settings in
+    let large = force_large s j g.phase.settings h.stands.settings in
     ap asks_wide (o.others (ap (λ (k : ℕ). k == 1) large.monitors ∙ one)).reply ∙ sym (ap (λ b. b && not (is_within_limit (full_at s j (report ∷ [])))) one)
 
 pub full_counts : (s : Setup) (j : List Noted) (g : Grounds) (report : Reported) (frame : Frame) (outcome : Outcome) → IsGrounded s j g → (a : IsAnswered s j frame report) → passes_at s j report ≡ false
-    → nat_lt (streak s j) 8 ≡ true → OpensOrEnds g.board.now.table g.links.now g.standing g.rounds g.board.now.members report outcome
+    → nat_lt (streak s j) 8 ≡ true → OpensOrEnds g.board.now.table g.peers.now g.phase g.rounds g.board.now.members report outcome
     → IsCounted s j report.mon.0 (report_frame j report a.failed) Full true (asks_wide outcome.reply)
 full_counts s j g report frame outcome h a failed few o =
     answered_counts s j report frame false (is_within_limit (short_at s j report)) true (asks_wide outcome.reply) Full a failed refl few refl (full_wide s j g report outcome (s.monitors == 1) h refl o)
@@ -169,8 +169,8 @@ full_counts s j g report frame outcome h a failed few o =
 
 -- the end of a wide round sends Assigns, and so does that of a full one, or it opens a wide one
 pub end_is_counted : (s : Setup) (j : List Noted) (g : Grounds) (v : Values) (reports : List Reported) (wide : Bool) (outcome : Outcome) → AreLast s j g v reports wide
-    → (wide ≡ true → IsAssigned g.board.now.table g.links.now (closed g.standing) (wide_decides g.standing.next g.board.now.table g.board.now.members reports) outcome)
-    → (wide ≡ false → Ends g.board.now.table g.links.now (closed g.standing) g.rounds (full_decides g.standing.next g.board.now.table g.board.now.members reports) outcome)
+    → (wide ≡ true → IsAssigned g.board.now.table g.peers.now (closed g.phase) (wide_decides g.phase.next g.board.now.table g.board.now.members reports) outcome)
+    → (wide ≡ false → Ends g.board.now.table g.peers.now (closed g.phase) g.rounds (full_decides g.phase.next g.board.now.table g.board.now.members reports) outcome)
     → IsCounted s j v.mon.0 (frame_of v) End false (asks_wide outcome.reply)
 end_is_counted s j g v reports true outcome l all some =
     end_counts s j v.mon v.round v.seq v.border v.values (asks_wide outcome.reply) l.closed
@@ -178,6 +178,6 @@ end_is_counted s j g v reports true outcome l all some =
 end_is_counted s j g v reports false outcome l all some =
     let decided = full_at s (heard j v) (reports_at s (heard j v)) in
     end_counts s j v.mon v.round v.seq v.border v.values (asks_wide outcome.reply) l.closed
-    (ends_wide g.board.now.table g.links.now (closed g.standing) g.rounds (full_decides g.standing.next g.board.now.table g.board.now.members reports) outcome (is_within_limit decided)
+    (ends_wide g.board.now.table g.peers.now (closed g.phase) g.rounds (full_decides g.phase.next g.board.now.table g.board.now.members reports) outcome (is_within_limit decided)
     (ap is_within_limit (full_same s j g v reports false l)) (some refl)
     ∙ ap (λ b. not b && not (is_within_limit decided)) l.wide_is)

@@ -1,4 +1,4 @@
--- Assigns that send a reallocation: the table after them, and what they are by the links.
+-- Assigns that send a reallocation: the table after them, and what they are by the peers.
 use Rattle.std.proofs.Common.{◌≡◌, ℕ, suc, false, ◌+◌, ◌-◌, ◌^◌, ◌≤◌, ◌<◌, ◌==◌, ℤ, pos, List, [], ◌∷◌, ◌++◌, length, map, get_or, drop, Contains, Some, None, cond, refl, sym, ap, ◌∙◌, subst, arith, inl, inr}
 use Rattle.std.specs.Prelude.{unwrap_or, filter, if◌then◌else◌}
 use Rattle.std.specs.List.{All}
@@ -39,8 +39,8 @@ use Rattle.tk_journal.proofs.Firm.{IsFirm}
 use Rattle.tk_journal.proofs.Tuning.{force_limits}
 use Rattle.tk_journal.proofs.FirmTurns.{firm_demanded}
 use Rattle.tk_journal.proofs.LawLemmas.{one_less}
-use Rattle.tk_coord.specs.declared.link.Link.{Link}
-use Rattle.tk_coord.specs.State.{AreLinks, link_at}
+use Rattle.tk_coord.specs.declared.peer.Peer.{Peer}
+use Rattle.tk_coord.specs.State.{ArePeers, peer_at}
 use Rattle.tk_coord.specs.Steps.{IsReplaced, AreAssigned, next_assigns, with_got}
 use Rattle.tk_coord.specs.Dealing.{IsDecided, assigns_by, assigns_in, assigns_over}
 use Rattle.tk_coord.proofs.ElementLemmas.{same_elements}
@@ -232,29 +232,29 @@ pub short_deals : (s : Setup) (j : List Noted) (report : Reported) → 0 < lengt
 unfolding short_decides
 short_deals s j report = omega arith
 
--- ---- the Assigns by the links
+-- ---- the Assigns by the peers
 
--- a link tells how many Assigns its monitor was sent
-pub assigns_by_is : (s : Setup) (j : List Noted) (links : List Link) (mon : ℕ) → AreLinks s j links → IsMonitor s mon → assigns_by links mon ≡ assigns_sent mon j
-assigns_by_is s j links mon are m =
+-- a peer tells how many Assigns its monitor was sent
+pub assigns_by_is : (s : Setup) (j : List Noted) (peers : List Peer) (mon : ℕ) → ArePeers s j peers → IsMonitor s mon → assigns_by peers mon ≡ assigns_sent mon j
+assigns_by_is s j peers mon are m =
     let next : suc (mon - 1) ≡ mon = (let a = m.from_one in omega (arith, a)) in
-    let within : mon - 1 < length links = (let a = m.from_one in let b = m.within in let c = are.count in omega (arith, a, b, c)) in
-    let got = slice_get-get_or links (mon - 1) (link_at j mon) within in
-    ap assigns_in got ∙ ap (λ (l : Link). l.assigns) (are.each (mon - 1) (get_or links (mon - 1) (link_at j mon)) got) ∙ ap (λ q. assigns_sent q j) next
+    let within : mon - 1 < length peers = (let a = m.from_one in let b = m.within in let c = are.count in omega (arith, a, b, c)) in
+    let got = slice_get-get_or peers (mon - 1) (peer_at j mon) within in
+    ap assigns_in got ∙ ap (λ (l : Peer). l.assigns) (are.each (mon - 1) (get_or peers (mon - 1) (peer_at j mon)) got) ∙ ap (λ q. assigns_sent q j) next
 
--- the Assigns by the numbers that the links tell
-over_rows : (s : Setup) (j : List Noted) (links : List Link) (members : List ℕ) (rows : List Row) → AreLinks s j links → All (λ (d : Row). IsMonitor s d.0) rows
-    → map (λ d. n.Sent (record { 0 = d.0 }) (f.Assign (assigns_by links d.0 + 1) members d.1)) rows ≡ sends j members rows
-over_rows s j links members [] are range = refl
-over_rows s j links members (d ∷ rows) are range =
-    ap (λ q. n.Sent (record { 0 = d.0 }) (f.Assign (q + 1) members d.1) ∷ map (λ e. n.Sent (record { 0 = e.0 }) (f.Assign (assigns_by links e.0 + 1) members e.1)) rows)
-    (assigns_by_is s j links d.0 are (All-head (λ (e : Row). IsMonitor s e.0) d rows range))
-    ∙ ap (λ xs. n.Sent (record { 0 = d.0 }) (f.Assign (assigns_sent d.0 j + 1) members d.1) ∷ xs) (over_rows s j links members rows are (All-tail (λ (e : Row). IsMonitor s e.0) d rows range))
+-- the Assigns by the numbers that the peers tell
+over_rows : (s : Setup) (j : List Noted) (peers : List Peer) (members : List ℕ) (rows : List Row) → ArePeers s j peers → All (λ (d : Row). IsMonitor s d.0) rows
+    → map (λ d. n.Sent (record { 0 = d.0 }) (f.Assign (assigns_by peers d.0 + 1) members d.1)) rows ≡ sends j members rows
+over_rows s j peers members [] are range = refl
+over_rows s j peers members (d ∷ rows) are range =
+    ap (λ q. n.Sent (record { 0 = d.0 }) (f.Assign (q + 1) members d.1) ∷ map (λ e. n.Sent (record { 0 = e.0 }) (f.Assign (assigns_by peers e.0 + 1) members e.1)) rows)
+    (assigns_by_is s j peers d.0 are (All-head (λ (e : Row). IsMonitor s e.0) d rows range))
+    ∙ ap (λ xs. n.Sent (record { 0 = d.0 }) (f.Assign (assigns_sent d.0 j + 1) members d.1) ∷ xs) (over_rows s j peers members rows are (All-tail (λ (e : Row). IsMonitor s e.0) d rows range))
 
--- the Assigns that the links give are those that the journal gives
-pub assigns_by_links : (s : Setup) (j : List Noted) (links : List Link) (decided : Decided) → AreLinks s j links → All (λ (d : Row). IsMonitor s d.0) (drop 1 decided.dealt)
-    → assigns_over links decided ≡ assigns j decided
-assigns_by_links s j links decided are range = over_rows s j links decided.members (drop 1 decided.dealt) are range
+-- the Assigns that the peers give are those that the journal gives
+pub assigns_by_peers : (s : Setup) (j : List Noted) (peers : List Peer) (decided : Decided) → ArePeers s j peers → All (λ (d : Row). IsMonitor s d.0) (drop 1 decided.dealt)
+    → assigns_over peers decided ≡ assigns j decided
+assigns_by_peers s j peers decided are range = over_rows s j peers decided.members (drop 1 decided.dealt) are range
 
 -- what was decided deals only to monitors
 pub decided_nodes : (s : Setup) (j : List Noted) (decided : Decided) (r : Reallocation) → IsDecided (table_at s j) decided r → All (λ (d : Row). IsMonitor s d.0) (drop 1 decided.dealt)
@@ -264,12 +264,12 @@ decided_nodes s j decided r d =
     (All-weaker (λ c. (0 < c.mon.0) × (c.mon.0 ≤ s.monitors)) (λ c. IsMonitor s c.mon.0) (λ c h. record { from_one = (let a = h.0 in omega (arith, a)); within = h.1 }) r.at.items
     (named_within s j r d.fits)))
 
--- where the links have room for one more Assign, the journal has
-pub room_by_links : (s : Setup) (j : List Noted) (links : List Link) (r : Reallocation) → AreLinks s j links → IsReplacement (table_at s j) r
-    → All (λ c. assigns_by links c.mon.0 < 2 ^ 64 - 1) r.at.items
+-- where the peers have room for one more Assign, the journal has
+pub room_by_peers : (s : Setup) (j : List Noted) (peers : List Peer) (r : Reallocation) → ArePeers s j peers → IsReplacement (table_at s j) r
+    → All (λ c. assigns_by peers c.mon.0 < 2 ^ 64 - 1) r.at.items
     → All (λ c. assigns_sent c.mon.0 j < 2 ^ 64 - 1) r.at.items
-room_by_links s j links r are fits room k d below =
+room_by_peers s j peers r are fits room k d below =
     let range = named_within s j r fits k d below in
-    let told = assigns_by_is s j links (get_or r.at.items k d).mon.0 are (record { from_one = (let a = range.0 in omega (arith, a)); within = range.1 }) in
+    let told = assigns_by_is s j peers (get_or r.at.items k d).mon.0 are (record { from_one = (let a = range.0 in omega (arith, a)); within = range.1 }) in
     let left = room k d below in
     omega (arith, told, left)

@@ -12,7 +12,7 @@ use Rattle.tk_journal.specs.Turns.{collects}
 use Rattle.tk_journal.specs.declared.noted.Noted.{Noted}
 use Rattle.tk_journal.specs.declared.noted.Noted.TheVariants as n
 use Rattle.tk_coord.specs.Dealing.{assigns_by, is_but, mons_but}
-use Rattle.tk_coord.specs.declared.link.Link.{Link}
+use Rattle.tk_coord.specs.declared.peer.Peer.{Peer}
 use Rattle.tk_coord.proofs.RangeLemmas.{range_more}
 
 -- ---- Collects
@@ -53,15 +53,15 @@ collects_more round asked but j {entries} {new} {e} asks before pushed is =
 -- ---- Assigns
 
 -- the next Assign to one monitor
-abbrev pub assign_to : List Link → List ℕ → ℕ × List (ℕ × ℤ) → Noted
-assign_to links members d = n.Sent (record { 0 = d.0 }) (f.Assign (assigns_by links d.0 + 1) members d.1)
+abbrev pub assign_to : List Peer → List ℕ → ℕ × List (ℕ × ℤ) → Noted
+assign_to peers members d = n.Sent (record { 0 = d.0 }) (f.Assign (assigns_by peers d.0 + 1) members d.1)
 
 -- one Assign more
-pub assigns_more : (links : List Link) (members : List ℕ) (at : List MonChange) (i : ℕ) (d : MonChange) {entries new : List Noted} {e : Noted} → i < length at
-    → entries ≡ map (assign_to links members) (by_monitor (take i at))
-    → new ≡ entries ++ e ∷ [] → e ≡ assign_to links members ((get_or at i d).mon.0, (get_or at i d).changes) → new ≡ map (assign_to links members) (by_monitor (take (i + 1) at))
-assigns_more links members at i d {entries} {new} {e} within before pushed is =
+pub assigns_more : (peers : List Peer) (members : List ℕ) (at : List MonChange) (i : ℕ) (d : MonChange) {entries new : List Noted} {e : Noted} → i < length at
+    → entries ≡ map (assign_to peers members) (by_monitor (take i at))
+    → new ≡ entries ++ e ∷ [] → e ≡ assign_to peers members ((get_or at i d).mon.0, (get_or at i d).changes) → new ≡ map (assign_to peers members) (by_monitor (take (i + 1) at))
+assigns_more peers members at i d {entries} {new} {e} within before pushed is =
     pushed
     ∙ ap₂ (λ (l : List Noted) (x : Noted). l ++ x ∷ []) before is
-    ∙ sym (map-append (assign_to links members) (by_monitor (take i at)) (((get_or at i d).mon.0, (get_or at i d).changes) ∷ []))
-    ∙ ap (map (assign_to links members)) (sym (map_more (λ (c : MonChange). (c.mon.0, c.changes)) at i d within))
+    ∙ sym (map-append (assign_to peers members) (by_monitor (take i at)) (((get_or at i d).mon.0, (get_or at i d).changes) ∷ []))
+    ∙ ap (map (assign_to peers members)) (sym (map_more (λ (c : MonChange). (c.mon.0, c.changes)) at i d within))

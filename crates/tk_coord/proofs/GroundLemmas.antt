@@ -18,7 +18,7 @@ use Rattle.tk_coord.specs.Dealing.{OpensWide}
 use Rattle.tk_coord.specs.Grounds.{IsGrounded, OpensOver}
 use Rattle.tk_coord.specs.State.{Stands}
 use Rattle.tk_coord.specs.declared.outcomes.Grounds.{Grounds}
-use Rattle.tk_coord.specs.declared.standing.Standing.{Standing}
+use Rattle.tk_coord.specs.declared.phase.Phase.{Phase}
 use Rattle.tk_coord.specs.declared.step.Outcome.{Outcome}
 use Rattle.tk_coord.proofs.FollowLemmas.{IsAsLarge}
 use Rattle.tk_coord.proofs.GrowLemmas.{firm_at, limits_at, orderly_at}
@@ -43,18 +43,18 @@ force_large s j setup is = record {
 }
 
 -- entries about the monitors of the settings in force are about all that there are
-pub entries_of : (s : Setup) (j : List Noted) (standing : Standing) (entries : List Noted) → Stands s j standing
-    → All (IsEntryOf standing.settings.monitors s.objects) entries → All (IsEntryOf s.monitors s.objects) entries
-entries_of s j standing entries h each =
-    subst (λ (k : ℕ). All (IsEntryOf k s.objects) entries) (force_large s j standing.settings h.settings).monitors each
+pub entries_of : (s : Setup) (j : List Noted) (phase : Phase) (entries : List Noted) → Stands s j phase
+    → All (IsEntryOf phase.settings.monitors s.objects) entries → All (IsEntryOf s.monitors s.objects) entries
+entries_of s j phase entries h each =
+    subst (λ (k : ℕ). All (IsEntryOf k s.objects) entries) (force_large s j phase.settings h.settings).monitors each
 
 -- a wide round that opens by the fields opens over the journal
-pub opened_over : (s : Setup) (j : List Noted) (g : Grounds) (outcome : Outcome) → IsGrounded s j g → OpensWide g.standing g.rounds outcome
-    → All (IsEntryOf g.standing.settings.monitors s.objects) outcome.entries.items → OpensOver s j outcome
+pub opened_over : (s : Setup) (j : List Noted) (g : Grounds) (outcome : Outcome) → IsGrounded s j g → OpensWide g.phase g.rounds outcome
+    → All (IsEntryOf g.phase.settings.monitors s.objects) outcome.entries.items → OpensOver s j outcome
 opened_over s j g outcome grounded opens each = record {
   stands = subst (Stands s j) (sym opens.holds) grounded.stands;
-  opens = subst (λ (x : Standing). OpensWide x (rounds s j) outcome) (sym opens.holds) (subst (λ (k : ℕ). OpensWide g.standing k outcome) grounded.counted opens);
-  range = entries_of s j g.standing outcome.entries.items grounded.stands each;
+  opens = subst (λ (x : Phase). OpensWide x (rounds s j) outcome) (sym opens.holds) (subst (λ (k : ℕ). OpensWide g.phase k outcome) grounded.counted opens);
+  range = entries_of s j g.phase outcome.entries.items grounded.stands each;
 }
 
 -- ---- readings over the fields
@@ -78,5 +78,5 @@ holds_over P s now setup table members are holds =
     subst (λ x. P x table members) (sym are.force) (subst (λ g. P (in_force s now) g members) (sym are.dealt) (subst (λ ms. P (in_force s now) (table_at s now) ms) (sym are.named) holds))
 
 -- the fields that rounds are dealt over are so
-pub grounds_are : (s : Setup) (j : List Noted) (g : Grounds) → IsGrounded s j g → AreOf s j g.standing.settings g.board.now.table g.board.now.members
+pub grounds_are : (s : Setup) (j : List Noted) (g : Grounds) → IsGrounded s j g → AreOf s j g.phase.settings g.board.now.table g.board.now.members
 grounds_are s j g h = record { force = h.stands.settings; dealt = h.dealt; named = h.named }

@@ -20,9 +20,9 @@ use Rattle.tk_coord.specs.declared.state.State.{State}
 use Rattle.tk_coord.specs.declared.step.Reply.{Reply}
 use Rattle.tk_coord.specs.declared.step.Reply.TheVariants as reply
 use Rattle.tk_coord.specs.Keeping.{HasPlace, CanReply}
-use Rattle.tk_coord.specs.State.{kind_in, link_at, IsRound, Holds}
+use Rattle.tk_coord.specs.State.{kind_in, peer_at, IsRound, Holds}
 use Rattle.tk_coord.specs.Steps.{IsReply}
-use Rattle.tk_coord.proofs.LinkLemmas.{same_link}
+use Rattle.tk_coord.proofs.PeerLemmas.{same_peer}
 
 -- ---- journals that read the same
 
@@ -50,10 +50,10 @@ told_same a b e mon =
     ∙ ap (λ z. if is_some (asked_of (last_round a) mon a) then values_of (last_round a) mon a else answered_report mon z) (e.answer mon)
 
 -- what such a journal says of one monitor
-link_same : (a b : List Noted) → ReadsAs a b → (mon : ℕ) → link_at b mon ≡ link_at a mon
+peer_same : (a b : List Noted) → ReadsAs a b → (mon : ℕ) → peer_at b mon ≡ peer_at a mon
 unfolding assigns_sent
-link_same a b e mon =
-    same_link (link_at b mon) (link_at a mon) (ap length (e.assigns mon)) (ap kind_in (e.answer mon)) (e.progress mon) (waits_same a b e mon)
+peer_same a b e mon =
+    same_peer (peer_at b mon) (peer_at a mon) (ap length (e.assigns mon)) (ap kind_in (e.answer mon)) (e.progress mon) (waits_same a b e mon)
 
 -- the round is that of such a journal
 round_same : (s : Setup) (a b : List Noted) (round : Round) (gathered : List Reported) → ReadsAs a b → IsRound s a round gathered → IsRound s b round gathered
@@ -73,7 +73,7 @@ pub holds_as : (s : Setup) (a b : List Noted) (state : State) → ReadsAs a b �
 holds_as s a b state e h = record {
   members = h.members ∙ sym e.members;
   table = h.table ∙ sym (table_by s a b e.assigns);
-  links = record { count = h.links.count; each = λ i l is. h.links.each i l is ∙ sym (link_same a b e (suc i)) };
+  peers = record { count = h.peers.count; each = λ i l is. h.peers.each i l is ∙ sym (peer_same a b e (suc i)) };
   round = round_same s a b state.round state.gathered.items e h.round;
 }
 
@@ -89,11 +89,11 @@ holds_same s a b state e h =
 pub has_place : (s : Setup) (j : List Noted) (state : State) (mon : ℕ) → IsMonitor s mon → Holds s j state → HasPlace state mon
 has_place s j state mon m h =
     let high = m.within in
-    let links = h.links.count in
+    let peers = h.peers.count in
     let reports = h.round.count in
-    record { some = m.from_one; link = omega (arith, high, links); report = omega (arith, high, reports) }
+    record { some = m.from_one; peer = omega (arith, high, peers); report = omega (arith, high, reports) }
 
--- changes for monitors are changes for their links
+-- changes for monitors are changes for their peers
 all_named : (monitors count : ℕ) (at : List MonChange) → count ≡ monitors → AreNamed monitors at → AreNamed count at
 all_named monitors count at same named = subst (λ n. AreNamed n at) (sym same) named
 
@@ -104,6 +104,6 @@ can_reply s j entries state (reply.Ask round None) sent h = tt
 can_reply s j entries state (reply.Ask round (Some report)) sent h = has_place s j state report.mon.0 (sent.report report refl).0 h
 can_reply s j entries state (reply.Assign change) sent h = (
   subst (λ (g : Grid). IsReplacement g change) (sym h.table) sent.fits,
-  all_named s.monitors (length state.links.items) change.at.items h.links.count sent.named,
+  all_named s.monitors (length state.peers.items) change.at.items h.peers.count sent.named,
   subst (λ n. AreMembers n change.members) (sym (ap (λ (g : Grid). length g.rows) h.table ∙ rows_count s j)) sent.chosen,
 )

@@ -18,8 +18,8 @@ pub mod FollowLemmas
 pub mod GroundLemmas
 pub mod GrowLemmas
 pub mod KeepLemmas
-pub mod LinkLemmas
-pub mod LinkReadings
+pub mod PeerLemmas
+pub mod PeerReadings
 mod NoteLemmas
 mod OutcomesLemmas
 mod PlaceLemmas

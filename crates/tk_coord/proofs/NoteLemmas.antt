@@ -21,7 +21,7 @@ use Rattle.tk_coord.specs.Journal.{IsForOneOf}
 use Rattle.tk_coord.specs.Kept.{IsKept}
 use Rattle.tk_coord.specs.State.{Holds, Stands}
 use Rattle.tk_coord.specs.Steps.{Follows, IsStep}
-use Rattle.tk_coord.specs.declared.standing.Standing.{Standing}
+use Rattle.tk_coord.specs.declared.phase.Phase.{Phase}
 use Rattle.tk_coord.specs.declared.state.State.{State}
 use Rattle.tk_coord.specs.declared.step.Outcome.{Outcome}
 use Rattle.tk_coord.specs.declared.step.Step.{Step}
@@ -75,17 +75,17 @@ appended first entries {j} {reserved} {pushed} {after} same one all =
     all ∙ ap (λ (xs : List Noted). xs ++ entries) (one ∙ ap (λ (xs : List Noted). xs ++ first ∷ []) same) ∙ append_assoc j (first ∷ []) entries
 
 -- what is kept after the turn of a taken frame
-pub kept_taken : (s : Setup) (j after : List Noted) (mon : Mon) (frame : Frame) (step : Step) (calm : Bool) (old new : State) (standing : Standing) (turns now : List Turn)
-    → IsKept s j old standing turns → IsMonitor s mon.0 → refusal_of s j mon.0 frame ≡ None → IsStep s j mon frame step → after ≡ j ++ n.Got mon frame ∷ step.outcome.entries.items
+pub kept_taken : (s : Setup) (j after : List Noted) (mon : Mon) (frame : Frame) (step : Step) (calm : Bool) (old new : State) (phase : Phase) (turns now : List Turn)
+    → IsKept s j old phase turns → IsMonitor s mon.0 → refusal_of s j mon.0 frame ≡ None → IsStep s j mon frame step → after ≡ j ++ n.Got mon frame ∷ step.outcome.entries.items
     → Holds s (said s j mon frame) new → ((s : Setup) (j : List Noted) → Holds s j new → calm ≡ is_calm s j)
-    → now ≡ turns ++ record step.turn { calm = calm } ∷ [] → IsKept s after new step.outcome.standing now
-kept_taken s j after mon frame step calm old new standing turns now k range none taken first holds calms pushed =
+    → now ≡ turns ++ record step.turn { calm = calm } ∷ [] → IsKept s after new step.outcome.phase now
+kept_taken s j after mon frame step calm old new phase turns now k range none taken first holds calms pushed =
     let is = noted_turn s j after mon frame step.outcome taken.outcome first in
     let held = noted_holds s j after mon frame new is holds in
     record {
       journal = subst (IsJournal s) (sym is) (journal_grows s j mon frame k.journal range none);
       holds = held;
-      stands = subst (λ (xs : List Noted). Stands s xs step.outcome.standing) (sym is) taken.outcome.standing;
+      stands = subst (λ (xs : List Noted). Stands s xs step.outcome.phase) (sym is) taken.outcome.phase;
       entries = more_entries s j after step.outcome.entries.items (n.Got mon frame) k.entries (range.from_one, range.within) taken.outcome.range first;
       turned = turns_taken s j after mon frame step.turn calm turns now range none taken.counted is (calms s after held) k.turned pushed;
     }

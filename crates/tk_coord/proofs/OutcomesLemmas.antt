@@ -19,8 +19,8 @@ use Rattle.tk_coord.specs.Checks.{AreNamed}
 use Rattle.tk_coord.specs.Dealing.{AreDealtTo, CanOpenFull, Ends, IsAssigned, IsDealt, IsDecided, decided_in}
 use Rattle.tk_coord.specs.declared.dealing.Dealt.{Dealt}
 use Rattle.tk_coord.specs.declared.dealing.Dealt.TheVariants as dealt
-use Rattle.tk_coord.specs.declared.link.Link.{Link}
-use Rattle.tk_coord.specs.declared.standing.Standing.{Standing}
+use Rattle.tk_coord.specs.declared.peer.Peer.{Peer}
+use Rattle.tk_coord.specs.declared.phase.Phase.{Phase}
 use Rattle.tk_coord.specs.declared.step.Outcome.{Outcome}
 
 -- ---- what is dealt, and its Assigns
@@ -44,17 +44,17 @@ pub decides_same : (grid : Grid) (decided : Decided) (r : Reallocation) → IsDe
 decides_same grid decided r is = λ i. record { members = is.members i; dealt = is.dealt i }
 
 -- where each factor is within its limit, the Assigns are the end
-pub ends_within : (grid : Grid) (links : List Link) (standing : Standing) (rounds : ℕ) (decided : Decided) (outcome : Outcome) → is_within_limit decided ≡ true
-    → IsAssigned grid links standing decided outcome → Ends grid links standing rounds decided outcome
-ends_within grid links standing rounds decided outcome within is = record { within = λ _. is; past = λ past. absurd (true≢false (sym within ∙ past)) }
+pub ends_within : (grid : Grid) (peers : List Peer) (phase : Phase) (rounds : ℕ) (decided : Decided) (outcome : Outcome) → is_within_limit decided ≡ true
+    → IsAssigned grid peers phase decided outcome → Ends grid peers phase rounds decided outcome
+ends_within grid peers phase rounds decided outcome within is = record { within = λ _. is; past = λ past. absurd (true≢false (sym within ∙ past)) }
 
 -- ---- what the end of a round begins with
 
 -- with one monitor, its Report alone ends a full round
-pub alone_can_end : (s : Setup) (grid : Grid) (present : List ℕ) (links : List Link) (report : Reported) → IsReady s grid present (objects_of report.values)
+pub alone_can_end : (s : Setup) (grid : Grid) (present : List ℕ) (peers : List Peer) (report : Reported) → IsReady s grid present (objects_of report.values)
     → CanTakePart grid present (objects_of report.values) report
-    → length links ≡ s.monitors → CanOpenFull s grid present links report
-alone_can_end s grid present links report ready takes count alone =
+    → length peers ≡ s.monitors → CanOpenFull s grid present peers report
+alone_can_end s grid present peers report ready takes count alone =
     let one : s.monitors ≡ 1 = eqb-true s.monitors 1 alone in
     let mon : report.mon.0 ≡ 1 = (let low = takes.some in let high = takes.monitor in let size = ready.size.monitors in omega (arith, low, high, size, one)) in
     record {

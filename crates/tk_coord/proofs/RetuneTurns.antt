@@ -27,7 +27,7 @@ use Rattle.tk_coord.specs.Grounds.{OpensOver}
 use Rattle.tk_coord.specs.State.{Holds, Stands}
 use Rattle.tk_coord.specs.Steps.{IsAsked, IsReply, IsRetuned, retuned_to}
 use Rattle.tk_coord.specs.declared.round.Round.{Round}
-use Rattle.tk_coord.specs.declared.standing.Standing.{Standing}
+use Rattle.tk_coord.specs.declared.phase.Phase.{Phase}
 use Rattle.tk_coord.specs.declared.state.State.{State}
 use Rattle.tk_coord.specs.declared.step.Outcome.{Outcome}
 use Rattle.tk_coord.specs.declared.step.Reply.{Reply}
@@ -133,13 +133,13 @@ pub tuned_is_asked : (s : Setup) (j : List Noted) (k e : ℕ) (next : Setup) (ou
 tuned_is_asked s j k e next outcome h r o =
     let number = rounds s j + 1 in
     let mid = with_tuned j k e in
-    let large = force_large s j outcome.standing.settings o.stands.settings in
+    let large = force_large s j outcome.phase.settings o.stands.settings in
     let order = orderly_at s j h in
     let over = orderly_tuned s j k (pos e) order in
     let round : Round = record { number = number; waiting = true; wide = true; asked = objects s.objects } in
     let asked : IsAsked s mid (wide_collects s number) round None =
     wide_is_asked s mid number (limits_at s j h).some_monitor (tuned_waits j k (pos e) s ∙ r.closed) over.counted (new_round s j k e order) in
-    let sends : outcome.entries.items ≡ wide_collects s number = o.opens.sends ∙ wide_over outcome.standing.settings s number large in (
+    let sends : outcome.entries.items ≡ wide_collects s number = o.opens.sends ∙ wide_over outcome.phase.settings s number large in (
       sends,
       subst (λ (x : Reply). IsReply s mid outcome.entries.items x)
           (sym (o.opens.reply ∙ ap (λ (q : ℕ). reply.Ask (record { number = number; waiting = true; wide = true; asked = objects q }) None) large.objects))
@@ -164,9 +164,9 @@ tuned_stop s j k e round going =
     ∙ no_stop (wide_collects s round) (collects_are_wanted round (objects s.objects) (monitors s))
 
 -- what stands after the turn: k and epsilon are in force from the end of its round
-pub retuned_stands : (s : Setup) (j : List Noted) (k e : ℕ) (standing : Standing) (next : Setup) → IsJournal s j → Stands s j standing → IsRetuned s j k e next
-    → Stands s (j ++ turn_of s j (n.Tuned k (pos e))) (record standing { next = next })
-retuned_stands s j k e standing next h st r =
+pub retuned_stands : (s : Setup) (j : List Noted) (k e : ℕ) (phase : Phase) (next : Setup) → IsJournal s j → Stands s j phase → IsRetuned s j k e next
+    → Stands s (j ++ turn_of s j (n.Tuned k (pos e))) (record phase { next = next })
+retuned_stands s j k e phase next h st r =
     let round = rounds s j + 1 in
     let mid = with_tuned j k e in
     let all = objects s.objects in
@@ -181,7 +181,7 @@ retuned_stands s j k e standing next h st r =
     let list = ap (λ xs. tunings (mid ++ collects round all xs)) mons ∙ tuned_list s j k (pos e) round all 1 rest tuned in
     let last : last_round after ≡ round = ap (λ xs. last_round (mid ++ collects round all xs)) mons ∙ collects_round mid round all 1 rest in
     let opened' : is_open s after ≡ true = collects_open s mid round first.0 first.1 over.counted (new_round s j k e order) in
-    subst (λ b. Stands s b (record standing { next = next })) (sym (turn_whole s j k e)) (record {
+    subst (λ b. Stands s b (record phase { next = next })) (sym (turn_whole s j k e)) (record {
       settings = st.settings ∙ force_closed s j r.closed tuned ∙ sym (force_tuned s j after k (pos e) round list last new opened' tuned);
       next = r.brings
           ∙ sym (ap (λ (ts : List Tuning). tuned_to s (last_of ts)) list

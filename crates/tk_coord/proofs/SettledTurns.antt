@@ -25,19 +25,19 @@ use Rattle.tk_journal.proofs.Published.{none_more}
 use Rattle.tk_journal.proofs.Same.{AreSame, open_same}
 use Rattle.tk_journal.proofs.StandLemmas.{nothing_stays_due}
 use Rattle.tk_journal.proofs.Tuning.{force_monitors}
-use Rattle.tk_coord.specs.declared.link.Link.{Link}
-use Rattle.tk_coord.specs.declared.standing.Standing.{Standing}
+use Rattle.tk_coord.specs.declared.peer.Peer.{Peer}
+use Rattle.tk_coord.specs.declared.phase.Phase.{Phase}
 use Rattle.tk_coord.specs.declared.step.Outcome.{Outcome}
 use Rattle.tk_coord.specs.declared.step.Reply.TheVariants as reply
 use Rattle.tk_coord.specs.Closing.{settled_by, said_at, said_by, are_last, closing_by}
 use Rattle.tk_coord.specs.Coordinator.{IsJournal}
-use Rattle.tk_coord.specs.State.{AreLinks, Stands, link_at}
+use Rattle.tk_coord.specs.State.{ArePeers, Stands, peer_at}
 use Rattle.tk_coord.specs.Steps.{Follows, with_got}
 use Rattle.tk_journal.proofs.SoundLemmas.{all_of_range}
 use Rattle.tk_coord.proofs.ClosingLemmas.{closing_unchanged, open_closing, uncalm_closing, uncalm_open, uncalm_unsettled}
 use Rattle.tk_coord.proofs.DemandLemmas.{report_demands_none, settled_demands}
 use Rattle.tk_coord.proofs.FollowLemmas.{calm_follows, quiet_follows}
-use Rattle.tk_coord.proofs.LinkReadings.{link_place, says_as}
+use Rattle.tk_coord.proofs.PeerReadings.{peer_place, says_as}
 use Rattle.tk_coord.proofs.GroundLemmas.{taken_at}
 use Rattle.tk_coord.proofs.TellLemmas.{answer_other, fresh_answered, open_stays, report_changes_nothing, settled_changes_nothing}
 
@@ -50,14 +50,14 @@ undue_at s j mon frame h none =
 
 -- nothing follows a frame that changes no reading and demands nothing
 unchanged_follows : (s : Setup) (j : List Noted) (mon : Mon) (frame : Frame) (outcome : Outcome) → IsJournal s j → IsMonitor s mon.0 → refusal_of s j mon.0 frame ≡ None
-    → AreSame s j (with_got j mon frame) → demanded s j mon.0 frame ≡ [] → outcome.entries.items ≡ [] → outcome.reply ≡ reply.Nothing → Stands s j outcome.standing → Follows s j mon frame outcome
+    → AreSame s j (with_got j mon frame) → demanded s j mon.0 frame ≡ [] → outcome.entries.items ≡ [] → outcome.reply ≡ reply.Nothing → Stands s j outcome.phase → Follows s j mon frame outcome
 unchanged_follows s j mon frame outcome h m none same demands =
     quiet_follows s j mon frame outcome (taken_at s j mon frame h m none) (open_same s j (with_got j mon frame) same) demands (closing_unchanged s j mon frame same (undue_at s j mon frame h none))
 
 -- nothing follows a stale Report
 pub stale_report_follows : (s : Setup) (j : List Noted) (mon : Mon) (seq : ℕ) (border : ℤ) (failed : List ℕ) (values : List (ℕ × ℤ)) (outcome : Outcome) → IsJournal s j → IsMonitor s mon.0
     → refusal_of s j mon.0 (f.Report seq border failed values) ≡ None → nat_lt seq (assigns_sent mon.0 j) ≡ true → outcome.entries.items ≡ [] → outcome.reply ≡ reply.Nothing
-    → Stands s j outcome.standing → Follows s j mon (f.Report seq border failed values) outcome
+    → Stands s j outcome.phase → Follows s j mon (f.Report seq border failed values) outcome
 stale_report_follows s j mon seq border failed values outcome h m none late =
     unchanged_follows s j mon (f.Report seq border failed values) outcome h m none
     (report_changes_nothing s j mon seq border failed values (ltb-true seq (assigns_sent mon.0 j) late)) (report_demands_none s j mon.0 seq border failed values true late (λ e. cc))
@@ -65,7 +65,7 @@ stale_report_follows s j mon seq border failed values outcome h m none late =
 -- nothing follows a stale Settled
 pub stale_settled_follows : (s : Setup) (j : List Noted) (mon : Mon) (seq : ℕ) (last : Bool) (places : List ℕ) (outcome : Outcome) → IsJournal s j → IsMonitor s mon.0
     → refusal_of s j mon.0 (f.Settled seq last places) ≡ None → nat_lt seq (assigns_sent mon.0 j) ≡ true → outcome.entries.items ≡ [] → outcome.reply ≡ reply.Nothing
-    → Stands s j outcome.standing → Follows s j mon (f.Settled seq last places) outcome
+    → Stands s j outcome.phase → Follows s j mon (f.Settled seq last places) outcome
 stale_settled_follows s j mon seq last places outcome h m none late =
     unchanged_follows s j mon (f.Settled seq last places) outcome h m none
     (settled_changes_nothing s j mon seq last places (ltb-true seq (assigns_sent mon.0 j) late)) (settled_demands s j mon.0 seq last places)
@@ -75,7 +75,7 @@ stale_settled_follows s j mon seq last places outcome h m none late =
 -- nothing follows a Report while a round is open
 pub noted_report_follows : (s : Setup) (j : List Noted) (mon : Mon) (seq : ℕ) (border : ℤ) (failed : List ℕ) (values : List (ℕ × ℤ)) (outcome : Outcome) → IsJournal s j → IsMonitor s mon.0
     → refusal_of s j mon.0 (f.Report seq border failed values) ≡ None → nat_lt seq (assigns_sent mon.0 j) ≡ false → is_open s j ≡ true → outcome.entries.items ≡ [] → outcome.reply ≡ reply.Nothing
-    → Stands s j outcome.standing → Follows s j mon (f.Report seq border failed values) outcome
+    → Stands s j outcome.phase → Follows s j mon (f.Report seq border failed values) outcome
 noted_report_follows s j mon seq border failed values outcome h m none fresh opened =
     let frame = f.Report seq border failed values in
     let same = open_stays s j mon frame (λ r q. refl) in
@@ -83,41 +83,41 @@ noted_report_follows s j mon seq border failed values outcome h m none fresh ope
     (open_closing s (with_got j mon frame) (same ∙ opened))
 
 -- what the others say is as before
-others_say : (j : List Noted) (mon : Mon) (frame : Frame) (q : ℕ) → q ≢ mon.0 → settled_of q (with_got j mon frame) ≡ settled_by (Some (link_at j q))
+others_say : (j : List Noted) (mon : Mon) (frame : Frame) (q : ℕ) → q ≢ mon.0 → settled_of q (with_got j mon frame) ≡ settled_by (Some (peer_at j q))
 others_say j mon frame q other = ap settled_in (answer_other q j mon frame (ne_eqb mon.0 q (λ e. other (sym e)))) ∙ says_as j q
 
 -- while a round is open, or another has not settled, it is not calm
-stirred_by : (s : Setup) (j : List Noted) (links : List Link) (mon : Mon) (seq : ℕ) (last : Bool) (places : List ℕ) → AreLinks s j links → IsMonitor s mon.0
-    → (is_open s j ≡ true) ⊎ ((i : ℕ) × (l : Link) × (i ≢ mon.0 - 1) × (slice_get links i ≡ Some l) × (settled_by (Some l) ≡ None)) → is_calm s (with_got j mon (f.Settled seq last places)) ≡ false
-stirred_by s j links mon seq last places are m (inl opened) =
+stirred_by : (s : Setup) (j : List Noted) (peers : List Peer) (mon : Mon) (seq : ℕ) (last : Bool) (places : List ℕ) → ArePeers s j peers → IsMonitor s mon.0
+    → (is_open s j ≡ true) ⊎ ((i : ℕ) × (l : Peer) × (i ≢ mon.0 - 1) × (slice_get peers i ≡ Some l) × (settled_by (Some l) ≡ None)) → is_calm s (with_got j mon (f.Settled seq last places)) ≡ false
+stirred_by s j peers mon seq last places are m (inl opened) =
     let frame = f.Settled seq last places in uncalm_open s (with_got j mon frame) (open_stays s j mon frame (λ r q. refl) ∙ opened)
-stirred_by s j links mon seq last places are m (inr other) =
+stirred_by s j peers mon seq last places are m (inr other) =
     let frame = f.Settled seq last places in
     let i = other.0 in
     let l = other.1 in
     let away = other.2 in
     let there = other.3 in
-    let place = slice_get_within links i l there in
+    let place = slice_get_within peers i l there in
     let count = are.count in
     let from = m.from_one in
     let apart : suc i ≢ mon.0 = λ e. away (omega (arith, e, from)) in
     uncalm_unsettled s (with_got j mon frame) (suc i) (record { from_one = omega arith; within = omega (arith, place, count) })
-    (others_say j mon frame (suc i) apart ∙ sym (ap (λ (x : Link). settled_by (Some x)) (are.each i l there)) ∙ other.4)
+    (others_say j mon frame (suc i) apart ∙ sym (ap (λ (x : Peer). settled_by (Some x)) (are.each i l there)) ∙ other.4)
 
 -- nothing follows a Settled after which not all have settled
-pub stirred_follows : (s : Setup) (j : List Noted) (links : List Link) (mon : Mon) (seq : ℕ) (last : Bool) (places : List ℕ) (outcome : Outcome) → IsJournal s j → AreLinks s j links → IsMonitor s mon.0
-    → refusal_of s j mon.0 (f.Settled seq last places) ≡ None → (is_open s j ≡ true) ⊎ ((i : ℕ) × (l : Link) × (i ≢ mon.0 - 1) × (slice_get links i ≡ Some l) × (settled_by (Some l) ≡ None))
-    → outcome.entries.items ≡ [] → outcome.reply ≡ reply.Nothing → Stands s j outcome.standing → Follows s j mon (f.Settled seq last places) outcome
-stirred_follows s j links mon seq last places outcome h are m none which =
+pub stirred_follows : (s : Setup) (j : List Noted) (peers : List Peer) (mon : Mon) (seq : ℕ) (last : Bool) (places : List ℕ) (outcome : Outcome) → IsJournal s j → ArePeers s j peers → IsMonitor s mon.0
+    → refusal_of s j mon.0 (f.Settled seq last places) ≡ None → (is_open s j ≡ true) ⊎ ((i : ℕ) × (l : Peer) × (i ≢ mon.0 - 1) × (slice_get peers i ≡ Some l) × (settled_by (Some l) ≡ None))
+    → outcome.entries.items ≡ [] → outcome.reply ≡ reply.Nothing → Stands s j outcome.phase → Follows s j mon (f.Settled seq last places) outcome
+stirred_follows s j peers mon seq last places outcome h are m none which =
     let frame = f.Settled seq last places in
     quiet_follows s j mon frame outcome (taken_at s j mon frame h m none) (open_stays s j mon frame (λ r q. refl)) (settled_demands s j mon.0 seq last places)
-    (uncalm_closing s (with_got j mon frame) (stirred_by s j links mon seq last places are m which))
+    (uncalm_closing s (with_got j mon frame) (stirred_by s j peers mon seq last places are m which))
 
 -- ---- where all have settled
 
 -- the others' answers: every other monitor has settled
-abbrev pub HaveOthersSettled : List Link → ℕ → Type 0
-HaveOthersSettled links place = (i : ℕ) (l : Link) → i ≢ place → slice_get links i ≡ Some l → settled_by (Some l) ≢ None
+abbrev pub HaveOthersSettled : List Peer → ℕ → Type 0
+HaveOthersSettled peers place = (i : ℕ) (l : Peer) → i ≢ place → slice_get peers i ≡ Some l → settled_by (Some l) ≢ None
 
 -- what is there is what it is read as
 there_is : (o : Option Progress) (here : Progress) → o ≢ None → o ≡ Some (unwrap_or o here)
@@ -129,26 +129,26 @@ own_says : (j : List Noted) (mon : Mon) (seq : ℕ) (last : Bool) (places : List
     → settled_of mon.0 (with_got j mon (f.Settled seq last places)) ≡ Some (record { places = places; last = last })
 own_says j mon seq last places fresh = ap settled_in (fresh_answered j mon (f.Settled seq last places) (eq-eqb seq (assigns_sent mon.0 j) fresh))
 
--- what each monitor says after a fresh Settled, by the links
-each_says : (s : Setup) (j : List Noted) (links : List Link) (mon : Mon) (seq : ℕ) (last : Bool) (places : List ℕ) (progress : Progress) (q : ℕ)
-    → AreLinks s j links → IsMonitor s mon.0 → IsMonitor s q → seq ≡ assigns_sent mon.0 j → progress ≡ record { places = places; last = last } → HaveOthersSettled links (mon.0 - 1)
-    → settled_of q (with_got j mon (f.Settled seq last places)) ≡ Some (said_at links (mon.0 - 1) progress q)
-each_says s j links mon seq last places progress q are m each fresh is others =
+-- what each monitor says after a fresh Settled, by the peers
+each_says : (s : Setup) (j : List Noted) (peers : List Peer) (mon : Mon) (seq : ℕ) (last : Bool) (places : List ℕ) (progress : Progress) (q : ℕ)
+    → ArePeers s j peers → IsMonitor s mon.0 → IsMonitor s q → seq ≡ assigns_sent mon.0 j → progress ≡ record { places = places; last = last } → HaveOthersSettled peers (mon.0 - 1)
+    → settled_of q (with_got j mon (f.Settled seq last places)) ≡ Some (said_at peers (mon.0 - 1) progress q)
+each_says s j peers mon seq last places progress q are m each fresh is others =
     let frame = f.Settled seq last places in
     let now = with_got j mon frame in
     let from = m.from_one in
     let low = each.from_one in
     let back : mon.0 - 1 + 1 ≡ mon.0 = omega (arith, from) in
-    let other = unwrap_or (settled_by (slice_get links (q - 1))) progress in
+    let other = unwrap_or (settled_by (slice_get peers (q - 1))) progress in
     elim (cases_eq q mon.0) [
       | inl same ↦
           ap (λ (p : ℕ). settled_of p now) same ∙ own_says j mon seq last places fresh ∙ ap Some (sym is)
           ∙ ap (λ b. Some (if b then progress else other)) (sym (eq-eqb q (mon.0 - 1 + 1) (same ∙ sym back)))
       | inr apart ↦
           let away : q - 1 ≢ mon.0 - 1 = λ e. apart (omega (arith, e, low, from)) in
-          let there = link_place s j links q are each in
-          others_say j mon frame q apart ∙ there_is (settled_by (Some (link_at j q))) progress (others (q - 1) (link_at j q) away there)
-          ∙ ap (λ (x : Option Link). Some (unwrap_or (settled_by x) progress)) (sym there)
+          let there = peer_place s j peers q are each in
+          others_say j mon frame q apart ∙ there_is (settled_by (Some (peer_at j q))) progress (others (q - 1) (peer_at j q) away there)
+          ∙ ap (λ (x : Option Peer). Some (unwrap_or (settled_by x) progress)) (sym there)
           ∙ ap (λ b. Some (if b then progress else other)) (sym (ne_eqb q (mon.0 - 1 + 1) (λ e. apart (e ∙ back))))
     ]
 
@@ -164,25 +164,25 @@ in_range : (s : Setup) (q : ℕ) → 1 ≤ q → q < 1 + s.monitors → IsMonito
 in_range s q low high = record { from_one = low; within = omega (arith, high) }
 
 -- what all say after a fresh Settled, where all have settled
-pub settled_now : (s : Setup) (j : List Noted) (links : List Link) (mon : Mon) (seq : ℕ) (last : Bool) (places : List ℕ) (progress : Progress) → AreLinks s j links → IsMonitor s mon.0
-    → seq ≡ assigns_sent mon.0 j → progress ≡ record { places = places; last = last } → HaveOthersSettled links (mon.0 - 1)
-    → settled_at s (with_got j mon (f.Settled seq last places)) ≡ said_by links (mon.0 - 1) progress
-settled_now s j links mon seq last places progress are m fresh is others =
+pub settled_now : (s : Setup) (j : List Noted) (peers : List Peer) (mon : Mon) (seq : ℕ) (last : Bool) (places : List ℕ) (progress : Progress) → ArePeers s j peers → IsMonitor s mon.0
+    → seq ≡ assigns_sent mon.0 j → progress ≡ record { places = places; last = last } → HaveOthersSettled peers (mon.0 - 1)
+    → settled_at s (with_got j mon (f.Settled seq last places)) ≡ said_by peers (mon.0 - 1) progress
+settled_now s j peers mon seq last places progress are m fresh is others =
     let now = with_got j mon (f.Settled seq last places) in
-    let say = said_at links (mon.0 - 1) progress in
-    all_given (λ q. settled_of q now) say 1 s.monitors (λ q low high. each_says s j links mon seq last places progress q are m (in_range s q low high) fresh is others)
+    let say = said_at peers (mon.0 - 1) progress in
+    all_given (λ q. settled_of q now) say 1 s.monitors (λ q low high. each_says s j peers mon seq last places progress q are m (in_range s q low high) fresh is others)
     ∙ ap (λ (k : ℕ). map say (range_with_len 1 k)) (sym are.count)
 
 -- and it is calm
-pub calm_now : (s : Setup) (j : List Noted) (links : List Link) (mon : Mon) (seq : ℕ) (last : Bool) (places : List ℕ) → AreLinks s j links → IsMonitor s mon.0
-    → seq ≡ assigns_sent mon.0 j → is_open s j ≡ false → HaveOthersSettled links (mon.0 - 1) → is_calm s (with_got j mon (f.Settled seq last places)) ≡ true
+pub calm_now : (s : Setup) (j : List Noted) (peers : List Peer) (mon : Mon) (seq : ℕ) (last : Bool) (places : List ℕ) → ArePeers s j peers → IsMonitor s mon.0
+    → seq ≡ assigns_sent mon.0 j → is_open s j ≡ false → HaveOthersSettled peers (mon.0 - 1) → is_calm s (with_got j mon (f.Settled seq last places)) ≡ true
 unfolding is_calm
-calm_now s j links mon seq last places are m fresh closed others =
+calm_now s j peers mon seq last places are m fresh closed others =
     let frame = f.Settled seq last places in
     let now = with_got j mon frame in
     ap (λ o. not o && list_all (λ q. is_some (settled_of q now)) (range_with_len 1 s.monitors)) (open_stays s j mon frame (λ r q. refl) ∙ closed)
     ∙ all_of_range (λ q. is_some (settled_of q now)) 1 s.monitors
-    (λ q low high. ap is_some (each_says s j links mon seq last places (record { places = places; last = last }) q are m (in_range s q low high) fresh refl others))
+    (λ q low high. ap is_some (each_says s j peers mon seq last places (record { places = places; last = last }) q are m (in_range s q low high) fresh refl others))
 
 -- ---- what ends the turn
 
@@ -243,27 +243,27 @@ settled_seq s j mon seq last places none late =
     ]
 
 -- the end of a turn in which all have settled follows a Settled
-pub calm_follows_settled : (s : Setup) (j : List Noted) (links : List Link) (mon : Mon) (seq : ℕ) (last : Bool) (places : List ℕ) (progress : Progress)
-    (setup : Setup) (members : List ℕ) (news : Bool) (number : ℕ) (ends : Bool) (standing : Standing) (outcome : Outcome)
-    → IsJournal s j → AreLinks s j links → IsMonitor s mon.0 → refusal_of s j mon.0 (f.Settled seq last places) ≡ None → nat_lt seq (assigns_sent mon.0 j) ≡ false
-    → is_open s j ≡ false → HaveOthersSettled links (mon.0 - 1) → progress ≡ record { places = places; last = last } → setup ≡ in_force s j → members ≡ members_at j
-    → news ≡ differs (in_force s j) (members_at j) (last_of (publications j)) → number ≡ length (publications j) + 1 → Stands s j standing
-    → outcome.entries.items ≡ closing_by setup members (said_by links (mon.0 - 1) progress) news number → is_stopped outcome.entries.items ≡ ends → outcome.reply ≡ reply.Nothing
-    → outcome.standing ≡ record standing { stopped = ends } → All (IsEntryOf s.monitors s.objects) outcome.entries.items
+pub calm_follows_settled : (s : Setup) (j : List Noted) (peers : List Peer) (mon : Mon) (seq : ℕ) (last : Bool) (places : List ℕ) (progress : Progress)
+    (setup : Setup) (members : List ℕ) (news : Bool) (number : ℕ) (ends : Bool) (phase : Phase) (outcome : Outcome)
+    → IsJournal s j → ArePeers s j peers → IsMonitor s mon.0 → refusal_of s j mon.0 (f.Settled seq last places) ≡ None → nat_lt seq (assigns_sent mon.0 j) ≡ false
+    → is_open s j ≡ false → HaveOthersSettled peers (mon.0 - 1) → progress ≡ record { places = places; last = last } → setup ≡ in_force s j → members ≡ members_at j
+    → news ≡ differs (in_force s j) (members_at j) (last_of (publications j)) → number ≡ length (publications j) + 1 → Stands s j phase
+    → outcome.entries.items ≡ closing_by setup members (said_by peers (mon.0 - 1) progress) news number → is_stopped outcome.entries.items ≡ ends → outcome.reply ≡ reply.Nothing
+    → outcome.phase ≡ record phase { stopped = ends } → All (IsEntryOf s.monitors s.objects) outcome.entries.items
     → Follows s j mon (f.Settled seq last places) outcome
-calm_follows_settled s j links mon seq last places progress setup members news number ends standing outcome
+calm_follows_settled s j peers mon seq last places progress setup members news number ends phase outcome
     h are m none late closed others is force named newer count stands sends stopped replies holds range =
     let frame = f.Settled seq last places in
     let now = with_got j mon frame in
-    let said = said_by links (mon.0 - 1) progress in
+    let said = said_by peers (mon.0 - 1) progress in
     let fresh = settled_seq s j mon.0 seq last places none late in
     let same = open_stays s j mon frame (λ r q. refl) in
-    let calm = calm_now s j links mon seq last places are m fresh closed others in
+    let calm = calm_now s j peers mon seq last places are m fresh closed others in
     let end : outcome.entries.items ≡ closing s now =
     sends ∙ closing_fields s j setup members said news number force named newer count
     ∙ sym (closing_over s j now said calm (open_force s j mon frame same) (got_members j mon frame) (none_more j (n.Got mon frame ∷ []) refl)
-    (settled_now s j links mon seq last places progress are m fresh is others)) in
-    calm_follows s j mon frame standing ends outcome (taken_at s j mon frame h m none) same (settled_demands s j mon.0 seq last places) end replies range stopped holds stands
+    (settled_now s j peers mon seq last places progress are m fresh is others)) in
+    calm_follows s j mon frame phase ends outcome (taken_at s j mon frame h m none) same (settled_demands s j mon.0 seq last places) end replies range stopped holds stands
 
 -- ---- what was published last
 

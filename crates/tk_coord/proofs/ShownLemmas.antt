@@ -11,11 +11,11 @@ use Rattle.tk_journal.proofs.Tables.{IsObject, factor_is, own_is, rows_count, ta
 use Rattle.tk_coord.specs.Checks.{IsKnown}
 use Rattle.tk_coord.specs.Coordinator.{IsJournal}
 use Rattle.tk_coord.specs.Refusals.{shown_from, waits_by}
-use Rattle.tk_coord.specs.State.{IsRound, link_at}
-use Rattle.tk_coord.specs.declared.link.Link.{Link}
+use Rattle.tk_coord.specs.State.{IsRound, peer_at}
+use Rattle.tk_coord.specs.declared.peer.Peer.{Peer}
 use Rattle.tk_coord.specs.declared.round.Round.{Round}
 use Rattle.tk_coord.proofs.GrowLemmas.{firm_at}
-use Rattle.tk_coord.proofs.LinkReadings.{is_report_of, waits_of}
+use Rattle.tk_coord.proofs.PeerReadings.{is_report_of, waits_of}
 
 -- what the fields know of a monitor is what the journal does
 pub known_is : (s : Setup) (j : List Noted) (mon objects : ℕ) (members : List ℕ) (table : Grid) → objects ≡ s.objects → members ≡ members_at j → table ≡ table_at s j
@@ -34,13 +34,13 @@ known_fits s j mon h m = record {
   within = (firm_at s j h).standing.chosen.within;
 }
 
--- what a link and the round show of a monitor is what the journal shows
-pub shown_is : (s : Setup) (j : List Noted) (mon : ℕ) (link : Link) (round : Round) (gathered : List Reported) (stopped : Bool) → IsMonitor s mon → link ≡ link_at j mon
+-- what a peer and the round show of a monitor is what the journal shows
+pub shown_is : (s : Setup) (j : List Noted) (mon : ℕ) (peer : Peer) (round : Round) (gathered : List Reported) (stopped : Bool) → IsMonitor s mon → peer ≡ peer_at j mon
     → IsRound s j round gathered → stopped ≡ is_stopped j
-    → shown_from link round stopped ≡ shown_by mon j
-shown_is s j mon link round gathered stopped m is r ended =
-    ap (λ (l : Link). shown_from l round stopped) is
-    ∙ ap (λ (b : Bool). record { at = assigns_sent mon j; reported = b; progress = progress_of mon j; waits = waits_by (link_at j mon) round; stopped = stopped })
+    → shown_from peer round stopped ≡ shown_by mon j
+shown_is s j mon peer round gathered stopped m is r ended =
+    ap (λ (l : Peer). shown_from l round stopped) is
+    ∙ ap (λ (b : Bool). record { at = assigns_sent mon j; reported = b; progress = progress_of mon j; waits = waits_by (peer_at j mon) round; stopped = stopped })
     (sym (is_report_of mon j))
     ∙ ap (λ (w : Option (ℕ × List ℕ)). record { at = assigns_sent mon j; reported = is_report (answer_of mon j); progress = progress_of mon j; waits = w; stopped = stopped })
     (sym (waits_of s j round gathered mon r m))

@@ -27,7 +27,7 @@ use Rattle.tk_journal.proofs.Same.{AreSame, force_same, same_closing}
 use Rattle.tk_journal.proofs.Tuning.{AreTuned, EachTuning, IsOpened, collects_tunings, force_closed, force_past}
 use Rattle.tk_coord.specs.State.{Stands, next_settings}
 use Rattle.tk_coord.specs.Steps.{with_got}
-use Rattle.tk_coord.specs.declared.standing.Standing.{Standing}
+use Rattle.tk_coord.specs.declared.phase.Phase.{Phase}
 
 -- a frame that is taken, over a journal that has not ended
 pub record IsTaken (s : Setup) (j : List Noted) (mon : Mon) (frame : Frame) : Type 0 where
@@ -108,26 +108,26 @@ demanded_tuned s j mon frame taken =
 -- ---- what stands
 
 -- what stands with the frame alone, by the journal that has it
-pub record IsBetween (s : Setup) (j : List Noted) (mon : Mon) (frame : Frame) (between : Standing) : Type 0 where
+pub record IsBetween (s : Setup) (j : List Noted) (mon : Mon) (frame : Frame) (between : Phase) : Type 0 where
   pub settings : between.settings ≡ in_force s (with_got j mon frame)
   pub next : between.next ≡ next_settings s (with_got j mon frame)
 
 -- after a frame that ends no round
-pub frame_between : (s : Setup) (j : List Noted) (mon : Mon) (frame : Frame) (standing : Standing) → is_open s (with_got j mon frame) ≡ is_open s j → Stands s j standing → IsBetween s j mon frame standing
-frame_between s j mon frame standing same h = record {
+pub frame_between : (s : Setup) (j : List Noted) (mon : Mon) (frame : Frame) (phase : Phase) → is_open s (with_got j mon frame) ≡ is_open s j → Stands s j phase → IsBetween s j mon frame phase
+frame_between s j mon frame phase same h = record {
   settings = h.settings ∙ sym (open_force s j mon frame same);
   next = h.next ∙ sym (ap (λ ts. tuned_to s (last_of ts)) (got_tunings j mon frame));
 }
 
 -- the last Values to a round put the next settings in force
-pub ended_between : (s : Setup) (j : List Noted) (mon : Mon) (frame : Frame) (standing : Standing) → IsTaken s j mon frame → is_open s (with_got j mon frame) ≡ false → Stands s j standing
-    → IsBetween s j mon frame (record standing { settings = standing.next })
-ended_between s j mon frame standing taken closed h =
-    let next : standing.next ≡ next_settings s (with_got j mon frame) = h.next ∙ sym (ap (λ ts. tuned_to s (last_of ts)) (got_tunings j mon frame)) in
+pub ended_between : (s : Setup) (j : List Noted) (mon : Mon) (frame : Frame) (phase : Phase) → IsTaken s j mon frame → is_open s (with_got j mon frame) ≡ false → Stands s j phase
+    → IsBetween s j mon frame (record phase { settings = phase.next })
+ended_between s j mon frame phase taken closed h =
+    let next : phase.next ≡ next_settings s (with_got j mon frame) = h.next ∙ sym (ap (λ ts. tuned_to s (last_of ts)) (got_tunings j mon frame)) in
     record { settings = next ∙ sym (force_closed s (with_got j mon frame) closed (got_tuned s j mon frame taken.firm.tuned)); next = next }
 
 -- it stands after the turn, but for Stop
-pub turned_stands : (s : Setup) (j : List Noted) (mon : Mon) (frame : Frame) (after : Standing) → IsTaken s j mon frame → IsBetween s j mon frame after
+pub turned_stands : (s : Setup) (j : List Noted) (mon : Mon) (frame : Frame) (after : Phase) → IsTaken s j mon frame → IsBetween s j mon frame after
     → after.stopped ≡ is_stopped (closing s (said s j mon frame)) → Stands s (j ++ turn_of s j (n.Got mon frame)) after
 turned_stands s j mon frame after taken b end =
     let same = turn_same s j mon frame in

@@ -1,5 +1,5 @@
 -- A taken frame: what it tells is what is kept then.
-use Rattle.std.proofs.Common.{◌≡◌, ◌≢◌, ◌⊎◌, ℕ, suc, ◌-◌, ◌<◌, ◌≤◌, true, false, List, length, Option, Some, None, set, refl, sym, ap, ◌∙◌, subst, arith, inl, inr}
+use Rattle.std.proofs.Common.{◌≡◌, ◌≢◌, ◌⊎◌, ℕ, suc, ◌-◌, ◌<◌, ◌≤◌, Bool, true, false, List, length, Option, Some, None, set, refl, sym, ap, ◌∙◌, subst, arith, inl, inr}
 use Rattle.std.specs.Prelude.{slice_get}
 use Rattle.std.proofs.lemmas.Bool.{cases_eq}
 use Rattle.std.proofs.lemmas.List.{length-set}
@@ -16,13 +16,13 @@ use Rattle.tk_journal.proofs.Pieces.{got_assigns, got_members, got_round, got_as
 use Rattle.tk_journal.proofs.Same.{table_by}
 use Rattle.tk_journal.proofs.Rounding.{open_got}
 use Rattle.tk_journal.proofs.Tuning.{wide_by}
-use Rattle.tk_coord.specs.declared.link.Link.{Link}
+use Rattle.tk_coord.specs.declared.peer.Peer.{Peer}
 use Rattle.tk_coord.specs.declared.round.Round.{Round}
 use Rattle.tk_coord.specs.declared.state.State.{State}
-use Rattle.tk_coord.specs.declared.step.Told.{Told}
-use Rattle.tk_coord.specs.declared.step.Told.TheVariants as told
+use Rattle.tk_coord.specs.declared.step.Statement.{Statement}
+use Rattle.tk_coord.specs.declared.step.Statement.TheVariants as stated
 use Rattle.tk_coord.specs.Board.{BoardView}
-use Rattle.tk_coord.specs.State.{link_at, AreLinks, IsRound, Holds}
+use Rattle.tk_coord.specs.State.{peer_at, ArePeers, IsRound, Holds}
 use Rattle.tk_coord.specs.Steps.{Tells, told_at, values_in, open_after, with_got}
 use Rattle.tk_coord.proofs.ElementLemmas.{read_set}
 
@@ -32,69 +32,71 @@ gathered_after place None gathered = gathered
 gathered_after place (Some report) gathered = set gathered place report
 
 -- what a monitor tells does not make a round wait for it
-waits_less : (t : Told) (link : Link) → (told_at t link).waits ≡ true → link.waits ≡ true
-waits_less told.Nothing link h = h
-waits_less told.Report link h = h
-waits_less (told.Settled progress) link h = h
-waits_less (told.Values report more) link h = cc
+waits_less : (t : Statement) (peer : Peer) → (told_at t peer).waits ≡ true → peer.waits ≡ true
+waits_less stated.Nothing peer h = h
+waits_less stated.Report peer h = h
+waits_less (stated.Settled progress) peer h = h
+waits_less (stated.Values report) peer h = cc
+waits_less stated.LastValues peer h = cc
 
--- only its values end the waiting
-waits_kept : (t : Told) (link : Link) → values_in t ≡ None → (told_at t link).waits ≡ link.waits
-waits_kept told.Nothing link none = refl
-waits_kept told.Report link none = refl
-waits_kept (told.Settled progress) link none = refl
-waits_kept (told.Values report more) link none = cc
+-- while a round is open, only its values end the waiting
+waits_kept : (t : Statement) (peer : Peer) (was : Bool) → open_after t was ≡ true → values_in t ≡ None → (told_at t peer).waits ≡ peer.waits
+waits_kept stated.Nothing peer was opened none = refl
+waits_kept stated.Report peer was opened none = refl
+waits_kept (stated.Settled progress) peer was opened none = refl
+waits_kept (stated.Values report) peer was opened none = cc
+waits_kept stated.LastValues peer was opened none = cc
 
--- the links after a frame
-links_got : (s : Setup) (j : List Noted) (mon : Mon) (frame : Frame) (t : Told) (links : List Link) (l m : Link) → Tells s j mon frame t → 0 < mon.0
-    → slice_get links (mon.0 - 1) ≡ Some l → m ≡ told_at t l → AreLinks s j links → AreLinks s (with_got j mon frame) (set links (mon.0 - 1) m)
-links_got s j mon frame t links l m tells some at new h =
-    let within = slice_get_within links (mon.0 - 1) l at in
+-- the peers after a frame
+peers_got : (s : Setup) (j : List Noted) (mon : Mon) (frame : Frame) (t : Statement) (peers : List Peer) (l m : Peer) → Tells s j mon frame t → 0 < mon.0
+    → slice_get peers (mon.0 - 1) ≡ Some l → m ≡ told_at t l → ArePeers s j peers → ArePeers s (with_got j mon frame) (set peers (mon.0 - 1) m)
+peers_got s j mon frame t peers l m tells some at new h =
+    let within = slice_get_within peers (mon.0 - 1) l at in
     let here : suc (mon.0 - 1) ≡ mon.0 = omega (arith, some) in
     record {
-      count = length-set links (mon.0 - 1) m ∙ h.count;
-      each = λ i x is. elim (read_set links (mon.0 - 1) i m x within is) [
+      count = length-set peers (mon.0 - 1) m ∙ h.count;
+      each = λ i x is. elim (read_set peers (mon.0 - 1) i m x within is) [
         | inl same ↦
             let own : suc i ≡ mon.0 = ap suc same.0 ∙ here in
-            same.1 ∙ new ∙ ap (told_at t) (h.each (mon.0 - 1) l at ∙ ap (link_at j) here) ∙ sym tells.link ∙ ap (link_at (with_got j mon frame)) (sym own)
+            same.1 ∙ new ∙ ap (told_at t) (h.each (mon.0 - 1) l at ∙ ap (peer_at j) here) ∙ sym tells.peer ∙ ap (peer_at (with_got j mon frame)) (sym own)
         | inr other ↦ h.each i x other.1 ∙ sym (tells.others (suc i) (λ e. other.0 (omega (arith, e))))
       ];
     }
 
 -- a round that waits after a frame has waited before it
-waited : (s : Setup) (j : List Noted) (mon : Mon) (frame : Frame) (t : Told) (q : ℕ) → Tells s j mon frame t
+waited : (s : Setup) (j : List Noted) (mon : Mon) (frame : Frame) (t : Statement) (q : ℕ) → Tells s j mon frame t
     → waits_for (last_round (with_got j mon frame)) q (with_got j mon frame) ≡ true → waits_for (last_round j) q j ≡ true
 waited s j mon frame t q tells h = elim (cases_eq q mon.0) [
   | inl own ↦
-      let e : link_at (with_got j mon frame) q ≡ told_at t (link_at j q) = ap (link_at (with_got j mon frame)) own ∙ tells.link ∙ ap (λ k. told_at t (link_at j k)) (sym own) in
-      waits_less t (link_at j q) (sym (ap (λ (l : Link). l.waits) e) ∙ h)
-  | inr other ↦ sym (ap (λ (l : Link). l.waits) (tells.others q other)) ∙ h
+      let e : peer_at (with_got j mon frame) q ≡ told_at t (peer_at j q) = ap (peer_at (with_got j mon frame)) own ∙ tells.peer ∙ ap (λ k. told_at t (peer_at j k)) (sym own) in
+      waits_less t (peer_at j q) (sym (ap (λ (l : Peer). l.waits) e) ∙ h)
+  | inr other ↦ sym (ap (λ (l : Peer). l.waits) (tells.others q other)) ∙ h
 ]
 
 -- whoever told no values is waited for as before
-not_waited : (s : Setup) (j : List Noted) (mon : Mon) (frame : Frame) (t : Told) (q : ℕ) → Tells s j mon frame t → (values_in t ≡ None) ⊎ (q ≢ mon.0)
+not_waited : (s : Setup) (j : List Noted) (mon : Mon) (frame : Frame) (t : Statement) (q : ℕ) → Tells s j mon frame t → is_open s (with_got j mon frame) ≡ true → (values_in t ≡ None) ⊎ (q ≢ mon.0)
     → waits_for (last_round (with_got j mon frame)) q (with_got j mon frame) ≡ waits_for (last_round j) q j
-not_waited s j mon frame t q tells (inl none) = elim (cases_eq q mon.0) [
+not_waited s j mon frame t q tells is (inl none) = elim (cases_eq q mon.0) [
   | inl own ↦
-      let e : link_at (with_got j mon frame) q ≡ told_at t (link_at j q) = ap (link_at (with_got j mon frame)) own ∙ tells.link ∙ ap (λ k. told_at t (link_at j k)) (sym own) in
-      ap (λ (l : Link). l.waits) e ∙ waits_kept t (link_at j q) none
-  | inr other ↦ ap (λ (l : Link). l.waits) (tells.others q other)
+      let e : peer_at (with_got j mon frame) q ≡ told_at t (peer_at j q) = ap (peer_at (with_got j mon frame)) own ∙ tells.peer ∙ ap (λ k. told_at t (peer_at j k)) (sym own) in
+      ap (λ (l : Peer). l.waits) e ∙ waits_kept t (peer_at j q) (is_open s j) (sym tells.waiting ∙ is) none
+  | inr other ↦ ap (λ (l : Peer). l.waits) (tells.others q other)
 ]
-not_waited s j mon frame t q tells (inr other) = ap (λ (l : Link). l.waits) (tells.others q other)
+not_waited s j mon frame t q tells is (inr other) = ap (λ (l : Peer). l.waits) (tells.others q other)
 
 -- what was told before the frame stands
-report_kept : (s : Setup) (j : List Noted) (mon : Mon) (frame : Frame) (t : Told) (round : Round) (gathered : List Reported) (i : ℕ) (r : Reported)
+report_kept : (s : Setup) (j : List Noted) (mon : Mon) (frame : Frame) (t : Statement) (round : Round) (gathered : List Reported) (i : ℕ) (r : Reported)
     → Tells s j mon frame t → IsRound s j round gathered
     → is_open s (with_got j mon frame) ≡ true → (values_in t ≡ None) ⊎ (suc i ≢ mon.0) → slice_get gathered i ≡ Some r
     → waits_for (last_round (with_got j mon frame)) (suc i) (with_got j mon frame) ≡ false → report_of (suc i) (with_got j mon frame) ≡ Some r
 report_kept s j mon frame t round gathered i r tells h is apart at w =
     let was = open_got s j mon frame is in
-    let before : waits_for (last_round j) (suc i) j ≡ false = sym (not_waited s j mon frame t (suc i) tells apart) ∙ w in
+    let before : waits_for (last_round j) (suc i) j ≡ false = sym (not_waited s j mon frame t (suc i) tells is apart) ∙ w in
     let range : IsMonitor s (suc i) = record { from_one = omega arith; within = (let k = slice_get_within gathered i r at in let c = h.count in omega (arith, k, c)) } in
     tells.kept was (suc i) range apart before ∙ h.told was i r at before
 
 -- what is gathered after the frame was told
-told_got : (s : Setup) (j : List Noted) (mon : Mon) (frame : Frame) (t : Told) (round : Round) (gathered : List Reported) (v : Option Reported) (i : ℕ) (r : Reported)
+told_got : (s : Setup) (j : List Noted) (mon : Mon) (frame : Frame) (t : Statement) (round : Round) (gathered : List Reported) (v : Option Reported) (i : ℕ) (r : Reported)
     → Tells s j mon frame t → IsRound s j round gathered
     → 0 < mon.0 → mon.0 ≤ length gathered → values_in t ≡ v → is_open s (with_got j mon frame) ≡ true → slice_get (gathered_after (mon.0 - 1) v gathered) i ≡ Some r
     → waits_for (last_round (with_got j mon frame)) (suc i) (with_got j mon frame) ≡ false → report_of (suc i) (with_got j mon frame) ≡ Some r
@@ -113,7 +115,7 @@ gathered_count place None gathered = refl
 gathered_count place (Some r) gathered = length-set gathered place r
 
 -- the round after a frame
-round_got : (s : Setup) (j : List Noted) (mon : Mon) (frame : Frame) (t : Told) (round : Round) (gathered : List Reported) (v : Option Reported) → Tells s j mon frame t
+round_got : (s : Setup) (j : List Noted) (mon : Mon) (frame : Frame) (t : Statement) (round : Round) (gathered : List Reported) (v : Option Reported) → Tells s j mon frame t
     → 0 < mon.0 → mon.0 ≤ length gathered
     → values_in t ≡ v → IsRound s j round gathered → IsRound s (with_got j mon frame) (record round { waiting = open_after t round.waiting }) (gathered_after (mon.0 - 1) v gathered)
 round_got s j mon frame t round gathered v tells some place values h =
@@ -128,20 +130,20 @@ round_got s j mon frame t round gathered v tells some place values h =
     }
 
 -- what a taken frame leaves of the state
-pub record IsTold (mon : Mon) (t : Told) (old new : State) : Type 0 where
+pub record IsTold (mon : Mon) (t : Statement) (old new : State) : Type 0 where
   pub board : new.board ≡ old.board
-  pub link : Link
-  pub was : slice_get old.links.items (mon.0 - 1) ≡ Some link
-  pub now : Link
-  pub tells : now ≡ told_at t link
-  pub links : new.links.items ≡ set old.links.items (mon.0 - 1) now
+  pub peer : Peer
+  pub was : slice_get old.peers.items (mon.0 - 1) ≡ Some peer
+  pub now : Peer
+  pub tells : now ≡ told_at t peer
+  pub peers : new.peers.items ≡ set old.peers.items (mon.0 - 1) now
   pub round : new.round ≡ record old.round { waiting = open_after t old.round.waiting }
   pub values : Option Reported
   pub are : values_in t ≡ values
   pub gathered : new.gathered.items ≡ gathered_after (mon.0 - 1) values old.gathered.items
 
 -- a state that holds what a journal says holds what it says with one more frame
-pub holds_got : (s : Setup) (j : List Noted) (mon : Mon) (frame : Frame) (t : Told) (old new : State)
+pub holds_got : (s : Setup) (j : List Noted) (mon : Mon) (frame : Frame) (t : Statement) (old new : State)
     → Tells s j mon frame t → 0 < mon.0 → mon.0 ≤ length old.gathered.items → IsTold mon t old new
     → Holds s j old → Holds s (with_got j mon frame) new
 holds_got s j mon frame t old new tells some place k h =
@@ -149,7 +151,7 @@ holds_got s j mon frame t old new tells some place k h =
     record {
       members = ap (λ (b : BoardView). b.members) k.board ∙ h.members ∙ sym (got_members j mon frame);
       table = ap (λ (b : BoardView). b.table) k.board ∙ h.table ∙ sym (table_by s j after (λ q. got_assigns q j mon frame));
-      links = subst (λ (ls : List Link). AreLinks s after ls) (sym k.links) (links_got s j mon frame t old.links.items k.link k.now tells some k.was k.tells h.links);
+      peers = subst (λ (ls : List Peer). ArePeers s after ls) (sym k.peers) (peers_got s j mon frame t old.peers.items k.peer k.now tells some k.was k.tells h.peers);
       round = subst (λ (r : Round). IsRound s after r new.gathered.items) (sym k.round)
           (subst (λ (g : List Reported). IsRound s after (record old.round { waiting = open_after t old.round.waiting }) g) (sym k.gathered)
           (round_got s j mon frame t old.round old.gathered.items k.values tells some place k.are h.round));

@@ -1,8 +1,8 @@
 -- What a taken frame tells.
-use Rattle.std.proofs.Common.{◌≡◌, ◌≢◌, ◌⊎◌, ℕ, Bool, true, false, not, ◌+◌, ◌<◌, ◌==◌, ◌&&◌, List, [], ◌∷◌, Option, Some, None, refl, sym, ap, ◌∙◌, arith, inl, inr}
+use Rattle.std.proofs.Common.{◌≡◌, ◌≢◌, ℕ, Bool, true, false, not, ◌+◌, ◌<◌, ◌==◌, ◌&&◌, List, [], ◌∷◌, Option, Some, None, refl, sym, ap, ◌∙◌, arith}
 use Rattle.std.proofs.Math.Bool.{and-false}
 use Rattle.std.specs.Prelude.{ℤ, nat_lt, is_some, if◌then◌else◌}
-use Rattle.std.proofs.lemmas.Bool.{eqb-true, eq-eqb, ne_eqb, lt-ltb}
+use Rattle.std.proofs.lemmas.Bool.{eqb-true, eq-eqb, ne_eqb, lt-ltb, true≢false}
 use Rattle.std.proofs.lemmas.List.{append-nil}
 use Rattle.tk_base.specs.Settings.{Setup}
 use Rattle.tk_base.specs.declared.ids.Mon.{Mon}
@@ -27,11 +27,11 @@ use Rattle.tk_journal.proofs.Counting.{got_count}
 use Rattle.tk_journal.proofs.Accepted.{accepted_kind, accepted_values, awaited_waits, report_stays}
 use Rattle.tk_journal.proofs.Firm.{got_tunings}
 use Rattle.tk_journal.proofs.Orderly.{IsOrderly}
-use Rattle.tk_coord.specs.declared.step.Told.{Told}
-use Rattle.tk_coord.specs.declared.step.Told.TheVariants as told
-use Rattle.tk_coord.specs.State.{kind_in, link_at}
+use Rattle.tk_coord.specs.declared.step.Statement.{Statement}
+use Rattle.tk_coord.specs.declared.step.Statement.TheVariants as stated
+use Rattle.tk_coord.specs.State.{kind_in, peer_at}
 use Rattle.tk_coord.specs.Steps.{with_got, told_at, values_in, open_after, Tells}
-use Rattle.tk_coord.proofs.LinkLemmas.{same_link}
+use Rattle.tk_coord.proofs.PeerLemmas.{same_peer}
 
 -- ---- the other monitors
 
@@ -70,12 +70,12 @@ progress_other : (q : ℕ) (j : List Noted) (mon : Mon) (frame : Frame) → mon.
 progress_other q j mon frame apart =
     got_progress q j mon frame ∙ ap (λ b. if b then tells (link_of q j) (progress_of q j) (Up frame) else progress_of q j) apart
 
--- the links of other monitors stay
-link_other : (q : ℕ) (j : List Noted) (mon : Mon) (frame : Frame) → q ≢ mon.0 → link_at (with_got j mon frame) q ≡ link_at j q
-link_other q j mon frame other =
+-- the peers of other monitors stay
+peer_other : (q : ℕ) (j : List Noted) (mon : Mon) (frame : Frame) → q ≢ mon.0 → peer_at (with_got j mon frame) q ≡ peer_at j q
+peer_other q j mon frame other =
     let apart : mon.0 == q ≡ false = ne_eqb mon.0 q (λ e. other (sym e)) in
     let now = with_got j mon frame in
-    same_link (link_at now q) (link_at j q)
+    same_peer (peer_at now q) (peer_at j q)
     (got_sent q j mon frame) (ap kind_in (answer_other q j mon frame apart)) (progress_other q j mon frame apart) (waits_kept q j mon frame (values_other (last_round j) q j mon frame apart))
 
 -- ---- what was told to an open round
@@ -105,15 +105,15 @@ open_stays s j mon frame plain =
 -- ---- stale frames
 
 -- where two journals agree, a frame between them tells nothing
-same_tells : (s : Setup) (j : List Noted) (mon : Mon) (frame : Frame) → AreSame s j (with_got j mon frame) → Tells s j mon frame told.Nothing
+same_tells : (s : Setup) (j : List Noted) (mon : Mon) (frame : Frame) → AreSame s j (with_got j mon frame) → Tells s j mon frame stated.Nothing
 same_tells s j mon frame e =
     let now = with_got j mon frame in
-    let link : (q : ℕ) → link_at now q ≡ link_at j q = λ q.
-    same_link (link_at now q) (link_at j q)
+    let peer : (q : ℕ) → peer_at now q ≡ peer_at j q = λ q.
+    same_peer (peer_at now q) (peer_at j q)
     (sent_same s j now e q) (ap kind_in (e.answer q)) (e.progress q) (waits_kept q j mon frame (e.values (last_round j) q)) in
     record {
-      link = link mon.0;
-      others = λ q other. link q;
+      peer = peer mon.0;
+      others = λ q other. peer q;
       waiting = open_same s j now e;
       report = λ r is. cc;
       kept = λ opened q m which waits. report_same s j now e q;
@@ -169,7 +169,7 @@ report_changes_nothing s j mon seq border failed values stale =
 
 -- a stale Report tells nothing
 pub report_stale : (s : Setup) (j : List Noted) (mon : Mon) (seq : ℕ) (border : ℤ) (failed : List ℕ) (values : List (ℕ × ℤ)) → seq < assigns_sent mon.0 j
-    → Tells s j mon (f.Report seq border failed values) told.Nothing
+    → Tells s j mon (f.Report seq border failed values) stated.Nothing
 report_stale s j mon seq border failed values stale = same_tells s j mon (f.Report seq border failed values) (report_changes_nothing s j mon seq border failed values stale)
 
 -- a stale Settled is no progress
@@ -192,7 +192,7 @@ settled_changes_nothing s j mon seq last places stale =
 
 -- a stale Settled tells nothing
 pub settled_stale : (s : Setup) (j : List Noted) (mon : Mon) (seq : ℕ) (last : Bool) (places : List ℕ) → seq < assigns_sent mon.0 j
-    → Tells s j mon (f.Settled seq last places) told.Nothing
+    → Tells s j mon (f.Settled seq last places) stated.Nothing
 settled_stale s j mon seq last places stale = same_tells s j mon (f.Settled seq last places) (settled_changes_nothing s j mon seq last places stale)
 
 -- ---- fresh answers
@@ -204,12 +204,12 @@ fresh_answered j mon frame fresh =
     ∙ ap (λ b. if b then (if is_answer (assigns_sent mon.0 j) frame then Some frame else answer_of mon.0 j) else answer_of mon.0 j) (eq-eqb mon.0 mon.0 refl)
     ∙ ap (λ b. if b then Some frame else answer_of mon.0 j) fresh
 
--- what a frame without Values tells, by the link of its monitor
-plain_tells : (s : Setup) (j : List Noted) (mon : Mon) (frame : Frame) (told' : Told) → IsOrderly s j → refusal_of s j mon.0 frame ≡ None → ((r q : ℕ) → values_for r q frame ≡ None)
-    → values_in told' ≡ None → open_after told' (is_open s j) ≡ is_open s j → link_at (with_got j mon frame) mon.0 ≡ told_at told' (link_at j mon.0) → Tells s j mon frame told'
-plain_tells s j mon frame told' o none plain silent stays link = record {
-  link = link;
-  others = λ q other. link_other q j mon frame other;
+-- what a frame without Values tells, by the peer of its monitor
+plain_tells : (s : Setup) (j : List Noted) (mon : Mon) (frame : Frame) (told' : Statement) → IsOrderly s j → refusal_of s j mon.0 frame ≡ None → ((r q : ℕ) → values_for r q frame ≡ None)
+    → values_in told' ≡ None → open_after told' (is_open s j) ≡ is_open s j → peer_at (with_got j mon frame) mon.0 ≡ told_at told' (peer_at j mon.0) → Tells s j mon frame told'
+plain_tells s j mon frame told' o none plain silent stays peer = record {
+  peer = peer;
+  others = λ q other. peer_other q j mon frame other;
   waiting = open_stays s j mon frame plain ∙ sym stays;
   report = λ r is. cc;
   kept = λ opened q m which waits. report_kept s j mon frame q o none opened m (values_plain (last_round j) q j mon frame (plain (last_round j) q));
@@ -217,26 +217,26 @@ plain_tells s j mon frame told' o none plain silent stays link = record {
 
 -- a fresh Report tells that it is the answer
 pub report_tells : (s : Setup) (j : List Noted) (mon : Mon) (seq : ℕ) (border : ℤ) (failed : List ℕ) (values : List (ℕ × ℤ)) → IsOrderly s j
-    → refusal_of s j mon.0 (f.Report seq border failed values) ≡ None → seq ≡ assigns_sent mon.0 j → Tells s j mon (f.Report seq border failed values) told.Report
+    → refusal_of s j mon.0 (f.Report seq border failed values) ≡ None → seq ≡ assigns_sent mon.0 j → Tells s j mon (f.Report seq border failed values) stated.Report
 report_tells s j mon seq border failed values o none now =
     let frame = f.Report seq border failed values in
     let after = with_got j mon frame in
-    plain_tells s j mon frame told.Report o none (λ r q. refl) refl refl
-    (same_link (link_at after mon.0) (told_at told.Report (link_at j mon.0))
+    plain_tells s j mon frame stated.Report o none (λ r q. refl) refl refl
+    (same_peer (peer_at after mon.0) (told_at stated.Report (peer_at j mon.0))
     (got_sent mon.0 j mon frame) (ap kind_in (fresh_answered j mon frame (eq-eqb seq (assigns_sent mon.0 j) now)))
     (got_progress mon.0 j mon frame ∙ if_same (mon.0 == mon.0) (progress_of mon.0 j) (progress_of mon.0 j) (λ _. refl))
     (waits_kept mon.0 j mon frame (values_plain (last_round j) mon.0 j mon frame refl)))
 
 -- a fresh Settled tells that it is the answer, and how far its monitor is
 pub settled_tells : (s : Setup) (j : List Noted) (mon : Mon) (seq : ℕ) (last : Bool) (places : List ℕ) → IsOrderly s j
-    → refusal_of s j mon.0 (f.Settled seq last places) ≡ None → seq ≡ assigns_sent mon.0 j → Tells s j mon (f.Settled seq last places) (told.Settled (record { places = places; last = last }))
+    → refusal_of s j mon.0 (f.Settled seq last places) ≡ None → seq ≡ assigns_sent mon.0 j → Tells s j mon (f.Settled seq last places) (stated.Settled (record { places = places; last = last }))
 settled_tells s j mon seq last places o none now =
     let frame = f.Settled seq last places in
     let after = with_got j mon frame in
     let progress : Progress = record { places = places; last = last } in
     let fresh : seq == assigns_sent mon.0 j ≡ true = eq-eqb seq (assigns_sent mon.0 j) now in
-    plain_tells s j mon frame (told.Settled progress) o none (λ r q. refl) refl refl
-    (same_link (link_at after mon.0) (told_at (told.Settled progress) (link_at j mon.0))
+    plain_tells s j mon frame (stated.Settled progress) o none (λ r q. refl) refl refl
+    (same_peer (peer_at after mon.0) (told_at (stated.Settled progress) (peer_at j mon.0))
     (got_sent mon.0 j mon frame) (ap kind_in (fresh_answered j mon frame fresh))
     (got_progress mon.0 j mon frame
     ∙ ap (λ b. if b then (if seq == assigns_on (link_of mon.0 j) then Some progress else progress_of mon.0 j) else progress_of mon.0 j) (eq-eqb mon.0 mon.0 refl)
@@ -282,7 +282,7 @@ asked_there s j mon round seq border values none =
     ap is_some (awaited_waits j mon.0 round awaited.awaited).asked
 
 -- its Values are what it reports to the round
-values_told : (s : Setup) (j : List Noted) (mon : Mon) (round seq : ℕ) (border : ℤ) (values : List (ℕ × ℤ)) → refusal_of s j mon.0 (f.Values round seq border values) ≡ None
+pub values_told : (s : Setup) (j : List Noted) (mon : Mon) (round seq : ℕ) (border : ℤ) (values : List (ℕ × ℤ)) → refusal_of s j mon.0 (f.Values round seq border values) ≡ None
     → report_of mon.0 (with_got j mon (f.Values round seq border values)) ≡ Some (reported mon.0 border values)
 unfolding report_of
 values_told s j mon round seq border values none =
@@ -293,26 +293,45 @@ values_told s j mon round seq border values none =
     (ap is_some (got_asked (last_round j) mon.0 j mon frame) ∙ asked_there s j mon round seq border values none)
     ∙ values_come s j mon round seq border values none
 
--- what a frame with Values tells of others
-apart_from : (report : Reported) (q m : ℕ) (P : Type 0) → (Some report ≡ None) ⊎ (q ≢ m) → ((q ≢ m) → P) → P
-apart_from report q m P (inl e) h = cc
-apart_from report q m P (inr ne) h = h ne
-
--- Values tell themselves, and whether the round waits for more
-pub values_tells : (s : Setup) (j : List Noted) (mon : Mon) (round seq : ℕ) (border : ℤ) (values : List (ℕ × ℤ)) (more : Bool) → IsOrderly s j
-    → refusal_of s j mon.0 (f.Values round seq border values) ≡ None → is_open s (with_got j mon (f.Values round seq border values)) ≡ more
-    → Tells s j mon (f.Values round seq border values) (told.Values (record { mon = mon; values = values; border = border }) more)
-values_tells s j mon round seq border values more o none is =
+-- what others told to it stands
+pub values_kept : (s : Setup) (j : List Noted) (mon : Mon) (round seq : ℕ) (border : ℤ) (values : List (ℕ × ℤ)) (q : ℕ) → IsOrderly s j
+    → refusal_of s j mon.0 (f.Values round seq border values) ≡ None → is_open s j ≡ true → IsMonitor s q → waits_for (last_round j) q j ≡ false
+    → report_of q (with_got j mon (f.Values round seq border values)) ≡ report_of q j
+values_kept s j mon round seq border values q o none opened m quiet =
     let frame = f.Values round seq border values in
-    let now = with_got j mon frame in
-    record {
-      link = same_link (link_at now mon.0) (told_at (told.Values (record { mon = mon; values = values; border = border }) more) (link_at j mon.0))
-          (got_sent mon.0 j mon frame) (ap kind_in (got_answer mon.0 j mon frame ∙ if_same (mon.0 == mon.0) (answer_of mon.0 j) (answer_of mon.0 j) (λ _. refl)))
-          (got_progress mon.0 j mon frame ∙ if_same (mon.0 == mon.0) (progress_of mon.0 j) (progress_of mon.0 j) (λ _. refl))
-          (values_done s j mon round seq border values none);
-      others = λ q other. link_other q j mon frame other;
-      waiting = is;
-      report = λ r same. values_told s j mon round seq border values none ∙ same;
-      kept = λ opened q m which waits. apart_from (record { mon = mon; values = values; border = border }) q mon.0 (report_of q now ≡ report_of q j) which (λ other.
-          report_kept s j mon frame q o none opened m (values_other (last_round j) q j mon frame (ne_eqb mon.0 q (λ e. other (sym e)))));
-    }
+    let other : q ≢ mon.0 = λ own. true≢false (sym (values_waited s j mon round seq border values none) ∙ ap (λ p. waits_for (last_round j) p j) (sym own) ∙ quiet) in
+    report_kept s j mon frame q o none opened m (values_other (last_round j) q j mon frame (ne_eqb mon.0 q (λ e. other (sym e))))
+
+-- the round no longer waits for whose Values are taken
+values_peer : (s : Setup) (j : List Noted) (mon : Mon) (round seq : ℕ) (border : ℤ) (values : List (ℕ × ℤ)) → refusal_of s j mon.0 (f.Values round seq border values) ≡ None
+    → peer_at (with_got j mon (f.Values round seq border values)) mon.0 ≡ record (peer_at j mon.0) { waits = false }
+values_peer s j mon round seq border values none =
+    let frame = f.Values round seq border values in
+    same_peer (peer_at (with_got j mon frame) mon.0) (record (peer_at j mon.0) { waits = false })
+    (got_sent mon.0 j mon frame) (ap kind_in (got_answer mon.0 j mon frame ∙ if_same (mon.0 == mon.0) (answer_of mon.0 j) (answer_of mon.0 j) (λ _. refl)))
+    (got_progress mon.0 j mon frame ∙ if_same (mon.0 == mon.0) (progress_of mon.0 j) (progress_of mon.0 j) (λ _. refl))
+    (values_done s j mon round seq border values none)
+
+-- Values tell themselves while the round waits for more
+pub more_tells : (s : Setup) (j : List Noted) (mon : Mon) (round seq : ℕ) (border : ℤ) (values : List (ℕ × ℤ)) → IsOrderly s j
+    → refusal_of s j mon.0 (f.Values round seq border values) ≡ None → is_open s (with_got j mon (f.Values round seq border values)) ≡ true
+    → Tells s j mon (f.Values round seq border values) (stated.Values (record { mon = mon; values = values; border = border }))
+more_tells s j mon round seq border values o none is = record {
+  peer = values_peer s j mon round seq border values none;
+  others = λ q other. peer_other q j mon (f.Values round seq border values) other;
+  waiting = is;
+  report = λ r same. values_told s j mon round seq border values none ∙ same;
+  kept = λ opened q m which quiet. values_kept s j mon round seq border values q o none opened m quiet;
+}
+
+-- the last Values of a round end it
+pub last_tells : (s : Setup) (j : List Noted) (mon : Mon) (round seq : ℕ) (border : ℤ) (values : List (ℕ × ℤ)) → IsOrderly s j
+    → refusal_of s j mon.0 (f.Values round seq border values) ≡ None → is_open s (with_got j mon (f.Values round seq border values)) ≡ false
+    → Tells s j mon (f.Values round seq border values) stated.LastValues
+last_tells s j mon round seq border values o none is = record {
+  peer = values_peer s j mon round seq border values none;
+  others = λ q other. peer_other q j mon (f.Values round seq border values) other;
+  waiting = is;
+  report = λ r same. cc;
+  kept = λ opened q m which quiet. values_kept s j mon round seq border values q o none opened m quiet;
+}

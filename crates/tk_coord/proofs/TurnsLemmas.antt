@@ -20,9 +20,9 @@ use Rattle.tk_journal.specs.declared.turn.TurnKind.TheVariants.{Tune}
 use Rattle.tk_journal.proofs.KindLemmas.{none_opened, turns_go}
 use Rattle.tk_coord.specs.Coordinator.{Begins}
 use Rattle.tk_coord.specs.Keeping.{has_settled, is_settled_in}
-use Rattle.tk_coord.specs.State.{AreLinks, kind_in, link_at}
+use Rattle.tk_coord.specs.State.{ArePeers, kind_in, peer_at}
 use Rattle.tk_coord.specs.Steps.{IsCounted}
-use Rattle.tk_coord.specs.declared.link.Link.{Link}
+use Rattle.tk_coord.specs.declared.peer.Peer.{Peer}
 use Rattle.tk_coord.proofs.ClosingLemmas.{uncalm_open}
 
 -- at the start there is no turn
@@ -55,7 +55,7 @@ turns_retuned s j after k e calm old new none is end kept pushed =
     ap (λ (t : Turn). t ∷ []) (turn_by {k = Tune} {g = false} {w = true} refl refl refl (end ∙ ap (is_calm s) is)) in
     pushed ∙ ap₂ (λ (xs ys : List Turn). xs ++ ys) kept made ∙ sym (turns_go s j (n.Tuned k (pos e)) (e, refl, none)) ∙ ap (turns_of s) (sym is)
 
--- ---- whether all have settled, by the links
+-- ---- whether all have settled, by the peers
 
 -- a current answer is a Settled or not
 settled_kind : (answer : Option Frame) → is_settled_in (kind_in answer) ≡ is_some (settled_in answer)
@@ -69,18 +69,18 @@ settled_kind (Some (f.Settled seq last places)) = refl
 settled_kind (Some f.Stop) = refl
 
 -- over the monitors from one on
-settled_from : (j : List Noted) (first : ℕ) (links : List Link) → ((i : ℕ) (l : Link) → slice_get links i ≡ Some l → l ≡ link_at j (i + first))
-    → list_all has_settled links ≡ list_all (λ mon. is_some (settled_of mon j)) (range_with_len first (length links))
+settled_from : (j : List Noted) (first : ℕ) (peers : List Peer) → ((i : ℕ) (l : Peer) → slice_get peers i ≡ Some l → l ≡ peer_at j (i + first))
+    → list_all has_settled peers ≡ list_all (λ mon. is_some (settled_of mon j)) (range_with_len first (length peers))
 settled_from j first [] each = refl
-settled_from j first (l ∷ links) each =
-    ap₂ ◌&&◌ (ap has_settled (each 0 l refl ∙ ap (link_at j) (omega arith)) ∙ settled_kind (answer_of first j))
-    (settled_from j (first + 1) links (λ i m at. each (suc i) m at ∙ ap (link_at j) (omega arith)))
+settled_from j first (l ∷ peers) each =
+    ap₂ ◌&&◌ (ap has_settled (each 0 l refl ∙ ap (peer_at j) (omega arith)) ∙ settled_kind (answer_of first j))
+    (settled_from j (first + 1) peers (λ i m at. each (suc i) m at ∙ ap (peer_at j) (omega arith)))
 
 -- it is calm where all have settled and no round is open
-pub calm_by_links : (s : Setup) (j : List Noted) (links : List Link) → is_open s j ≡ false → AreLinks s j links → list_all has_settled links ≡ is_calm s j
+pub calm_by_peers : (s : Setup) (j : List Noted) (peers : List Peer) → is_open s j ≡ false → ArePeers s j peers → list_all has_settled peers ≡ is_calm s j
 unfolding is_calm
-calm_by_links s j links closed are =
-    settled_from j 1 links (λ i l at. are.each i l at ∙ ap (link_at j) (omega arith))
+calm_by_peers s j peers closed are =
+    settled_from j 1 peers (λ i l at. are.each i l at ∙ ap (peer_at j) (omega arith))
     ∙ ap (λ (m : ℕ). list_all (λ mon. is_some (settled_of mon j)) (range_with_len 1 m)) are.count
     ∙ sym (ap (λ b. not b && list_all (λ mon. is_some (settled_of mon j)) (monitors s)) closed)
 

@@ -1,11 +1,11 @@
 -- The members and the factors, with the own factors as a rank keeps them. No public clause cites this.
 use Rattle.std.specs.Prelude.{ℕ, ◌-◌, ℤ, List, fold, slice_set}
-use Rattle.tk_rank.specs.Ranked.{Ranked}
+use Rattle.tk_rank.specs.Rank.{RankView}
 use Rattle.tk_rows.specs.Factors.{Grid}
 use Rattle.tk_alloc.specs.Resolving.{own_factors}
 
 -- the own factors of a table, and some members
-abbrev pub ranks_of : Grid → List ℕ → Ranked
+abbrev pub ranks_of : Grid → List ℕ → RankView
 ranks_of table members = record { levels = own_factors table; members = members }
 
 -- the levels where some objects have others

@@ -24,8 +24,8 @@ use Rattle.tk_journal.specs.declared.noted.Noted.TheVariants as n
 use Rattle.tk_coord.specs.Checks.{AreNamed}
 use Rattle.tk_coord.specs.declared.dealing.Dealt.{Dealt}
 use Rattle.tk_coord.specs.declared.dealing.Dealt.TheVariants as dealt
-use Rattle.tk_coord.specs.declared.link.Link.{Link}
-use Rattle.tk_coord.specs.declared.standing.Standing.{Standing}
+use Rattle.tk_coord.specs.declared.peer.Peer.{Peer}
+use Rattle.tk_coord.specs.declared.phase.Phase.{Phase}
 use Rattle.tk_coord.specs.declared.step.Outcome.{Outcome}
 use Rattle.tk_coord.specs.declared.step.Reply.TheVariants as reply
 
@@ -60,32 +60,32 @@ dealt_in (Err fault.NoMemory) = Err (record {})
 -- ---- what the end of a round begins with
 
 -- a short round with a Report that passes its test can end
-pub record CanEndShort (s : Setup) (grid : Grid) (present : List ℕ) (links : List Link) (report : Reported) : Type 0 where
+pub record CanEndShort (s : Setup) (grid : Grid) (present : List ℕ) (peers : List Peer) (report : Reported) : Type 0 where
   pub ready : IsReady s grid present (objects_of report.values)
   pub takes : CanTakePart grid present (objects_of report.values) report
   pub test : passes_short_test s grid present report ≡ true
-  pub count : length links ≡ s.monitors
+  pub count : length peers ≡ s.monitors
 
 -- a full round with these reports can end
-pub record CanEndFull (s : Setup) (grid : Grid) (present : List ℕ) (links : List Link) (reports : List Reported) : Type 0 where
+pub record CanEndFull (s : Setup) (grid : Grid) (present : List ℕ) (peers : List Peer) (reports : List Reported) : Type 0 where
   pub ready : IsReady s grid present (objects_over reports)
   pub order : AreReports s.monitors (objects_over reports) reports
   pub take : All (CanTakePart grid present (objects_over reports)) reports
-  pub count : length links ≡ s.monitors
+  pub count : length peers ≡ s.monitors
 
 -- a wide round with these reports can end
-pub record CanEndWide (s : Setup) (grid : Grid) (links : List Link) (reports : List Reported) : Type 0 where
+pub record CanEndWide (s : Setup) (grid : Grid) (peers : List Peer) (reports : List Reported) : Type 0 where
   pub size : IsOfSize s grid
   pub order : AreReports s.monitors (objects s.objects) reports
-  pub count : length links ≡ s.monitors
+  pub count : length peers ≡ s.monitors
 
 -- where there is one monitor, the full round with a Report can end
-abbrev pub CanOpenFull : Setup → Grid → List ℕ → List Link → Reported → Type 0
-CanOpenFull s grid present links report = s.monitors == 1 ≡ true → CanEndFull s grid present links (report ∷ [])
+abbrev pub CanOpenFull : Setup → Grid → List ℕ → List Peer → Reported → Type 0
+CanOpenFull s grid present peers report = s.monitors == 1 ≡ true → CanEndFull s grid present peers (report ∷ [])
 
 -- what holds where a round has ended: the next k and epsilon are in force
-abbrev pub closed : Standing → Standing
-closed standing = record standing { settings = standing.next }
+abbrev pub closed : Phase → Phase
+closed phase = record phase { settings = phase.next }
 
 -- ---- what is sent
 
@@ -99,46 +99,46 @@ abbrev pub mons_but : ℕ → Option Mon → List ℕ
 mons_but monitors None = range_with_len 1 monitors
 mons_but monitors (Some but) = filter (λ mon. not (mon == but.0)) (range_with_len 1 monitors)
 
--- how many Assigns a monitor was sent, by its link
-abbrev pub assigns_in : Option Link → ℕ
+-- how many Assigns a monitor was sent, by its peer
+abbrev pub assigns_in : Option Peer → ℕ
 assigns_in None = 0
-assigns_in (Some link) = link.assigns
+assigns_in (Some peer) = peer.assigns
 
-abbrev pub assigns_by : List Link → ℕ → ℕ
-assigns_by links mon = assigns_in (slice_get links (mon - 1))
+abbrev pub assigns_by : List Peer → ℕ → ℕ
+assigns_by peers mon = assigns_in (slice_get peers (mon - 1))
 
 -- the next Assign to each monitor that is dealt new factors
-abbrev pub assigns_over : List Link → Decided → List Noted
-assigns_over links decided =
-    map (λ d. n.Sent (record { 0 = d.0 }) (f.Assign (assigns_by links d.0 + 1) decided.members d.1)) (drop 1 decided.dealt)
+abbrev pub assigns_over : List Peer → Decided → List Noted
+assigns_over peers decided =
+    map (λ d. n.Sent (record { 0 = d.0 }) (f.Assign (assigns_by peers d.0 + 1) decided.members d.1)) (drop 1 decided.dealt)
 
 -- the Assigns of what was decided
-pub record IsAssigned (grid : Grid) (links : List Link) (standing : Standing) (decided : Decided) (outcome : Outcome) : Type 0 where
+pub record IsAssigned (grid : Grid) (peers : List Peer) (phase : Phase) (decided : Decided) (outcome : Outcome) : Type 0 where
   pub change : Reallocation
   pub decides : IsDecided grid decided change
   pub reply : outcome.reply ≡ reply.Assign change
-  pub sends : outcome.entries.items ≡ assigns_over links decided
-  pub room : All (λ c. assigns_by links c.mon.0 < 2 ^ 64 - 1) change.at.items
-  pub holds : outcome.standing ≡ standing
+  pub sends : outcome.entries.items ≡ assigns_over peers decided
+  pub room : All (λ c. assigns_by peers c.mon.0 < 2 ^ 64 - 1) change.at.items
+  pub holds : outcome.phase ≡ phase
 
 -- the Collects of a wide round, where so many rounds were opened before
-pub record OpensWide (standing : Standing) (rounds : ℕ) (outcome : Outcome) : Type 0 where
-  pub reply : outcome.reply ≡ reply.Ask (record { number = rounds + 1; waiting = true; wide = true; asked = objects standing.settings.objects }) None
-  pub sends : outcome.entries.items ≡ wide_collects standing.settings (rounds + 1)
-  pub holds : outcome.standing ≡ standing
+pub record OpensWide (phase : Phase) (rounds : ℕ) (outcome : Outcome) : Type 0 where
+  pub reply : outcome.reply ≡ reply.Ask (record { number = rounds + 1; waiting = true; wide = true; asked = objects phase.settings.objects }) None
+  pub sends : outcome.entries.items ≡ wide_collects phase.settings (rounds + 1)
+  pub holds : outcome.phase ≡ phase
 
 -- the Assigns of what was decided where each factor is within its limit, else a wide round
-pub record Ends (grid : Grid) (links : List Link) (standing : Standing) (rounds : ℕ) (decided : Decided) (outcome : Outcome) : Type 0 where
-  pub within : is_within_limit decided ≡ true → IsAssigned grid links standing decided outcome
-  pub past : is_within_limit decided ≡ false → OpensWide standing rounds outcome
+pub record Ends (grid : Grid) (peers : List Peer) (phase : Phase) (rounds : ℕ) (decided : Decided) (outcome : Outcome) : Type 0 where
+  pub within : is_within_limit decided ≡ true → IsAssigned grid peers phase decided outcome
+  pub past : is_within_limit decided ≡ false → OpensWide phase rounds outcome
 
 -- the Collects of a full round, to every monitor but the reporter
-pub record OpensFull (standing : Standing) (rounds : ℕ) (report : Reported) (outcome : Outcome) : Type 0 where
+pub record OpensFull (phase : Phase) (rounds : ℕ) (report : Reported) (outcome : Outcome) : Type 0 where
   pub reply : outcome.reply ≡ reply.Ask (record { number = rounds + 1; waiting = true; wide = false; asked = objects_of report.values }) (Some report)
-  pub sends : outcome.entries.items ≡ collects (rounds + 1) (objects_of report.values) (filter (λ mon. not (mon == report.mon.0)) (monitors standing.settings))
-  pub holds : outcome.standing ≡ standing
+  pub sends : outcome.entries.items ≡ collects (rounds + 1) (objects_of report.values) (filter (λ mon. not (mon == report.mon.0)) (monitors phase.settings))
+  pub holds : outcome.phase ≡ phase
 
 -- a full round opens, and with one monitor it ends at once
-pub record OpensOrEnds (grid : Grid) (links : List Link) (standing : Standing) (rounds : ℕ) (members : List ℕ) (report : Reported) (outcome : Outcome) : Type 0 where
-  pub alone : standing.settings.monitors == 1 ≡ true → Ends grid links standing (rounds + 1) (full_decides standing.settings grid members (report ∷ [])) outcome
-  pub others : standing.settings.monitors == 1 ≡ false → OpensFull standing rounds report outcome
+pub record OpensOrEnds (grid : Grid) (peers : List Peer) (phase : Phase) (rounds : ℕ) (members : List ℕ) (report : Reported) (outcome : Outcome) : Type 0 where
+  pub alone : phase.settings.monitors == 1 ≡ true → Ends grid peers phase (rounds + 1) (full_decides phase.settings grid members (report ∷ [])) outcome
+  pub others : phase.settings.monitors == 1 ≡ false → OpensFull phase rounds report outcome

@@ -12,7 +12,7 @@ use Rattle.tk_journal.specs.Turns.{rounds}
 use Rattle.tk_journal.specs.declared.noted.Noted.{Noted}
 use Rattle.tk_coord.specs.Coordinator.{IsJournal}
 use Rattle.tk_coord.specs.Dealing.{OpensWide}
-use Rattle.tk_coord.specs.State.{AreLinks, Stands}
+use Rattle.tk_coord.specs.State.{ArePeers, Stands}
 use Rattle.tk_coord.specs.Steps.{report_frame}
 use Rattle.tk_coord.specs.declared.outcomes.Grounds.{Grounds}
 use Rattle.tk_coord.specs.declared.step.Outcome.{Outcome}
@@ -22,8 +22,8 @@ pub record IsGrounded (s : Setup) (j : List Noted) (g : Grounds) : Type 0 where
   pub journal : IsJournal s j
   pub named : g.board.now.members ≡ members_at j
   pub dealt : g.board.now.table ≡ table_at s j
-  pub linked : AreLinks s j g.links.now
-  pub stands : Stands s j g.standing
+  pub are_peers : ArePeers s j g.peers.now
+  pub stands : Stands s j g.phase
   pub counted : g.rounds ≡ rounds s j
 
 -- a frame is a fresh Report that is not refused and finds no round open, of what it reports
@@ -36,6 +36,6 @@ pub record IsAnswered (s : Setup) (j : List Noted) (frame : Frame) (report : Rep
 
 -- a wide round opens over the journal
 pub record OpensOver (s : Setup) (j : List Noted) (outcome : Outcome) : Type 0 where
-  pub stands : Stands s j outcome.standing
-  pub opens : OpensWide outcome.standing (rounds s j) outcome
+  pub stands : Stands s j outcome.phase
+  pub opens : OpensWide outcome.phase (rounds s j) outcome
   pub range : All (IsEntryOf s.monitors s.objects) outcome.entries.items

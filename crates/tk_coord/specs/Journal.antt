@@ -1,10 +1,11 @@
 -- The journal as it is kept: its entries, and where certain ones stand. No public clause cites this.
-use Rattle.std.specs.Prelude.{◌≡◌, ℕ, suc, ◌+◌, ◌<◌, ◌≤◌, List, length, Option, Some, slice_index, slice_get, vec_len, vec_capacity}
+use Rattle.std.specs.Prelude.{◌≡◌, ℕ, suc, ◌+◌, ◌<◌, ◌≤◌, List, [], ◌∷◌, ◌++◌, length, Option, Some, slice_index, slice_get, vec_len, vec_capacity}
 use Rattle.std.specs.Global.{Vec}
 use Rattle.std.specs.List.{filter_map}
 use Rattle.tk_journal.specs.declared.noted.Noted.{Noted}
 use Rattle.tk_journal.specs.declared.noted.Noted.TheVariants as n
 use Rattle.tk_journal.specs.Links.{sent_to}
+use Rattle.tk_journal.specs.Publishing.{published_in}
 
 -- the entries, of how many monitors, and for how many more there is room
 pub record JournalView : Type 0 where
@@ -24,6 +25,19 @@ pub record IsIndex {X : Type 0} (read : Noted → Option X) (journal : List Note
 -- for each monitor the places of the frames sent to it
 abbrev pub AreIndexed : List Noted → List (Vec ℕ) → Type 0
 AreIndexed journal sent = (j : ℕ) (v : Vec ℕ) → slice_get sent j ≡ Some v → IsIndex (sent_to (suc j)) journal v.items
+
+-- the places of frames that are sent, with an entry that is noted at this place
+abbrev pub NotesSent : ℕ → Noted → List (Vec ℕ) → List (Vec ℕ) → Type 0
+NotesSent place entry old new = (journal : List Noted) → length journal ≡ place → AreIndexed journal old → AreIndexed (journal ++ entry ∷ []) new
+
+-- the places of publications, with an entry that is noted at this place
+abbrev pub NotesPublished : ℕ → Noted → List ℕ → List ℕ → Type 0
+NotesPublished place entry old new =
+    (journal : List Noted) → length journal ≡ place → IsIndex published_in journal old → IsIndex published_in (journal ++ entry ∷ []) new
+
+-- a list has room for all but one of what it had room for
+abbrev pub KeepsRoom : Vec ℕ → Vec ℕ → Type 0
+KeepsRoom old new = (n : ℕ) → vec_len old + (n + 1) ≤ vec_capacity old → vec_len new + n ≤ vec_capacity new
 
 -- each list has room for so many more
 abbrev pub HasRoom : ℕ → List (Vec ℕ) → Type 0

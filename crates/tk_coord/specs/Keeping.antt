@@ -1,4 +1,4 @@
--- How the links change at what is sent, and what that needs. No public clause cites this.
+-- How the peers change at what is sent, and what that needs. No public clause cites this.
 use Rattle.std.specs.Prelude.{ℕ, ◌+◌, ◌-◌, ◌^◌, ◌<◌, ◌≤◌, ◌≡◌, ◌≢◌, min, Bool, true, false, ◌==◌, if◌then◌else◌, List, length, fold, Option, Some, None, slice_get}
 use Rattle.tk_border.specs.Levels.{AreMembers}
 use Rattle.tk_rows.specs.declared.mon_change.MonChange.{MonChange}
@@ -6,7 +6,7 @@ use Rattle.tk_rows.specs.Replacing.{IsReplacement}
 use Rattle.tk_coord.specs.Checks.{AreNamed}
 use Rattle.tk_coord.specs.declared.answer.Answer.{Answer}
 use Rattle.tk_coord.specs.declared.answer.Answer.TheVariants as a
-use Rattle.tk_coord.specs.declared.link.Link.{Link}
+use Rattle.tk_coord.specs.declared.peer.Peer.{Peer}
 use Rattle.tk_coord.specs.declared.state.State.{State}
 use Rattle.tk_coord.specs.declared.step.Reply.{Reply}
 use Rattle.tk_coord.specs.declared.step.Reply.TheVariants as reply
@@ -16,29 +16,29 @@ abbrev pub is_but : Option ℕ → ℕ → Bool
 is_but None place = false
 is_but (Some but) place = but == place
 
--- the link of a monitor that was sent one more Assign; its count stops at its limit
-abbrev pub one_more : Link → Link
-one_more link = record link { assigns = min (link.assigns + 1) (2 ^ 64 - 1); answer = None }
+-- the peer of a monitor that was sent one more Assign; its count stops at its limit
+abbrev pub one_more : Peer → Peer
+one_more peer = record peer { assigns = min (peer.assigns + 1) (2 ^ 64 - 1); answer = None }
 
--- the link of a monitor after the Assigns to those with changes
-abbrev pub assigned_at : ℕ → List MonChange → Link → Link
-assigned_at mon changes link = fold (λ l c. if c.mon.0 == mon then one_more l else l) link changes
+-- the peer of a monitor after the Assigns to those with changes
+abbrev pub assigned_at : ℕ → List MonChange → Peer → Peer
+assigned_at mon changes peer = fold (λ l c. if c.mon.0 == mon then one_more l else l) peer changes
 
--- the link of a monitor that was sent one Assign, and nothing else
-abbrev pub first_link : Link
-first_link = record { assigns = 1; answer = None; progress = None; waits = false }
+-- the peer of a monitor that was sent one Assign, and nothing else
+abbrev pub first_peer : Peer
+first_peer = record { assigns = 1; answer = None; progress = None; waits = false }
 
--- all links but the one at this place are such
-abbrev pub AreOthers : (Link → Type 0) → List Link → ℕ → Type 0
-AreOthers P links place = (i : ℕ) (l : Link) → i ≢ place → slice_get links i ≡ Some l → P l
+-- all peers but the one at this place are such
+abbrev pub AreOthers : (Peer → Type 0) → List Peer → ℕ → Type 0
+AreOthers P peers place = (i : ℕ) (l : Peer) → i ≢ place → slice_get peers i ≡ Some l → P l
 
 -- one of them is such
-abbrev pub HasOther : (Link → Type 0) → List Link → ℕ → Type 0
-HasOther P links place = (i : ℕ) × (l : Link) × (i ≢ place) × (slice_get links i ≡ Some l) × P l
+abbrev pub HasOther : (Peer → Type 0) → List Peer → ℕ → Type 0
+HasOther P peers place = (i : ℕ) × (l : Peer) × (i ≢ place) × (slice_get peers i ≡ Some l) × P l
 
--- each link has changed, by its place
-abbrev pub AreChanged : (ℕ → Link → Link) → List Link → List Link → Type 0
-AreChanged change old new = (i : ℕ) (l : Link) → slice_get new i ≡ Some l → (m : Link) × (slice_get old i ≡ Some m) × (l ≡ change i m)
+-- each peer has changed, by its place
+abbrev pub AreChanged : (ℕ → Peer → Peer) → List Peer → List Peer → Type 0
+AreChanged change old new = (i : ℕ) (l : Peer) → slice_get new i ≡ Some l → (m : Peer) × (slice_get old i ≡ Some m) × (l ≡ change i m)
 
 -- whether an answer is a Settled
 abbrev pub is_settled_in : Option Answer → Bool
@@ -46,14 +46,14 @@ is_settled_in None = false
 is_settled_in (Some a.Report) = false
 is_settled_in (Some a.Settled) = true
 
--- whether the monitor of a link has settled
-abbrev pub has_settled : Link → Bool
-has_settled link = is_settled_in link.answer
+-- whether the monitor of a peer has settled
+abbrev pub has_settled : Peer → Bool
+has_settled peer = is_settled_in peer.answer
 
--- a monitor has its places among the links and among the reports
+-- a monitor has its places among the peers and among the reports
 pub record HasPlace (state : State) (mon : ℕ) : Type 0 where
   pub some : 0 < mon
-  pub link : mon ≤ length state.links.items
+  pub peer : mon ≤ length state.peers.items
   pub report : mon ≤ length state.gathered.items
 
 -- what a state needs so that what is sent can be noted in it
@@ -61,4 +61,4 @@ abbrev pub CanReply : State → Reply → Type 0
 CanReply state reply.Nothing = Unit {0}
 CanReply state (reply.Ask round None) = Unit {0}
 CanReply state (reply.Ask round (Some report)) = HasPlace state report.mon.0
-CanReply state (reply.Assign r) = IsReplacement state.board.table r × AreNamed (length state.links.items) r.at.items × AreMembers (length state.board.table.rows) r.members
+CanReply state (reply.Assign r) = IsReplacement state.board.table r × AreNamed (length state.peers.items) r.at.items × AreMembers (length state.board.table.rows) r.members

@@ -4,6 +4,7 @@ pub mod Checks
 pub mod Closing
 pub mod Coordinator
 pub mod Dealing
+pub mod Ending
 pub mod Grounds
 pub mod Journal
 pub mod Keeping

@@ -12,9 +12,9 @@ use Rattle.tk_base.specs.History.{last_of}
 use Rattle.tk_journal.specs.declared.noted.Noted.{Noted}
 use Rattle.tk_coord.specs.declared.answer.Answer.{Answer}
 use Rattle.tk_coord.specs.declared.answer.Answer.TheVariants as a
-use Rattle.tk_coord.specs.declared.link.Link.{Link}
+use Rattle.tk_coord.specs.declared.peer.Peer.{Peer}
 use Rattle.tk_coord.specs.declared.round.Round.{Round}
-use Rattle.tk_coord.specs.declared.standing.Standing.{Standing}
+use Rattle.tk_coord.specs.declared.phase.Phase.{Phase}
 use Rattle.tk_coord.specs.declared.state.State.{State}
 
 -- the kind of a current answer
@@ -24,18 +24,18 @@ kind_in (Some (f.Settled seq last places)) = Some a.Settled
 kind_in answer = None
 
 -- what a journal says of one monitor
-abbrev pub link_at : List Noted → ℕ → Link
-link_at j mon = record {
+abbrev pub peer_at : List Noted → ℕ → Peer
+peer_at j mon = record {
   assigns = assigns_sent mon j;
   answer = kind_in (answer_of mon j);
   progress = progress_of mon j;
   waits = waits_for (last_round j) mon j;
 }
 
--- the links of all monitors, ascending
-pub record AreLinks (s : Setup) (j : List Noted) (links : List Link) : Type 0 where
-  pub count : length links ≡ s.monitors
-  pub each : (i : ℕ) (l : Link) → slice_get links i ≡ Some l → l ≡ link_at j (suc i)
+-- the peers of all monitors, ascending
+pub record ArePeers (s : Setup) (j : List Noted) (peers : List Peer) : Type 0 where
+  pub count : length peers ≡ s.monitors
+  pub each : (i : ℕ) (l : Peer) → slice_get peers i ≡ Some l → l ≡ peer_at j (suc i)
 
 -- the last round, and what those told to it that it does not wait for
 pub record IsRound (s : Setup) (j : List Noted) (round : Round) (gathered : List Reported) : Type 0 where
@@ -50,7 +50,7 @@ pub record IsRound (s : Setup) (j : List Noted) (round : Round) (gathered : List
 pub record Holds (s : Setup) (j : List Noted) (state : State) : Type 0 where
   pub members : state.board.members ≡ members_at j
   pub table : state.board.table ≡ table_at s j
-  pub links : AreLinks s j state.links.items
+  pub peers : ArePeers s j state.peers.items
   pub round : IsRound s j state.round state.gathered.items
 
 -- the settings with the k and epsilon of the last retune, in force or not yet
@@ -58,7 +58,7 @@ abbrev pub next_settings : Setup → List Noted → Setup
 next_settings s j = tuned_to s (last_of (tunings j))
 
 -- what holds until the next turn
-pub record Stands (s : Setup) (j : List Noted) (standing : Standing) : Type 0 where
-  pub settings : standing.settings ≡ in_force s j
-  pub next : standing.next ≡ next_settings s j
-  pub stopped : standing.stopped ≡ is_stopped j
+pub record Stands (s : Setup) (j : List Noted) (phase : Phase) : Type 0 where
+  pub settings : phase.settings ≡ in_force s j
+  pub next : phase.next ≡ next_settings s j
+  pub stopped : phase.stopped ≡ is_stopped j

@@ -27,15 +27,16 @@ use Rattle.tk_journal.specs.declared.turn.Turn.{Turn}
 use Rattle.tk_journal.specs.declared.turn.TurnKind.{TurnKind}
 use Rattle.tk_frames.specs.declared.frame.Frame.TheVariants as f
 use Rattle.tk_coord.specs.declared.answer.Answer.TheVariants as a
-use Rattle.tk_coord.specs.declared.link.Link.{Link}
+use Rattle.tk_coord.specs.declared.peer.Peer.{Peer}
 use Rattle.tk_coord.specs.declared.round.Round.{Round}
-use Rattle.tk_coord.specs.declared.step.Told.{Told}
-use Rattle.tk_coord.specs.declared.step.Told.TheVariants as told
+use Rattle.tk_coord.specs.declared.step.Statement.{Statement}
+use Rattle.tk_coord.specs.declared.step.Statement.TheVariants as stated
 use Rattle.tk_coord.specs.declared.step.Reply.{Reply}
 use Rattle.tk_coord.specs.declared.step.Reply.TheVariants as reply
 use Rattle.tk_coord.specs.declared.step.Outcome.{Outcome}
 use Rattle.tk_coord.specs.declared.step.Step.{Step}
-use Rattle.tk_coord.specs.State.{Stands, link_at}
+use Rattle.tk_coord.specs.declared.state.State.{State}
+use Rattle.tk_coord.specs.State.{Holds, Stands, peer_at}
 
 -- the journal with a frame that was taken
 abbrev pub with_got : List Noted → Mon → Frame → List Noted
@@ -74,30 +75,37 @@ pub record IsRetuned (s : Setup) (j : List Noted) (k e : ℕ) (next : Setup) : T
 
 -- ---- what a frame tells
 
--- the link of a monitor after what a frame of it tells
-abbrev pub told_at : Told → Link → Link
-told_at told.Nothing link = link
-told_at told.Report link = record link { answer = Some a.Report }
-told_at (told.Settled progress) link = record link { answer = Some a.Settled; progress = Some progress }
-told_at (told.Values report more) link = record link { waits = false }
+-- the peer of a monitor after what a frame of it tells
+abbrev pub told_at : Statement → Peer → Peer
+told_at stated.Nothing peer = peer
+told_at stated.Report peer = record peer { answer = Some a.Report }
+told_at (stated.Settled progress) peer = record peer { answer = Some a.Settled; progress = Some progress }
+told_at (stated.Values report) peer = record peer { waits = false }
+told_at stated.LastValues peer = record peer { waits = false }
 
--- the values that it tells
-abbrev pub values_in : Told → Option Reported
-values_in (told.Values report more) = Some report
-values_in told = None
+-- the values that it tells of a round that waits for more
+abbrev pub values_in : Statement → Option Reported
+values_in (stated.Values report) = Some report
+values_in statement = None
 
 -- whether a round is open after it
-abbrev pub open_after : Told → Bool → Bool
-open_after (told.Values report more) was = more
-open_after told was = was
+abbrev pub open_after : Statement → Bool → Bool
+open_after (stated.Values report) was = true
+open_after stated.LastValues was = false
+open_after statement was = was
 
 -- what a frame of a monitor tells
-pub record Tells (s : Setup) (j : List Noted) (mon : Mon) (frame : Frame) (told : Told) : Type 0 where
-  pub link : link_at (with_got j mon frame) mon.0 ≡ told_at told (link_at j mon.0)
-  pub others : (q : ℕ) → q ≢ mon.0 → link_at (with_got j mon frame) q ≡ link_at j q
-  pub waiting : is_open s (with_got j mon frame) ≡ open_after told (is_open s j)
-  pub report : (r : Reported) → values_in told ≡ Some r → report_of mon.0 (with_got j mon frame) ≡ Some r
-  pub kept : is_open s j ≡ true → (q : ℕ) → IsMonitor s q → (values_in told ≡ None) ⊎ (q ≢ mon.0) → waits_for (last_round j) q j ≡ false → report_of q (with_got j mon frame) ≡ report_of q j
+pub record Tells (s : Setup) (j : List Noted) (mon : Mon) (frame : Frame) (statement : Statement) : Type 0 where
+  pub peer : peer_at (with_got j mon frame) mon.0 ≡ told_at statement (peer_at j mon.0)
+  pub others : (q : ℕ) → q ≢ mon.0 → peer_at (with_got j mon frame) q ≡ peer_at j q
+  pub waiting : is_open s (with_got j mon frame) ≡ open_after statement (is_open s j)
+  pub report : (r : Reported) → values_in statement ≡ Some r → report_of mon.0 (with_got j mon frame) ≡ Some r
+  pub kept : is_open s j ≡ true → (q : ℕ) → IsMonitor s q → (values_in statement ≡ None) ⊎ (q ≢ mon.0) → waits_for (last_round j) q j ≡ false → report_of q (with_got j mon frame) ≡ report_of q j
+
+-- whatever journal a state is kept of, it is kept of that with a frame that tells this
+abbrev pub NotesTold : Mon → Statement → State → State → Type 0
+NotesTold mon statement old new =
+    (s : Setup) (j : List Noted) (frame : Frame) → Tells s j mon frame statement → IsMonitor s mon.0 → Holds s j old → Holds s (with_got j mon frame) new
 
 -- ---- what is sent
 
@@ -150,6 +158,10 @@ IsReply s j entries reply.Nothing = entries ≡ []
 IsReply s j entries (reply.Ask round opener) = IsAsked s j entries round opener
 IsReply s j entries (reply.Assign r) = AreAssigned s j entries r
 
+-- whatever journal a state is kept of, it is kept of that with what is sent
+abbrev pub NotesReply : Reply → State → State → Type 0
+NotesReply r old new = (s : Setup) (j entries : List Noted) → IsReply s j entries r → Holds s j old → Holds s (j ++ entries) new
+
 -- ---- the turn
 
 -- what follows a frame: what it demands, and what ends its turn
@@ -157,7 +169,7 @@ pub record Follows (s : Setup) (j : List Noted) (mon : Mon) (frame : Frame) (out
   pub reply : IsReply s (with_got j mon frame) (demanded s j mon.0 frame) outcome.reply
   pub entries : outcome.entries.items ≡ demanded s j mon.0 frame ++ closing s (with_got j mon frame ++ demanded s j mon.0 frame)
   pub range : All (IsEntryOf s.monitors s.objects) outcome.entries.items
-  pub standing : Stands s (j ++ turn_of s j (n.Got mon frame)) outcome.standing
+  pub phase : Stands s (j ++ turn_of s j (n.Got mon frame)) outcome.phase
 
 -- whether what is sent opens a wide round
 abbrev pub asks_wide : Reply → Bool
@@ -169,6 +181,14 @@ asks_wide (reply.Assign r) = false
 abbrev pub quiet_turn : TurnKind → Turn
 quiet_turn kind = record { kind = kind; fails = false; widens = false; calm = false }
 
+-- the step of a frame that tells this, with a turn of this kind before its end
+abbrev pub step_with : Outcome → Statement → TurnKind → Bool → Step
+step_with outcome statement kind fails = record {
+  statement = statement;
+  outcome = outcome;
+  turn = record { kind = kind; fails = fails; widens = asks_wide outcome.reply; calm = false };
+}
+
 -- how the turn of a frame counts: its kind, whether its Report fails the short test, and whether it opens a wide round
 pub record IsCounted (s : Setup) (j : List Noted) (mon : ℕ) (frame : Frame) (kind : TurnKind) (fails wide : Bool) : Type 0 where
   pub kind_is : kind ≡ kind_of s j mon frame
@@ -177,6 +197,6 @@ pub record IsCounted (s : Setup) (j : List Noted) (mon : ℕ) (frame : Frame) (k
 
 -- what a frame brings about
 pub record IsStep (s : Setup) (j : List Noted) (mon : Mon) (frame : Frame) (step : Step) : Type 0 where
-  pub told : Tells s j mon frame step.told
+  pub told : Tells s j mon frame step.statement
   pub outcome : Follows s j mon frame step.outcome
   pub counted : IsCounted s j mon.0 frame step.turn.kind step.turn.fails step.turn.widens

@@ -1,5 +1,5 @@
 ghost use Rattle.std.specs.Prelude.{◌≡◌, IfOk};
-ghost use Rattle.tk_journal.specs.Readings.{Progress as Told};
+ghost use Rattle.tk_journal.specs.Readings.{Progress as ProgressView};
 
 use std::marker::Model;
 use tk_base::{NoMemory, Places};
@@ -20,9 +20,9 @@ pub struct Progress {
 }
 
 impl Model for Progress {
-    ghost use Rattle.tk_journal.specs.Readings.{Progress as Told};
+    ghost use Rattle.tk_journal.specs.Readings.{Progress as ProgressView};
 
-    ghost Value = { Told };
+    ghost Value = { ProgressView };
 
     ghost view = { λ p. record { places = p.places; last = p.last } };
 }

@@ -18,7 +18,7 @@ mod take;
 
 use crate::journal::Journal;
 use crate::outcomes::Grounds;
-use crate::standing::Standing;
+use crate::phase::Phase;
 use crate::state::State;
 use crate::turns::Turns;
 use std::marker::Model;
@@ -31,7 +31,7 @@ use tk_journal::{Noted, Publication, Turn};
 pub struct Coordinator {
     settings: Settings,
     state: State,
-    standing: Standing,
+    phase: Phase,
     journal: Journal,
     turns: Turns,
 }
@@ -48,7 +48,7 @@ impl Model for Coordinator {
       journal = c.journal.entries;
     } };
 
-    ghost invariant = { λ c. IsKept c.settings c.journal.entries c.state c.standing c.turns.list
+    ghost invariant = { λ c. IsKept c.settings c.journal.entries c.state c.phase c.turns.list
         × (c.journal.monitors ≡ c.settings.monitors) };
 }
 
@@ -67,10 +67,10 @@ impl Coordinator {
     {
         Grounds {
             alloc: self.journal.alloc(),
-            standing: self.standing,
+            phase: self.phase,
             rounds,
             board: &self.state.board,
-            links: self.state.links.as_slice(),
+            peers: self.state.peers.as_slice(),
         }
     }
 
@@ -85,14 +85,14 @@ impl Coordinator {
     pub fn k(&self) -> u32
         ensures { result ≡ (in_force self.now.settings self.now.journal).k }
     {
-        self.standing.settings.k()
+        self.phase.settings.k()
     }
 
     /// The epsilon in force.
     pub fn epsilon(&self) -> i128
         ensures { result ≡ (in_force self.now.settings self.now.journal).epsilon }
     {
-        self.standing.settings.epsilon()
+        self.phase.settings.epsilon()
     }
 
     /// The present members.
@@ -113,7 +113,7 @@ impl Coordinator {
     pub fn finished(&self) -> bool
         ensures { result ≡ is_stopped self.now.journal }
     {
-        self.standing.stopped
+        self.phase.stopped
     }
 
     /// What it did so far.

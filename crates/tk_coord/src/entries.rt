@@ -6,11 +6,11 @@ ghost use Rattle.tk_journal.specs.Entries.{IsEntryOf};
 ghost use Rattle.tk_frames.specs.declared.frame.Frame.TheVariants.{Assign, Stop};
 ghost use Rattle.tk_journal.specs.declared.noted.Noted.TheVariants.{Sent};
 ghost use Rattle.tk_journal.specs.Turns.{collects as collects_of};
-ghost use Rattle.tk_coord.specs.Batches.{to_each};
+ghost use Rattle.tk_coord.specs.Batches.{AreOf, to_each};
 ghost use Rattle.tk_coord.specs.Checks.{AreNamed};
 ghost use Rattle.tk_coord.specs.Dealing.{assigns_by, assigns_over, decided_in, is_but as is_but_of, mons_but};
 
-use crate::link::Link;
+use crate::peer::Peer;
 use std::alloc::Global;
 use tk_base::{Mon, NoMemory, Obj, ObjSet, Pairs};
 use tk_frames::{Frame, KeptFrame};
@@ -128,14 +128,14 @@ pub fn collects(
 }
 
 /// The number of the next Assign to a monitor.
-fn next_assign(links: &[Link], mon: Mon) -> Result<u64, NoMemory>
+fn next_assign(peers: &[Peer], mon: Mon) -> Result<u64, NoMemory>
     requires some { 0 < mon.0 }
-    requires named { mon.0 ≤ length links.now }
-    ensures value { IfOk result (λ seq. seq ≡ assigns_by links.now mon.0 + 1) }
-    ensures room { IfOk result (λ _. assigns_by links.now mon.0 < 2 ^ 64 - 1) }
+    requires named { mon.0 ≤ length peers.now }
+    ensures value { IfOk result (λ seq. seq ≡ assigns_by peers.now mon.0 + 1) }
+    ensures room { IfOk result (λ _. assigns_by peers.now mon.0 < 2 ^ 64 - 1) }
 {
-    let link = &links[mon.0 as usize - 1];
-    match link.assigns.checked_add(1) {
+    let peer = &peers[mon.0 as usize - 1];
+    match peer.assigns.checked_add(1) {
         Some(seq) => Ok(seq),
         None => Err(NoMemory),
     }
@@ -144,18 +144,18 @@ fn next_assign(links: &[Link], mon: Mon) -> Result<u64, NoMemory>
 /// An Assign to each monitor that a reallocation names, with the members and its new factors.
 pub fn assigns(
     alloc: Global,
-    links: &[Link],
+    peers: &[Peer],
     reallocation: &Reallocation,
 ) -> Result<Vec<Noted>, NoMemory>
-    requires { AreNamed (length links.now) reallocation.now.at.items }
-    ensures value { IfOk result (λ v. v.items ≡ assigns_over links.now (decided_in reallocation.now)) }
-    ensures room { IfOk result (λ _. All (λ c. assigns_by links.now c.mon.0 < 2 ^ 64 - 1) reallocation.now.at.items) }
-    ensures entries { (n : ℕ) → IfOk result (λ v. All (IsEntryOf (length links.now) n) v.items) }
+    requires { AreNamed (length peers.now) reallocation.now.at.items }
+    ensures value { IfOk result (λ v. v.items ≡ assigns_over peers.now (decided_in reallocation.now)) }
+    ensures room { IfOk result (λ _. All (λ c. assigns_by peers.now c.mon.0 < 2 ^ 64 - 1) reallocation.now.at.items) }
+    ensures entries { (n : ℕ) → IfOk result (λ v. All (IsEntryOf (length peers.now) n) v.items) }
 {
     let mut entries = Vec::with_capacity(alloc, reallocation.at.len())?;
     for change in &reallocation.at {
         let members = reallocation.members.try_clone()?;
-        let seq = next_assign(links, change.mon)?;
+        let seq = next_assign(peers, change.mon)?;
         let changes = change.changes.try_clone()?;
         let frame = Frame::Assign {
             seq,
@@ -170,8 +170,7 @@ pub fn assigns(
 /// A Stop to each monitor.
 pub fn push_stops(alloc: Global, entries: &mut Vec<Noted>, monitors: u32) -> Result<(), NoMemory>
     ensures value { OnOk result (entries.new.items ≡ entries.old.items ++ to_each Stop monitors) }
-    ensures entries { (n : ℕ) → All (IsEntryOf monitors n) entries.old.items
-        → OnOk result (All (IsEntryOf monitors n) entries.new.items) }
+    ensures entries { (n : ℕ) → AreOf monitors n entries.old.items → OnOk result (AreOf monitors n entries.new.items) }
 {
     for j in 0..monitors {
         entries.push(sent(alloc, j + 1, Frame::Stop)?)?;

@@ -4,7 +4,7 @@ ghost use Rattle.std.specs.List.{All};
 ghost use Rattle.tk_journal.specs.Links.{frames_to};
 ghost use Rattle.tk_journal.specs.Publishing.{publications, published_in};
 ghost use Rattle.tk_journal.specs.declared.noted.Noted.{Noted};
-ghost use Rattle.tk_coord.specs.Journal.{AreIndexed, HasRoom, IsForOneOf, IsIndex};
+ghost use Rattle.tk_coord.specs.Journal.{AreIndexed, HasRoom, IsForOneOf, KeepsRoom, NotesPublished, NotesSent};
 
 use std::alloc::{AllocError, Global};
 use std::marker::Model;
@@ -73,13 +73,10 @@ fn note_entry(sent: &mut [Vec<usize>], published: &mut Vec<usize>, entry: &Noted
     requires room { HasRoom 1 sent.old }
     requires published_room { vec_len published.old < vec_capacity published.old }
     ensures same { length sent.new ≡ length sent.old }
-    ensures sent { (journal : List Noted) → length journal ≡ place → AreIndexed journal sent.old
-        → AreIndexed (journal ++ entry.now ∷ []) sent.new }
-    ensures published { (journal : List Noted) → length journal ≡ place → IsIndex published_in journal published.old.items
-        → IsIndex published_in (journal ++ entry.now ∷ []) published.new.items }
+    ensures sent { NotesSent place entry.now sent.old sent.new }
+    ensures published { NotesPublished place entry.now published.old.items published.new.items }
     ensures room { (n : ℕ) → HasRoom (n + 1) sent.old → HasRoom n sent.new }
-    ensures published_room { (n : ℕ) → vec_len published.old + (n + 1) ≤ vec_capacity published.old
-        → vec_len published.new + n ≤ vec_capacity published.new }
+    ensures published_room { KeepsRoom published.old published.new }
 {
     match entry {
         Noted::Got(_, _) => {}

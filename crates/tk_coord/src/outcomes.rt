@@ -1,19 +1,18 @@
 // What follows a taken frame: nothing, Assigns or Collects.
 ghost use Rattle.std.specs.Prelude.{◌≡◌, ℕ, ◌+◌, true, false, [], length, IfOk};
 ghost use Rattle.std.specs.List.{All};
-ghost use Rattle.tk_rows.specs.Factors.{Grid};
-ghost use Rattle.tk_journal.specs.Deciding.{Decided, full_decides, short_decides, wide_decides};
 ghost use Rattle.tk_journal.specs.Entries.{IsEntryOf};
 ghost use Rattle.tk_coord.specs.Checks.{AreNamed};
-ghost use Rattle.tk_coord.specs.Dealing.{AreDealtTo, CanEndFull, CanEndShort, CanEndWide, CanOpenFull, Ends, IsAssigned, IsDealt, IsDecided, OpensOrEnds, OpensWide, closed};
+ghost use Rattle.tk_coord.specs.Dealing.{AreDealtTo, CanOpenFull, OpensFull, OpensWide};
+ghost use Rattle.tk_coord.specs.Ending.{AssignsDecided, CanDealFull, CanDealShort, CanDealWide, EndsDealt, EndsFull, EndsShort, EndsWide, OpensOrEndsFull, at_end};
 ghost use Rattle.tk_coord.specs.declared.step.Reply.TheVariants.{Nothing as NoReply};
 
 use crate::board::Board;
 use crate::dealing::{Dealt, deal_full, deal_short, deal_wide};
 use crate::entries::{assigns, collects, first_objects, objects_of};
-use crate::link::Link;
+use crate::peer::Peer;
+use crate::phase::Phase;
 use crate::round::Round;
-use crate::standing::Standing;
 use crate::step::{Outcome, Reply};
 use std::alloc::Global;
 use std::slice;
@@ -27,23 +26,23 @@ use tk_rows::Reallocation;
 pub struct Grounds<'a> {
     pub alloc: Global,
     /// With the k and epsilon of the round's end.
-    pub standing: Standing,
+    pub phase: Phase,
     /// How many rounds were opened.
     pub rounds: u64,
     pub board: &'a Board,
-    pub links: &'a [Link],
+    pub peers: &'a [Peer],
 }
 
 /// Nothing follows.
-pub fn nothing(alloc: Global, standing: Standing) -> Outcome
+pub fn nothing(alloc: Global, phase: Phase) -> Outcome
     ensures entries { result.entries.items ≡ [] }
     ensures reply { result.reply ≡ NoReply }
-    ensures holds { result.standing ≡ standing }
+    ensures holds { result.phase ≡ phase }
 {
     Outcome {
         entries: Vec::new(alloc),
         reply: Reply::Nothing,
-        standing,
+        phase,
     }
 }
 
@@ -58,11 +57,11 @@ fn next_round(rounds: u64) -> Result<u64, NoMemory>
 }
 
 /// A wide round opens.
-pub fn open_wide(alloc: Global, standing: Standing, rounds: u64) -> Result<Outcome, NoMemory>
-    ensures opens { IfOk result (OpensWide standing rounds) }
-    ensures entries { (n : ℕ) → IfOk result (λ o. All (IsEntryOf standing.settings.monitors n) o.entries.items) }
+pub fn open_wide(alloc: Global, phase: Phase, rounds: u64) -> Result<Outcome, NoMemory>
+    ensures opens { IfOk result (OpensWide phase rounds) }
+    ensures entries { (n : ℕ) → IfOk result (λ o. All (IsEntryOf phase.settings.monitors n) o.entries.items) }
 {
-    let settings = standing.settings;
+    let settings = phase.settings;
     let number = next_round(rounds)?;
     let asked = first_objects(alloc, settings.objects())?;
     let entries = collects(alloc, number, &asked, settings.monitors(), None)?;
@@ -78,35 +77,24 @@ pub fn open_wide(alloc: Global, standing: Standing, rounds: u64) -> Result<Outco
             round,
             opener: None,
         },
-        standing,
+        phase,
     })
 }
 
-/// A full round opens with a Report. With one monitor it ends at once.
-pub fn open_full(grounds: Grounds, report: Reported) -> Result<Outcome, NoMemory>
-    requires { CanOpenFull grounds.standing.settings grounds.board.now.table grounds.board.now.members grounds.links.now report }
-    ensures opens { IfOk result (OpensOrEnds grounds.entry.board.now.table grounds.entry.links.now grounds.entry.standing grounds.entry.rounds
-        grounds.entry.board.now.members report) }
-    ensures entries { (n : ℕ) → IfOk result (λ o. All (IsEntryOf grounds.entry.standing.settings.monitors n) o.entries.items) }
+/// The Collects of a full round, to every monitor but the reporter.
+fn ask_others(
+    alloc: Global,
+    phase: Phase,
+    rounds: u64,
+    report: Reported,
+) -> Result<Outcome, NoMemory>
+    ensures opens { IfOk result (OpensFull phase rounds report) }
+    ensures entries { (n : ℕ) → IfOk result (λ o. All (IsEntryOf phase.settings.monitors n) o.entries.items) }
 {
-    let Grounds {
-        alloc,
-        standing,
-        ..
-    } = grounds;
-    let settings = standing.settings;
-    let number = next_round(grounds.rounds)?;
-    if settings.monitors() == 1 {
-        return end_full(
-            Grounds {
-                rounds: number,
-                ..grounds
-            },
-            slice::from_ref(&report),
-        );
-    }
+    let number = next_round(rounds)?;
+    let monitors = phase.settings.monitors();
     let asked = objects_of(alloc, &report.values)?;
-    let entries = collects(alloc, number, &asked, settings.monitors(), Some(report.mon))?;
+    let entries = collects(alloc, number, &asked, monitors, Some(report.mon))?;
     let round = Round {
         number,
         waiting: true,
@@ -119,136 +107,116 @@ pub fn open_full(grounds: Grounds, report: Reported) -> Result<Outcome, NoMemory
             round,
             opener: Some(report),
         },
-        standing,
+        phase,
     })
+}
+
+/// A full round opens with a Report. With one monitor it ends at once.
+pub fn open_full(grounds: Grounds, report: Reported) -> Result<Outcome, NoMemory>
+    requires { CanOpenFull grounds.phase.settings grounds.board.now.table grounds.board.now.members grounds.peers.now report }
+    ensures opens { IfOk result (OpensOrEndsFull grounds.entry report) }
+    ensures entries { (n : ℕ) → IfOk result (λ o. All (IsEntryOf grounds.entry.phase.settings.monitors n) o.entries.items) }
+{
+    let Grounds { alloc, phase, .. } = grounds;
+    if phase.settings.monitors() != 1 {
+        return ask_others(alloc, phase, grounds.rounds, report);
+    }
+    let rounds = next_round(grounds.rounds)?;
+    end_full(Grounds { rounds, ..grounds }, slice::from_ref(&report))
 }
 
 /// A round ends with this reallocation.
 fn assigned(
     alloc: Global,
-    links: &[Link],
-    standing: Standing,
+    peers: &[Peer],
+    phase: Phase,
     reallocation: Reallocation,
 ) -> Result<Outcome, NoMemory>
-    requires count { length links.now ≡ standing.settings.monitors }
-    requires named { AreNamed standing.settings.monitors reallocation.at.items }
-    ensures assigns { (grid : Grid) (decided : Decided) → IsDecided grid decided reallocation
-        → IfOk result (IsAssigned grid links.now standing decided) }
-    ensures entries { (n : ℕ) → IfOk result (λ o. All (IsEntryOf standing.settings.monitors n) o.entries.items) }
+    requires count { length peers.now ≡ phase.settings.monitors }
+    requires named { AreNamed phase.settings.monitors reallocation.at.items }
+    ensures assigns { AssignsDecided peers.now phase reallocation result }
+    ensures entries { (n : ℕ) → IfOk result (λ o. All (IsEntryOf phase.settings.monitors n) o.entries.items) }
 {
-    let entries = assigns(alloc, links, &reallocation)?;
+    let entries = assigns(alloc, peers, &reallocation)?;
     Ok(Outcome {
         entries,
         reply: Reply::Assign(reallocation),
-        standing,
+        phase,
     })
 }
 
 /// The Assigns of what was dealt, or a wide round in their place.
 fn ended(
     alloc: Global,
-    links: &[Link],
-    standing: Standing,
+    peers: &[Peer],
+    phase: Phase,
     rounds: u64,
     dealt: Dealt,
 ) -> Result<Outcome, NoMemory>
-    requires count { length links.now ≡ standing.settings.monitors }
-    requires named { AreDealtTo standing.settings.monitors dealt }
-    ensures ends { (grid : Grid) (decided : Decided) → IsDealt grid decided dealt
-        → IfOk result (Ends grid links.now standing rounds decided) }
-    ensures entries { (n : ℕ) → IfOk result (λ o. All (IsEntryOf standing.settings.monitors n) o.entries.items) }
+    requires count { length peers.now ≡ phase.settings.monitors }
+    requires named { AreDealtTo phase.settings.monitors dealt }
+    ensures ends { EndsDealt peers.now phase rounds dealt result }
+    ensures entries { (n : ℕ) → IfOk result (λ o. All (IsEntryOf phase.settings.monitors n) o.entries.items) }
 {
     match dealt {
-        Dealt::Factors(reallocation) => assigned(alloc, links, standing, reallocation),
-        Dealt::PastLimit => open_wide(alloc, standing, rounds),
+        Dealt::Factors(reallocation) => assigned(alloc, peers, phase, reallocation),
+        Dealt::PastLimit => open_wide(alloc, phase, rounds),
     }
 }
 
 /// A short round, with the Report that passed its test.
 pub fn end_short(grounds: Grounds, report: &Reported) -> Result<Outcome, NoMemory>
-    requires { CanEndShort grounds.standing.settings grounds.board.now.table grounds.board.now.members grounds.links.now report.now }
-    ensures ends { IfOk result (Ends grounds.entry.board.now.table grounds.entry.links.now grounds.entry.standing grounds.entry.rounds
-        (short_decides grounds.entry.standing.settings grounds.entry.board.now.table grounds.entry.board.now.members report.now)) }
-    ensures entries { (n : ℕ) → IfOk result (λ o. All (IsEntryOf grounds.entry.standing.settings.monitors n) o.entries.items) }
+    requires { CanDealShort grounds report.now }
+    ensures ends { IfOk result (EndsShort grounds.entry report.now) }
+    ensures entries { (n : ℕ) → IfOk result (λ o. All (IsEntryOf grounds.entry.phase.settings.monitors n) o.entries.items) }
 {
-    let Grounds {
-        alloc,
-        standing,
-        ..
-    } = grounds;
-    let settings = standing.settings;
+    let Grounds { alloc, phase, .. } = grounds;
+    let settings = phase.settings;
     let border = grounds.board.border_over(alloc, &settings, &report.values)?;
     let dealt = deal_short(alloc, &settings, grounds.board, report, border)?;
-    ended(alloc, grounds.links, standing, grounds.rounds, dealt)
+    ended(alloc, grounds.peers, phase, grounds.rounds, dealt)
 }
 
 /// The end of a full round.
 pub fn end_full(grounds: Grounds, reports: &[Reported]) -> Result<Outcome, NoMemory>
-    requires { CanEndFull grounds.standing.settings grounds.board.now.table grounds.board.now.members grounds.links.now reports.now }
-    ensures ends { IfOk result (Ends grounds.entry.board.now.table grounds.entry.links.now grounds.entry.standing grounds.entry.rounds
-        (full_decides grounds.entry.standing.settings grounds.entry.board.now.table grounds.entry.board.now.members reports.now)) }
-    ensures entries { (n : ℕ) → IfOk result (λ o. All (IsEntryOf grounds.entry.standing.settings.monitors n) o.entries.items) }
+    requires { CanDealFull grounds reports.now }
+    ensures ends { IfOk result (EndsFull grounds.entry reports.now) }
+    ensures entries { (n : ℕ) → IfOk result (λ o. All (IsEntryOf grounds.entry.phase.settings.monitors n) o.entries.items) }
 {
-    let Grounds {
-        alloc,
-        standing,
-        ..
-    } = grounds;
-    let settings = standing.settings;
+    let Grounds { alloc, phase, .. } = grounds;
+    let settings = phase.settings;
     // The number is read for its clause, that there is a monitor.
     let _ = settings.monitors();
     let border = grounds
         .board
         .border_over(alloc, &settings, &reports[0].values)?;
     let dealt = deal_full(alloc, &settings, grounds.board, reports, border)?;
-    ended(alloc, grounds.links, standing, grounds.rounds, dealt)
+    ended(alloc, grounds.peers, phase, grounds.rounds, dealt)
 }
 
 /// The end of a wide round.
 pub fn end_wide(grounds: Grounds, reports: &[Reported]) -> Result<Outcome, NoMemory>
-    requires { CanEndWide grounds.standing.settings grounds.board.now.table grounds.links.now reports.now }
-    ensures assigns { IfOk result (IsAssigned grounds.entry.board.now.table grounds.entry.links.now grounds.entry.standing
-        (wide_decides grounds.entry.standing.settings grounds.entry.board.now.table grounds.entry.board.now.members reports.now)) }
-    ensures entries { (n : ℕ) → IfOk result (λ o. All (IsEntryOf grounds.entry.standing.settings.monitors n) o.entries.items) }
+    requires { CanDealWide grounds reports.now }
+    ensures assigns { IfOk result (EndsWide grounds.entry reports.now) }
+    ensures entries { (n : ℕ) → IfOk result (λ o. All (IsEntryOf grounds.entry.phase.settings.monitors n) o.entries.items) }
 {
-    let Grounds {
-        alloc,
-        standing,
-        ..
-    } = grounds;
-    let settings = standing.settings;
+    let Grounds { alloc, phase, .. } = grounds;
+    let settings = phase.settings;
     let reallocation = deal_wide(alloc, &settings, grounds.board, reports)?;
-    assigned(alloc, grounds.links, standing, reallocation)
+    assigned(alloc, grounds.peers, phase, reallocation)
 }
 
 /// The end of a round, wide or full, from which the next k and epsilon are in force.
 pub fn end_round(grounds: Grounds, wide: bool, reports: &[Reported]) -> Result<Outcome, NoMemory>
-    requires all { wide ≡ true → CanEndWide grounds.standing.next grounds.board.now.table grounds.links.now reports.now }
-    requires some { wide ≡ false
-        → CanEndFull grounds.standing.next grounds.board.now.table grounds.board.now.members grounds.links.now reports.now }
-    ensures all { wide ≡ true
-        → IfOk result (IsAssigned grounds.entry.board.now.table grounds.entry.links.now (closed grounds.entry.standing)
-        (wide_decides grounds.entry.standing.next grounds.entry.board.now.table grounds.entry.board.now.members reports.now)) }
-    ensures some { wide ≡ false
-        → IfOk result (Ends grounds.entry.board.now.table grounds.entry.links.now (closed grounds.entry.standing) grounds.entry.rounds
-        (full_decides grounds.entry.standing.next grounds.entry.board.now.table grounds.entry.board.now.members reports.now)) }
-    ensures entries { (n : ℕ) → IfOk result (λ o. All (IsEntryOf grounds.entry.standing.next.monitors n) o.entries.items) }
+    requires all { wide ≡ true → CanDealWide (at_end grounds) reports.now }
+    requires some { wide ≡ false → CanDealFull (at_end grounds) reports.now }
+    ensures all { wide ≡ true → IfOk result (EndsWide (at_end grounds.entry) reports.now) }
+    ensures some { wide ≡ false → IfOk result (EndsFull (at_end grounds.entry) reports.now) }
+    ensures entries { (n : ℕ) → IfOk result (λ o. All (IsEntryOf grounds.entry.phase.next.monitors n) o.entries.items) }
 {
-    let standing = grounds.standing.closed();
+    let phase = grounds.phase.closed();
     if wide {
-        return end_wide(
-            Grounds {
-                standing,
-                ..grounds
-            },
-            reports,
-        );
+        return end_wide(Grounds { phase, ..grounds }, reports);
     }
-    end_full(
-        Grounds {
-            standing,
-            ..grounds
-        },
-        reports,
-    )
+    end_full(Grounds { phase, ..grounds }, reports)
 }

@@ -7,22 +7,22 @@ ghost use Rattle.tk_journal.specs.Entries.{IsEntryOf};
 ghost use Rattle.tk_coord.specs.Checks.{AreWithin};
 ghost use Rattle.tk_coord.specs.Closing.{are_last, closing_by, said_at, said_in, settled_by};
 ghost use Rattle.tk_coord.specs.Keeping.{AreOthers, HasOther};
-ghost use Rattle.tk_coord.specs.declared.link.Link.{Link};
+ghost use Rattle.tk_coord.specs.declared.peer.Peer.{Peer};
 
 use crate::answer::{Answer, Progress};
 use crate::entries::push_stops;
-use crate::link::Link;
+use crate::peer::Peer;
 use std::alloc::Global;
 use tk_base::{Cut, NoMemory, ObjSet, Settings};
 use tk_journal::{KeptPublication, Noted, Publication};
 
 /// How far a monitor is, where its current answer is Settled.
-fn settled(link: &Link) -> Option<&Progress>
-    ensures some { IfSome result (λ p. settled_by (Some link.now) ≡ Some p.now) }
-    ensures none { IfNone result (settled_by (Some link.now) ≡ None) }
+fn settled(peer: &Peer) -> Option<&Progress>
+    ensures some { IfSome result (λ p. settled_by (Some peer.now) ≡ Some p.now) }
+    ensures none { IfNone result (settled_by (Some peer.now) ≡ None) }
 {
-    match link.answer {
-        Some(Answer::Settled) => link.progress.as_ref(),
+    match peer.answer {
+        Some(Answer::Settled) => peer.progress.as_ref(),
         _ => None,
     }
 }
@@ -30,29 +30,29 @@ fn settled(link: &Link) -> Option<&Progress>
 /// What all monitors say, where the one at this place says this now.
 #[derive(Clone, Copy)]
 pub struct Answers<'a> {
-    pub links: &'a [Link],
+    pub peers: &'a [Peer],
     pub place: usize,
     pub here: &'a Progress,
 }
 
 /// What the monitor at another place says, where all have settled.
 fn said<'a>(answers: Answers<'a>, other: usize) -> &'a Progress
-    requires { other < length answers.links.now }
-    ensures { result.now ≡ said_at answers.entry.links.now answers.entry.place answers.entry.here.now (other + 1) }
+    requires { other < length answers.peers.now }
+    ensures { result.now ≡ said_at answers.entry.peers.now answers.entry.place answers.entry.here.now (other + 1) }
 {
     if other == answers.place {
         return answers.here;
     }
-    settled(&answers.links[other]).unwrap_or(answers.here)
+    settled(&answers.peers[other]).unwrap_or(answers.here)
 }
 
 /// Whether every monitor but the one at this place has Settled as its current answer.
-pub fn others_settled(links: &[Link], place: usize) -> bool
-    ensures all { OnTrue result (AreOthers (λ l. settled_by (Some l) ≢ None) links.now place) }
-    ensures one { OnFalse result (HasOther (λ l. settled_by (Some l) ≡ None) links.now place) }
+pub fn others_settled(peers: &[Peer], place: usize) -> bool
+    ensures all { OnTrue result (AreOthers (λ l. settled_by (Some l) ≢ None) peers.now place) }
+    ensures one { OnFalse result (HasOther (λ l. settled_by (Some l) ≡ None) peers.now place) }
 {
-    for other in 0..links.len() {
-        if other != place && settled(&links[other]).is_none() {
+    for other in 0..peers.len() {
+        if other != place && settled(&peers[other]).is_none() {
             return false;
         }
     }
@@ -70,7 +70,7 @@ pub fn is_other(last: &Publication, settings: &Settings, members: &ObjSet) -> bo
 fn all_last(answers: Answers) -> bool
     ensures { result ≡ are_last (said_in answers.entry) }
 {
-    for other in 0..answers.links.len() {
+    for other in 0..answers.peers.len() {
         if !said(answers, other).last {
             return false;
         }
@@ -82,8 +82,8 @@ fn all_last(answers: Answers) -> bool
 fn cut_of(alloc: Global, answers: Answers) -> Result<Cut, NoMemory>
     ensures { IfOk result (λ c. c ≡ map (λ p. p.places) (said_in answers.entry)) }
 {
-    let mut list = Vec::with_capacity(alloc, answers.links.len())?;
-    for other in 0..answers.links.len() {
+    let mut list = Vec::with_capacity(alloc, answers.peers.len())?;
+    for other in 0..answers.peers.len() {
         list.push(said(answers, other).places.try_clone()?)?;
     }
     Ok(Cut::new(list))

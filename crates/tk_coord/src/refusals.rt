@@ -1,12 +1,13 @@
 // Which refusal a frame meets, as a function of what the coordinator shows.
-ghost use Rattle.std.specs.Prelude.{◌≡◌, true, false, IfSome, IfNone};
-ghost use Rattle.tk_journal.specs.Refusal.{asked_in as asked_of, is_awaited as is_awaited_of, refusal_of_answer, refusal_of_awaited, refusal_of_cut, refusal_of_report, refusal_over};
+ghost use Rattle.std.specs.Prelude.{◌≡◌, false, IfSome, IfNone};
+ghost use Rattle.tk_frames.specs.declared.frame.Frame.TheVariants.{Report};
+ghost use Rattle.tk_journal.specs.Refusal.{is_awaited as is_awaited_of, refusal_of_awaited, refusal_of_cut, refusal_of_kind, refusal_over};
 ghost use Rattle.tk_coord.specs.Checks.{IsKnown, known_in};
-ghost use Rattle.tk_coord.specs.Refusals.{is_report_in, shown_from, shown_in, waits_in, waits_by};
+ghost use Rattle.tk_coord.specs.Refusals.{Asks, is_report_in, refusal_of_settled, shown_from, shown_in, waits_in, waits_by};
 
 use crate::answer::{Answer, Progress};
 use crate::checks::{Known, is_cut, report_refusal, values_refusal};
-use crate::link::Link;
+use crate::peer::Peer;
 use crate::round::Round;
 use tk_base::{ObjSet, Pairs, Places};
 use tk_frames::Frame;
@@ -35,17 +36,17 @@ pub struct Shown<'a> {
 }
 
 /// Whether a monitor's current answer is a Report.
-fn is_reported(link: &Link) -> bool
-    ensures { result ≡ is_report_in link.now.answer }
+fn is_reported(peer: &Peer) -> bool
+    ensures { result ≡ is_report_in peer.now.answer }
 {
-    matches!(link.answer, Some(Answer::Report))
+    matches!(peer.answer, Some(Answer::Report))
 }
 
-/// The round, where it waits for the monitor of a link.
-fn awaited_by<'a>(link: &Link, round: &'a Round) -> Option<Awaited<'a>>
-    ensures { waits_in result ≡ waits_by link.now round.now }
+/// The round, where it waits for the monitor of a peer.
+fn awaited_by<'a>(peer: &Peer, round: &'a Round) -> Option<Awaited<'a>>
+    ensures { waits_in result ≡ waits_by peer.now round.now }
 {
-    if !link.waits {
+    if !peer.waits {
         return None;
     }
     Some(Awaited {
@@ -54,15 +55,15 @@ fn awaited_by<'a>(link: &Link, round: &'a Round) -> Option<Awaited<'a>>
     })
 }
 
-/// What the link of a monitor and the last round show.
-pub fn shown_of<'a>(link: &'a Link, round: &'a Round, stopped: bool) -> Shown<'a>
-    ensures { shown_in result ≡ shown_from link.now round.now stopped }
+/// What the peer of a monitor and the last round show.
+pub fn shown_of<'a>(peer: &'a Peer, round: &'a Round, stopped: bool) -> Shown<'a>
+    ensures { shown_in result ≡ shown_from peer.now round.now stopped }
 {
     Shown {
-        at: link.assigns,
-        reported: is_reported(link),
-        progress: &link.progress,
-        waits: awaited_by(link, round),
+        at: peer.assigns,
+        reported: is_reported(peer),
+        progress: &peer.progress,
+        waits: awaited_by(peer, round),
         stopped,
     }
 }
@@ -102,7 +103,7 @@ fn of_report(
     values: &Pairs,
 ) -> Option<CoordRefusal>
     requires { IsKnown (known_in known) }
-    ensures { result ≡ refusal_of_answer (shown_in shown.entry) seq (refusal_of_report (known_in known.entry) border failed.now values.now) }
+    ensures { result ≡ refusal_of_kind (shown_in shown.entry) (known_in known.entry) (Report seq border failed.now values.now) }
 {
     let at = shown.at;
     if seq > at {
@@ -124,7 +125,7 @@ fn of_settled(
     last: bool,
     places: &Places,
 ) -> Option<CoordRefusal>
-    ensures { result ≡ refusal_of_answer (shown_in shown.entry) seq (refusal_of_cut (shown_in shown.entry).progress last places.now) }
+    ensures { result ≡ refusal_of_settled (shown_in shown.entry) seq last places.now }
 {
     let at = shown.at;
     if seq > at {
@@ -151,7 +152,7 @@ fn cut_refusal(before: &Option<Progress>, last: bool, places: &Places) -> Option
 
 /// The objects that the round asks for, where it is the one that waits.
 fn asked_in<'a>(waits: Option<Awaited<'a>>, round: u64) -> Option<&'a ObjSet>
-    ensures some { IfSome result (λ asked. (is_awaited_of (waits_in waits.entry) round ≡ true) × (asked.now ≡ asked_of (waits_in waits.entry))) }
+    ensures some { IfSome result (λ asked. Asks waits.entry round asked.now) }
     ensures none { IfNone result (is_awaited_of (waits_in waits.entry) round ≡ false) }
 {
     match waits {

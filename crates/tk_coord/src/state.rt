@@ -1,20 +1,18 @@
-ghost use Rattle.std.specs.Prelude.{◌≡◌, ◌++◌, List, length, suc};
+ghost use Rattle.std.specs.Prelude.{◌≡◌, List, length, suc};
 ghost use Rattle.tk_base.specs.Settings.{Setup};
-ghost use Rattle.tk_frames.specs.declared.frame.Frame.{Frame};
 ghost use Rattle.std.specs.List.{list_all};
-ghost use Rattle.tk_journal.specs.Laws.{IsMonitor};
 ghost use Rattle.tk_journal.specs.Readings.{is_calm as is_calm_at};
 ghost use Rattle.tk_journal.specs.declared.noted.Noted.{Noted};
 ghost use Rattle.tk_coord.specs.Checks.{AreNamed};
 ghost use Rattle.tk_coord.specs.Keeping.{AreChanged, HasPlace, CanReply, assigned_at, has_settled};
 ghost use Rattle.tk_coord.specs.State.{Holds};
-ghost use Rattle.tk_coord.specs.Steps.{Tells, IsReply, told_at, values_in, open_after, with_got};
+ghost use Rattle.tk_coord.specs.Steps.{NotesReply, NotesTold, told_at, values_in, open_after};
 
 use crate::answer::Answer;
 use crate::board::Board;
-use crate::link::{Link, ask};
+use crate::peer::{Peer, ask};
 use crate::round::Round;
-use crate::step::{Reply, Told};
+use crate::step::{Reply, Statement};
 use tk_alloc::Reported;
 use tk_base::Mon;
 use tk_rows::MonChange;
@@ -23,60 +21,65 @@ use tk_rows::MonChange;
 #[derive(Drop)]
 pub struct State {
     pub board: Board,
-    pub links: Vec<Link>,
+    pub peers: Vec<Peer>,
     pub round: Round,
     /// What each monitor last told to a round, monitors ascending.
     pub gathered: Vec<Reported>,
 }
 
-/// The link of a monitor after a frame of it.
-fn tell(link: &mut Link, told: Told) -> Option<Reported>
-    ensures link { link.new ≡ told_at told link.old }
-    ensures values { result ≡ values_in told }
+/// The peer of a monitor after a frame of it.
+fn tell(peer: &mut Peer, statement: Statement) -> Option<Reported>
+    ensures peer { peer.new ≡ told_at statement peer.old }
+    ensures values { result ≡ values_in statement }
 {
-    match told {
-        Told::Nothing => None,
-        Told::Report => {
-            link.answer = Some(Answer::Report);
+    match statement {
+        Statement::Nothing => None,
+        Statement::Report => {
+            peer.answer = Some(Answer::Report);
             None
         }
-        Told::Settled(progress) => {
-            link.answer = Some(Answer::Settled);
-            link.progress = Some(progress);
+        Statement::Settled(progress) => {
+            peer.answer = Some(Answer::Settled);
+            peer.progress = Some(progress);
             None
         }
-        Told::Values { report, .. } => {
-            link.waits = false;
+        Statement::Values(report) => {
+            peer.waits = false;
             Some(report)
+        }
+        Statement::LastValues => {
+            peer.waits = false;
+            None
         }
     }
 }
 
 /// Whether the round waits for a monitor after a frame.
-fn still_waits(waiting: bool, told: &Told) -> bool
-    ensures { result ≡ open_after told.now waiting }
+fn still_waits(waiting: bool, statement: &Statement) -> bool
+    ensures { result ≡ open_after statement.now waiting }
 {
-    match told {
-        Told::Nothing => waiting,
-        Told::Report => waiting,
-        Told::Settled(_) => waiting,
-        Told::Values { more, .. } => *more,
+    match statement {
+        Statement::Nothing => waiting,
+        Statement::Report => waiting,
+        Statement::Settled(_) => waiting,
+        Statement::Values(_) => true,
+        Statement::LastValues => false,
     }
 }
 
 /// Whether the current answer is a Settled.
-fn is_settled(link: &Link) -> bool
-    ensures { result ≡ has_settled link.now }
+fn is_settled(peer: &Peer) -> bool
+    ensures { result ≡ has_settled peer.now }
 {
-    matches!(link.answer, Some(Answer::Settled))
+    matches!(peer.answer, Some(Answer::Settled))
 }
 
 /// Whether every monitor's current answer is a Settled.
-fn all_settled(links: &[Link]) -> bool
-    ensures { result ≡ list_all has_settled links.now }
+fn all_settled(peers: &[Peer]) -> bool
+    ensures { result ≡ list_all has_settled peers.now }
 {
-    for link in links {
-        if !is_settled(link) {
+    for peer in peers {
+        if !is_settled(peer) {
             return false;
         }
     }
@@ -84,15 +87,15 @@ fn all_settled(links: &[Link]) -> bool
 }
 
 /// Each monitor with changes was sent one more Assign.
-fn assign(links: &mut [Link], changes: &[MonChange])
-    requires { AreNamed (length links.old) changes.now }
-    ensures count { length links.new ≡ length links.old }
-    ensures each { AreChanged (λ i l. assigned_at (suc i) changes.now l) links.old links.new }
+fn assign(peers: &mut [Peer], changes: &[MonChange])
+    requires { AreNamed (length peers.old) changes.now }
+    ensures count { length peers.new ≡ length peers.old }
+    ensures each { AreChanged (λ i l. assigned_at (suc i) changes.now l) peers.old peers.new }
 {
     for change in changes {
-        let link = &mut links[change.mon.0 as usize - 1];
-        link.assigns = link.assigns.saturating_add(1);
-        link.answer = None;
+        let peer = &mut peers[change.mon.0 as usize - 1];
+        peer.assigns = peer.assigns.saturating_add(1);
+        peer.answer = None;
     }
 }
 
@@ -104,18 +107,17 @@ impl State {
         if self.round.waiting {
             return false;
         }
-        all_settled(self.links.as_slice())
+        all_settled(self.peers.as_slice())
     }
 
     /// A frame of a monitor was taken.
-    pub fn take(&mut self, mon: Mon, told: Told)
+    pub fn take(&mut self, mon: Mon, statement: Statement)
         requires { HasPlace self.old mon.0 }
-        ensures { (s : Setup) (j : List Noted) (frame : Frame) → Tells s j mon frame told → IsMonitor s mon.0
-            → Holds s j self.old → Holds s (with_got j mon frame) self.new }
+        ensures { NotesTold mon statement self.old self.new }
     {
         let place = mon.0 as usize - 1;
-        self.round.waiting = still_waits(self.round.waiting, &told);
-        if let Some(report) = tell(&mut self.links[place], told) {
+        self.round.waiting = still_waits(self.round.waiting, &statement);
+        if let Some(report) = tell(&mut self.peers[place], statement) {
             self.gathered[place] = report;
         }
     }
@@ -123,24 +125,23 @@ impl State {
     /// What it brings about was sent.
     pub fn reply(&mut self, reply: Reply)
         requires { CanReply self.old reply }
-        ensures { (s : Setup) (j entries : List Noted) → IsReply s j entries reply → Holds s j self.old
-            → Holds s (j ++ entries) self.new }
+        ensures { NotesReply reply self.old self.new }
     {
         match reply {
             Reply::Nothing => {}
             Reply::Ask { round, opener } => {
                 self.round = round;
                 match opener {
-                    None => ask(self.links.as_mut_slice(), None),
+                    None => ask(self.peers.as_mut_slice(), None),
                     Some(report) => {
                         let place = report.mon.0 as usize - 1;
-                        ask(self.links.as_mut_slice(), Some(place));
+                        ask(self.peers.as_mut_slice(), Some(place));
                         self.gathered[place] = report;
                     }
                 }
             }
             Reply::Assign(reallocation) => {
-                assign(self.links.as_mut_slice(), reallocation.at.as_slice());
+                assign(self.peers.as_mut_slice(), reallocation.at.as_slice());
                 self.board.replace(reallocation);
             }
         }

@@ -1,10 +1,10 @@
 ghost use Rattle.std.specs.Prelude.{◌≡◌, ◌+◌, ◌≤◌, true, false, if◌then◌else◌};
 ghost use Rattle.tk_journal.specs.declared.turn.TurnKind.TheVariants.{Tune, Short, Wide};
-ghost use Rattle.tk_coord.specs.Steps.{asks_wide};
+ghost use Rattle.tk_coord.specs.Steps.{asks_wide, step_with};
 
 use crate::answer::Progress;
+use crate::phase::Phase;
 use crate::round::Round;
-use crate::standing::Standing;
 use tk_alloc::Reported;
 use tk_journal::{Noted, Turn, TurnKind};
 use tk_rows::Reallocation;
@@ -12,7 +12,7 @@ use tk_rows::Reallocation;
 /// What a taken frame brings about: what it tells, what follows, and its turn.
 #[derive(Drop)]
 pub struct Step {
-    pub told: Told,
+    pub statement: Statement,
     pub outcome: Outcome,
     /// Whether it is calm is known at its end.
     pub turn: Turn,
@@ -20,15 +20,17 @@ pub struct Step {
 
 /// What a taken frame tells of its monitor.
 #[derive(Drop)]
-pub enum Told {
+pub enum Statement {
     /// The frame is stale.
     Nothing,
     /// A Report is its answer.
     Report,
     /// A Settled is its answer.
     Settled(Progress),
-    /// Its values for the open round, and whether that waits for more.
-    Values { report: Reported, more: bool },
+    /// Its values for the open round, which waits for more.
+    Values(Reported),
+    /// The last values of the open round, which it ends with.
+    LastValues,
 }
 
 /// What follows: entries, what they send, and what holds after the turn.
@@ -36,7 +38,7 @@ pub enum Told {
 pub struct Outcome {
     pub entries: Vec<Noted>,
     pub reply: Reply,
-    pub standing: Standing,
+    pub phase: Phase,
 }
 
 /// What is sent to monitors, but for Stop.
@@ -66,12 +68,8 @@ impl Reply {
 
 impl Outcome {
     /// The step of a frame that tells this, with a turn of this kind.
-    pub fn step(self, told: Told, kind: TurnKind, fails: bool) -> Step
-        ensures { result ≡ record {
-          told = told;
-          outcome = self;
-          turn = record { kind = kind; fails = fails; widens = asks_wide self.reply; calm = false };
-        } }
+    pub fn step(self, statement: Statement, kind: TurnKind, fails: bool) -> Step
+        ensures { result ≡ step_with self statement kind fails }
     {
         let turn = Turn {
             kind,
@@ -80,7 +78,7 @@ impl Outcome {
             calm: false,
         };
         Step {
-            told,
+            statement,
             outcome: self,
             turn,
         }

@@ -24,7 +24,7 @@ use Rattle.tk_drain.specs.Passing.Covers.{GoesOn, Ended}
 use Rattle.tk_drain.proofs.KeepLemmas.{leads_story}
 use Rattle.tk_drain.proofs.PartLemmas.{pass_again}
 use Rattle.tk_drain.proofs.PassingLemmas.{Passed, covers_stays, one_leads, passed_once, raised_once}
-use Rattle.tk_drain.proofs.PhaseLemmas.{moves_keep}
+use Rattle.tk_drain.proofs.LegLemmas.{moves_keep}
 use Rattle.tk_drain.proofs.RaiseLemmas.{run_alike}
 use Rattle.tk_drain.proofs.RestLemmas.{settles_rests}
 

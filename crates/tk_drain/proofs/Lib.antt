@@ -10,7 +10,7 @@ pub mod MoveLemmas
 pub mod PartLemmas
 pub mod PassLemmas
 pub mod PassingLemmas
-pub mod PhaseLemmas
+pub mod LegLemmas
 pub mod PresentLemmas
 pub mod RaiseLemmas
 pub mod ReadLemmas

@@ -15,7 +15,7 @@ use Rattle.tk_world.specs.World.{Moves}
 use Rattle.tk_input.specs.Logs.{LogSet}
 use Rattle.std.specs.Prelude.{flat_map}
 use Rattle.std.specs.List.{range_with_len}
-use Rattle.tk_drain.proofs.PhaseLemmas.{moves_keep}
+use Rattle.tk_drain.proofs.LegLemmas.{moves_keep}
 use Rattle.tk_drain.specs.Drive.Finishes.{Done as DoneF, Passes as PassesF, Raises as RaisesF}
 use Rattle.tk_drain.specs.Passing.{Covers, MayRaise, Passes, RaisesOne, raises}
 use Rattle.tk_drain.proofs.PartLemmas.{pass_again, raises_push}

@@ -12,7 +12,7 @@ use Rattle.tk_drain.specs.Drive.{sweep_events}
 use Rattle.tk_drain.specs.Settling.{is_settling}
 use Rattle.tk_drain.proofs.KeepLemmas.{is_idle, idle_none}
 
--- ---- tests of the events of a phase
+-- ---- tests of the events of a leg
 
 pub each_true : (p : Event → Bool) (make : ℕ → Event) (a k : ℕ) → ((q : ℕ) → a ≤ q → q < a + k → p (make q) ≡ true) → list_all p (map make (range_with_len a k)) ≡ true
 each_true p make a zero each = refl

@@ -5,6 +5,6 @@ pub mod Fits
 pub mod Reads
 pub mod Settling
 pub use Rattle.tk_world.specs.Events
-pub mod Phases
+pub mod Legs
 pub mod Resting
 pub mod Passing

@@ -8,9 +8,9 @@
 mod driven;
 mod falls;
 mod finishing;
+mod leg;
 mod moves;
 mod parts;
-mod phase;
 mod settling;
 mod sweeps;
 

@@ -5,7 +5,7 @@ ghost use Rattle.tk_world.specs.declared.moved.Moved.TheVariants.{Idle};
 ghost use Rattle.tk_drain.specs.Drive.{BeginsSettling, KeepsFront, Settles, sweep_events, swept};
 ghost use Rattle.tk_drain.specs.Resting.{ComesToRest};
 
-use crate::phase::{Phase, either, run};
+use crate::leg::{Leg, either, run};
 use tk_base::NoMemory;
 use tk_world::{Moved, Nodes, World};
 
@@ -26,9 +26,9 @@ pub fn sweep<N: Nodes>(world: &mut World<N>) -> Result<Moved, NoMemory>
 {
     // The settings are read for their clause, that the world's story is one.
     let _ = world.settings();
-    let checks = run(world, Phase::Check)?;
-    let ups = run(world, Phase::Up)?;
-    let downs = run(world, Phase::Down)?;
+    let checks = run(world, Leg::Check)?;
+    let ups = run(world, Leg::Up)?;
+    let downs = run(world, Leg::Down)?;
     Ok(either(either(checks, ups), downs))
 }
 

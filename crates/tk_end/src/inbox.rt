@@ -28,9 +28,9 @@ pub struct Inbox {
 
 impl Model for Inbox {
     ghost use Rattle.std.specs.Prelude.{◌++◌};
-    ghost use Rattle.tk_end.specs.Inbox.{Inbox as Seen, IsSpelled, bytes_of};
+    ghost use Rattle.tk_end.specs.Inbox.{Inbox as InboxView, IsSpelled, bytes_of};
 
-    ghost Value = { Seen };
+    ghost Value = { InboxView };
 
     ghost view = { λ b. record {
       version = b.buffer.version;

@@ -90,7 +90,9 @@ fn payload(alloc: Global, version: u8, frame: &Frame) -> Result<Vec<u8>, NoMemor
     ensures bytes { IfOk result (λ bytes. bytes.items ≡ payload_of version frame.now) }
     ensures within { OnOk result (AreWithin frame.now) }
 {
-    let mut bytes = Vec::new(alloc);
+    // What the frame takes in version 1; the other takes less for most.
+    let room = frame.size().min(MAX_PAYLOAD as u128) as usize;
+    let mut bytes = Vec::with_capacity(alloc, room)?;
     bytes.push(frame.kind().code())?;
     fields(&mut bytes, version, frame)?;
     Ok(bytes)

@@ -1,6 +1,6 @@
 //! Each field of a frame, read at the front of some bytes.
 
-ghost use Rattle.std.specs.Prelude.{◌≡◌, ◌≤◌, IfOk};
+ghost use Rattle.std.specs.Prelude.{◌≡◌, ◌/◌, ◌<◌, ◌≤◌, IfOk, length, min};
 ghost use Rattle.tk_base.specs.Ascending.{numbers_of};
 ghost use Rattle.tk_base.specs.Pairs.{pairs_of};
 ghost use Rattle.tk_frames.specs.Reading.{Gives, groups_at, number_at, signed_at, object_at, pair_at, items_at, set_at, pairs_at, places_at, flag_at, place_at};
@@ -175,6 +175,14 @@ fn pair(version: u8, before: u32, bytes: &[u8]) -> Result<((Obj, i128), &[u8]), 
     Ok(((Obj(object), number), rest))
 }
 
+/// How many items there may be: so many are claimed, and each takes some bytes of those that are left.
+fn most_items(count: u32, bytes: &[u8], least: usize) -> usize
+    requires { 0 < least }
+    ensures { result ≡ min count (length bytes.now / least) }
+{
+    (count as usize).min(bytes.len() / least)
+}
+
 fn objects(
     alloc: Global,
     version: u8,
@@ -183,7 +191,7 @@ fn objects(
 ) -> Result<(Vec<Obj>, &[u8]), Unread>
     ensures { Gives (λ x. (numbers_of x.0.items, x.1.now)) result (items_at object_itself (object_at version) 0 count bytes.now) }
 {
-    let mut list = Vec::new(alloc);
+    let mut list = Vec::with_capacity(alloc, most_items(count, bytes, 1))?;
     let mut rest = bytes;
     let mut before = 0;
     for _ in 0..count {
@@ -203,7 +211,7 @@ fn pair_list(
 ) -> Result<(Vec<(Obj, i128)>, &[u8]), Unread>
     ensures { Gives (λ x. (pairs_of x.0.items, x.1.now)) result (items_at pair_object (pair_at version) 0 count bytes.now) }
 {
-    let mut list = Vec::new(alloc);
+    let mut list = Vec::with_capacity(alloc, most_items(count, bytes, 2))?;
     let mut rest = bytes;
     let mut before = 0;
     for _ in 0..count {
@@ -223,7 +231,7 @@ fn numbers(
 ) -> Result<(Vec<u32>, &[u8]), Unread>
     ensures { Gives (λ x. (x.0.items, x.1.now)) result (items_at no_object (place_at version) 0 count bytes.now) }
 {
-    let mut list = Vec::new(alloc);
+    let mut list = Vec::with_capacity(alloc, most_items(count, bytes, 1))?;
     let mut rest = bytes;
     for _ in 0..count {
         let (number, after) = u32_at(version, rest)?;

@@ -3,7 +3,7 @@ use Rattle.std.proofs.Common.{◌≡◌, ℕ, ◌<◌, List, [], ◌∷◌, leng
 use Rattle.std.specs.Prelude.{find, position, ◌==◌}
 use Rattle.std.specs.List.{list_any}
 use Rattle.tk_input.specs.Files.{one_more}
-use Rattle.tk_input.specs.MapFiles.{Remembered, content_of, files_of, given, read_of}
+use Rattle.tk_input.specs.MapFiles.{MapFilesView, content_of, files_of, given, read_of}
 use Rattle.tk_input.proofs.CountLemmas.{position_found, find-found, find-missing}
 
 find-map-cons : {X Y : Type 0} (b : Bool) (f : X → Y) (x : X) (rest : Option X) (mapped : Option Y) → mapped ≡ option_map f rest → cond b (Some (f x)) mapped ≡ option_map f (cond b (Some x) rest)
@@ -39,7 +39,7 @@ content_missing {A} {B} files name place told is =
     ∙ ap (λ (o : Option (String A × Vec ℕ B)). option_map (λ f. f.1.items) o) (find-missing (λ f. bytes_eq (string_bytes f.0) name) files (sym told ∙ is))
 
 -- what is given under the number of a read and the file of its name is what the read gives
-pub given_is : (m : Remembered) (name : List ℕ) (fails : Bool) (number : ℕ) (numbers : List ℕ) (file : Option (List ℕ)) → fails ≡ list_any (λ i. i == number) numbers → number ≡ one_more m.reads → numbers ≡ m.fails → file ≡ content_of m.files name → given fails file ≡ read_of m name
+pub given_is : (m : MapFilesView) (name : List ℕ) (fails : Bool) (number : ℕ) (numbers : List ℕ) (file : Option (List ℕ)) → fails ≡ list_any (λ i. i == number) numbers → number ≡ one_more m.reads → numbers ≡ m.fails → file ≡ content_of m.files name → given fails file ≡ read_of m name
 given_is m name fails number numbers file tested at all found =
     ap (λ (b : Bool). given b file) tested
     ∙ ap (λ (n : ℕ). given (list_any (λ i. i == n) numbers) file) at

@@ -3,7 +3,7 @@ use Rattle.std.proofs.Common.{◌≡◌, ℕ, ◌<◌, Bool, true, false, cond, 
 use Rattle.std.specs.Prelude.{nat_lt}
 use Rattle.std.specs.Str.Lines.{lines}
 use Rattle.std.proofs.lemmas.Bool.{lt-ltb, le-ltb}
-use Rattle.tk_input.specs.Order.{IsFault, IsLineFault, Ordered, filled, left_after, line_added, number_after, numbered}
+use Rattle.tk_input.specs.Order.{IsFault, IsLineFault, OrderView, filled, left_after, line_added, number_after, numbered}
 use Rattle.tk_input.specs.Records.{through}
 use Rattle.tk_input.specs.declared.order.OrderFault.{OrderFault}
 use Rattle.tk_input.specs.declared.order.OrderFault.TheVariants.{BadOrder, NoMemory}
@@ -30,6 +30,6 @@ none_left number [] none = refl
 none_left number (c ∷ text) none = absurd (omega (arith, none))
 
 -- the fault of a line is that of what is left
-pub event_fault : (before : Ordered) (line : ℕ × List ℕ) (rest left : List (ℕ × List ℕ)) (e : OrderFault) → left ≡ line ∷ rest → IsLineFault e (line_added before line) → IsFault e (through line_added before left)
+pub event_fault : (before : OrderView) (line : ℕ × List ℕ) (rest left : List (ℕ × List ℕ)) (e : OrderFault) → left ≡ line ∷ rest → IsLineFault e (line_added before line) → IsFault e (through line_added before left)
 event_fault before line rest left (BadOrder n) next fault = through-fault line_added before line rest left (BadOrder n) next fault
 event_fault before line rest left NoMemory next fault = tt

@@ -1,17 +1,13 @@
 -- Changes as pairs of an object and a whole number.
 use Rattle.std.specs.Prelude.{ℕ, ℤ, List, map}
+use Rattle.tk_base.specs.Pairs.{narrow_pair_of}
 use Rattle.tk_input.specs.declared.change.Change.{Change}
 use Rattle.tk_input.specs.declared.changes.Form.{Form}
 use Rattle.tk_input.specs.declared.changes.Form.TheVariants.{Narrow, Wide}
-use Rattle.tk_input.specs.declared.narrow_change.NarrowChange.{NarrowChange}
 
 -- a change: its object, and by how much
 abbrev pub pair_of : Change → ℕ × ℤ
 pair_of c = (c.obj.0, c.by)
-
--- the same of a change in 8 bytes
-abbrev pub narrow_pair_of : NarrowChange → ℕ × ℤ
-narrow_pair_of c = (c.obj.0, c.by)
 
 -- some changes
 abbrev pub changes_of : List Change → List (ℕ × ℤ)

@@ -7,7 +7,7 @@ use Rattle.tk_input.specs.declared.files.FileFault.{FileFault}
 use Rattle.tk_input.specs.declared.files.FileFault.TheVariants.{Failed, TooLong, NoMemory}
 
 -- the files by name, the numbers of the reads that fail, how many reads there were, and what is counted
-pub record Remembered : Type 0 where
+pub record MapFilesView : Type 0 where
   pub files : List (List ℕ × List ℕ)
   pub fails : List ℕ
   pub reads : ℕ
@@ -28,7 +28,7 @@ given false None = Err Failed
 given false (Some bytes) = if nat_lt 67108864 (length bytes) then Err TooLong else Ok bytes
 
 -- what the next read of a name gives
-abbrev pub read_of : Remembered → List ℕ → Result (List ℕ) FileFault
+abbrev pub read_of : MapFilesView → List ℕ → Result (List ℕ) FileFault
 read_of m name = given (list_any (λ i. i == one_more m.reads) m.fails) (content_of m.files name)
 
 -- a fault is that of the read, but for want of memory

@@ -81,29 +81,29 @@ abbrev pub left_after : ℕ → List ℕ → List (ℕ × List ℕ)
 left_after number rest = filled (numbered (number_after number) (lines rest))
 
 -- events, and the number of the line of each
-pub record Ordered : Type 0 where
+pub record OrderView : Type 0 where
   pub events : List Event
   pub lines : List ℕ
 
 -- no event
-abbrev pub nothing_ordered : Ordered
+abbrev pub nothing_ordered : OrderView
 nothing_ordered = record { events = []; lines = [] }
 
 -- one more event, of line n
-abbrev pub with_event : Ordered → ℕ → Event → Ordered
+abbrev pub with_event : OrderView → ℕ → Event → OrderView
 with_event before n event = record { events = before.events ++ event ∷ []; lines = before.lines ++ n ∷ [] }
 
 -- the order before with the event of line n, or the fault of that line
-abbrev pub event_taken : Ordered → ℕ → Option Event → Result Ordered OrderFault
+abbrev pub event_taken : OrderView → ℕ → Option Event → Result OrderView OrderFault
 event_taken before n None = Err (BadOrder n)
 event_taken before n (Some event) = Ok (with_event before n event)
 
 -- the order before with a line, or its fault
-abbrev pub line_added : Ordered → (ℕ × List ℕ) → Result Ordered OrderFault
+abbrev pub line_added : OrderView → (ℕ × List ℕ) → Result OrderView OrderFault
 line_added before line = event_taken before line.0 (event_in (words line.1))
 
 -- the events of an order file with their lines, or its first line that is none
-abbrev pub order_of : List ℕ → Result Ordered OrderFault
+abbrev pub order_of : List ℕ → Result OrderView OrderFault
 order_of bytes = through line_added nothing_ordered (filled (numbered 1 (lines bytes)))
 
 -- what a line was read as is what it means; memory is wanted only where it means an event

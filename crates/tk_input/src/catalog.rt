@@ -5,14 +5,18 @@ ghost use Rattle.tk_input.specs.Catalog.{AreDifferent, IsFault, IsNameFault, IsW
 ghost use Rattle.tk_input.specs.Logs.{IsObject};
 ghost use Rattle.tk_input.specs.declared.catalog.CatalogFault.TheVariants.{NoMemory as OutOfMemory};
 
+use crate::name_hasher::NameHasher;
 use crate::records::Records;
 use csv::ByteRecord;
 use indexmap::IndexSet;
 use std::alloc::{AllocError, AllocFailed, Global};
 use std::error::Error;
 use std::fmt;
+use std::hash::BuildHasherDefault;
 use std::marker::Model;
 use tk_base::{NoMemory, Obj};
+
+type Names = IndexSet<Vec<u8>, BuildHasherDefault<NameHasher>>;
 
 const MAX_OBJECTS: usize = 65_536;
 
@@ -71,7 +75,7 @@ impl From<NoMemory> for CatalogFault {
 /// The names of the objects, by their places from 1.
 #[derive(Debug, Drop)]
 pub struct Catalog {
-    names: IndexSet<Vec<u8>>,
+    names: Names,
 }
 
 impl Model for Catalog {
@@ -104,7 +108,7 @@ fn only_field(row: &ByteRecord) -> Option<&[u8]>
 }
 
 /// Adds a name behind the others, by the rules of a catalogue's names.
-fn add_name(alloc: Global, names: &mut IndexSet<Vec<u8>>, name: &[u8]) -> Result<(), CatalogFault>
+fn add_name(alloc: Global, names: &mut Names, name: &[u8]) -> Result<(), CatalogFault>
     requires { length names.old.keys < 65536 }
     ensures ok { OnOk result (with_name (names_of names.old.keys) (Some name.now) ≡ Ok (names_of names.new.keys)) }
     ensures err { IfErr result (λ e. IsNameFault e (with_name (names_of names.old.keys) (Some name.now))) }
@@ -122,11 +126,7 @@ fn add_name(alloc: Global, names: &mut IndexSet<Vec<u8>>, name: &[u8]) -> Result
 }
 
 /// Adds the name of a record behind the others.
-fn take_name(
-    alloc: Global,
-    names: &mut IndexSet<Vec<u8>>,
-    name: Option<&[u8]>,
-) -> Result<(), CatalogFault>
+fn take_name(alloc: Global, names: &mut Names, name: Option<&[u8]>) -> Result<(), CatalogFault>
     ensures ok { OnOk result (next_name (names_of names.old.keys) (lent_name name.entry) ≡ Ok (names_of names.new.keys)) }
     ensures err { IfErr result (λ e. IsNameFault e (next_name (names_of names.old.keys) (lent_name name.entry))) }
     ensures few { OnOk result (length names.new.keys ≤ 65536) }
@@ -151,7 +151,7 @@ impl Catalog {
     {
         let mut rows = Records::new(alloc, bytes);
         let mut row = ByteRecord::new(alloc);
-        let mut names = IndexSet::new(alloc);
+        let mut names = IndexSet::with_hasher(alloc, BuildHasherDefault::new());
         while rows.next(&mut row)? {
             take_name(alloc, &mut names, only_field(&row))?;
         }
@@ -167,7 +167,7 @@ impl Catalog {
         ensures err { IfErr result (λ e. IsFault e (catalog_from (names_of list.now))) }
         ensures within { IfOk result IsWithin }
     {
-        let mut names = IndexSet::new(alloc);
+        let mut names = IndexSet::with_hasher(alloc, BuildHasherDefault::new());
         for name in list {
             take_name(alloc, &mut names, Some(name.as_slice()))?;
         }
@@ -181,7 +181,7 @@ impl Catalog {
     pub fn with_prefix(&self, alloc: Global, prefix: &[u8]) -> Result<Catalog, NoMemory>
         ensures { IfOk result (λ names. names ≡ names_with prefix.now self.now) }
     {
-        let mut names = IndexSet::new(alloc);
+        let mut names = IndexSet::with_hasher(alloc, BuildHasherDefault::new());
         for name in self.names.as_slice() {
             if name.as_slice().starts_with(prefix) {
                 names.insert(Vec::from_slice(alloc, name.as_slice())?)?;

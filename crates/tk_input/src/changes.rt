@@ -1,16 +1,16 @@
 ghost use Rattle.std.specs.Prelude.{◌≡◌, ◌<◌, ◌++◌, ◌∷◌, [], IfOk, OnOk, OnErr, length, map, slice_get, Some};
-ghost use Rattle.tk_input.specs.Changes.{changes_of, narrow_pair_of, pair_of};
+ghost use Rattle.tk_base.specs.Pairs.{narrow_pair_of};
+ghost use Rattle.tk_input.specs.Changes.{changes_of, pair_of};
 
 use crate::change::Change;
-use crate::narrow_change::NarrowChange;
 use std::alloc::Global;
 use std::marker::Model;
-use tk_base::NoMemory;
+use tk_base::{NarrowPair, NoMemory};
 
 /// Some changes, all in one form.
 #[derive(Drop)]
 enum Form {
-    Narrow(Vec<NarrowChange>),
+    Narrow(Vec<NarrowPair>),
     Wide(Vec<Change>),
 }
 
@@ -31,13 +31,21 @@ impl Model for Changes {
     ghost view = { λ c. changes_in c.form };
 }
 
+/// A change that was kept in 8 bytes.
+fn change_of(narrow: NarrowPair) -> Change
+    ensures { pair_of result ≡ narrow_pair_of narrow }
+{
+    let (obj, by) = narrow.wide();
+    Change { obj, by }
+}
+
 /// The same changes in 32 bytes each, with room for one more.
-fn widened(alloc: Global, list: &[NarrowChange]) -> Result<Vec<Change>, NoMemory>
+fn widened(alloc: Global, list: &[NarrowPair]) -> Result<Vec<Change>, NoMemory>
     ensures { IfOk result (λ wide. changes_of wide.items ≡ map narrow_pair_of list.now) }
 {
     let mut wide = Vec::with_capacity(alloc, list.len() + 1)?;
     for narrow in list {
-        wide.push(narrow.wide())?;
+        wide.push(change_of(*narrow))?;
     }
     Ok(wide)
 }
@@ -59,7 +67,7 @@ impl Changes {
         ensures err { OnErr result (self.new ≡ self.old) }
     {
         match &mut self.form {
-            Form::Narrow(list) => match NarrowChange::of(change) {
+            Form::Narrow(list) => match NarrowPair::of(change.obj, change.by) {
                 Some(narrow) => list.push(narrow)?,
                 None => {
                     let mut wide = widened(*list.allocator(), list.as_slice())?;
@@ -98,7 +106,7 @@ impl Changes {
         ensures { slice_get self.now i ≡ Some (result.obj.0, result.by) }
     {
         match &self.form {
-            Form::Narrow(list) => list[i].wide(),
+            Form::Narrow(list) => change_of(list[i]),
             Form::Wide(list) => list[i],
         }
     }

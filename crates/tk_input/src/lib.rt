@@ -14,7 +14,7 @@ mod files;
 mod lines;
 mod logs;
 mod map_files;
-mod narrow_change;
+mod name_hasher;
 mod number;
 mod order;
 mod part;

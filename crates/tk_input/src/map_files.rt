@@ -18,9 +18,9 @@ pub struct MapFiles {
 }
 
 impl Model for MapFiles {
-    ghost use Rattle.tk_input.specs.MapFiles.{Remembered, files_of};
+    ghost use Rattle.tk_input.specs.MapFiles.{MapFilesView, files_of};
 
-    ghost Value = { Remembered };
+    ghost Value = { MapFilesView };
 
     ghost view = { λ m. record {
       files = files_of m.files.items;

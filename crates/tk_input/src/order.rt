@@ -57,9 +57,9 @@ pub struct Order {
 
 impl Model for Order {
     ghost use Rattle.std.specs.Prelude.{◌≡◌, length};
-    ghost use Rattle.tk_input.specs.Order.{Ordered};
+    ghost use Rattle.tk_input.specs.Order.{OrderView};
 
-    ghost Value = { Ordered };
+    ghost Value = { OrderView };
 
     ghost view = { λ o. record { events = o.events.items; lines = o.lines.items } };
 

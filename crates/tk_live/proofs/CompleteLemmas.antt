@@ -54,6 +54,7 @@ use Rattle.tk_story.specs.Ends.{AreOfOneRun, HaveNothingOdd}
 use Rattle.tk_trail.specs.declared.entry.Entry.{Entry}
 use Rattle.tk_wire.specs.Net.{NetState}
 use Rattle.std.specs.Prelude.{is_some}
+use Rattle.tk_live.specs.Traffic.{traffic_of}
 use Rattle.std.proofs.lemmas.Bool.{false≢true}
 use Rattle.std.proofs.lemmas.List.FromFn.{length-map-range_with_len}
 
@@ -201,7 +202,7 @@ module _ {W : Type 0} (counts : W → Counts) (names : List (List ℕ)) (version
       → min (net1.taken + sum_by (λ wire. (counts wire).taken) (wires_of hub.links)) (2 ^ 64 - 1) ≤ second
       → min (second + sum_by (took_in version) trails) (2 ^ 64 - 1) ≤ third
       → length trails ≡ hub.coordinator.settings.monitors → All (λ t. is_stopped t ≡ true) trails
-      → IsComplete names version story was now net.taken third
+      → IsComplete names version story (traffic_of was now net.taken third)
   complete_hub h covers wires trails_ count all =
       let heard = heard_all counts hub h.kept covers (λ place within is. given place (link_at hub.links place) _ (h.tells.given place within) is) in
       record {
@@ -218,10 +219,10 @@ module _ {W : Type 0} (counts : W → Counts) (names : List (List ℕ)) (version
 -- the same of the ends that keep its coordinator
 pub complete_ends : (names : List (List ℕ)) (version : ℕ) (was now : Option (List ℕ)) (logs : LogSet) (from : List (List ℕ)) (taken taken' : ℕ) (coordinator : CoordEnd) (monitors : List MonEnd) (c : CoordinatorView)
     → coordinator.coordinator ≡ c
-    → IsComplete names version (record { settings = c.settings; logs = logs; from = from; journal = c.journal; trails = map (λ (end : MonEnd). end.monitor.trail) monitors }) was now taken taken'
-    → IsComplete names version (joined (kept_by coordinator monitors) logs from) was now taken taken'
+    → IsComplete names version (record { settings = c.settings; logs = logs; from = from; journal = c.journal; trails = map (λ (end : MonEnd). end.monitor.trail) monitors }) (traffic_of was now taken taken')
+    → IsComplete names version (joined (kept_by coordinator monitors) logs from) (traffic_of was now taken taken')
 complete_ends names version was now logs from taken taken' coordinator monitors c same complete =
-    subst (λ (k : CoordinatorView). IsComplete names version (record { settings = k.settings; logs = logs; from = from; journal = k.journal; trails = map (λ (end : MonEnd). end.monitor.trail) monitors }) was now taken taken') (sym same) complete
+    subst (λ (k : CoordinatorView). IsComplete names version (record { settings = k.settings; logs = logs; from = from; journal = k.journal; trails = map (λ (end : MonEnd). end.monitor.trail) monitors }) (traffic_of was now taken taken')) (sym same) complete
 
 -- ends of nodes that were made for an input
 pub made_run : (input : Input) (from : List (List ℕ)) (coordinator : CoordEnd) (monitors : List MonEnd) → AreAgreed input.names input.settings input.logs → IsCut input.logs.logs from

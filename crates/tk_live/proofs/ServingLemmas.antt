@@ -3,12 +3,13 @@ use Rattle.std.proofs.Common.{◌≡◌, ◌∙◌, ℕ, List, Option, Some, Non
 use Rattle.tk_words.specs.Asked.{asked_by}
 use Rattle.tk_words.specs.Words.{Asked, LiveWords, words_of}
 use Rattle.tk_words.specs.declared.command.Command.{Command}
-use Rattle.tk_load.specs.Reads.{Loads}
+use Rattle.tk_load.specs.Reads.{FileReads, Loads}
 use Rattle.tk_load.specs.declared.input.Input.{Input}
 use Rattle.tk_load.specs.declared.status.Status.{Status}
 use Rattle.tk_live.specs.Lived.{Concludes}
 use Rattle.tk_live.specs.Serving.{EndsWords, HasRun, served, status_of}
 use Rattle.tk_live.specs.Serving.EndsWords.{Ran, Unread}
+use Rattle.tk_live.specs.Traffic.{LiveSurroundings, traffic_of}
 use Rattle.tk_live.specs.declared.outcome.Outcome.{Outcome}
 use Rattle.tk_live.specs.declared.verdict.Lived.{Lived}
 
@@ -17,17 +18,17 @@ pub here : (asked : Option Asked) (read command : Command) → asked ≡ Some (a
 here asked read command found is = ap served found ∙ ap (λ (c : Command). served (Some (asked_by c))) is
 
 -- an input that has run
-pub ran : {words : List (List ℕ)} {told : List ℕ → Option (List ℕ)} {old new : List ℕ → ℕ} {before after : Option (List ℕ)} {taken taken_then : ℕ} (asked : LiveWords) (input : Input) (lived : Lived) (outcome : Outcome)
-    → served (words_of words) ≡ Some asked → Loads told old new asked.sources (Ok input) → Concludes input asked.frames before after taken taken_then lived
-    → outcome ≡ record { status = status_of lived.verdict; story = lived.story; ends = lived.ends } → EndsWords words told old new before after taken taken_then outcome
-ran {words} {told} {old} {new} {before} {after} {taken} {taken_then} asked input lived outcome is loads concludes made =
-    let run : HasRun input asked.frames before after taken taken_then (record { status = status_of lived.verdict; story = lived.story; ends = lived.ends }) =
+pub ran : {words : List (List ℕ)} {met : LiveSurroundings} (asked : LiveWords) (input : Input) (lived : Lived) (outcome : Outcome)
+    → served (words_of words) ≡ Some asked → Loads met.reads asked.sources (Ok input) → Concludes input asked.frames met.traffic lived
+    → outcome ≡ record { status = status_of lived.verdict; story = lived.story; ends = lived.ends } → EndsWords words met outcome
+ran {words} {met} asked input lived outcome is loads concludes made =
+    let run : HasRun input asked.frames met.traffic (record { status = status_of lived.verdict; story = lived.story; ends = lived.ends }) =
     record { verdict = lived.verdict; told = refl; concludes = concludes } in
-    subst (EndsWords words told old new before after taken taken_then) (sym made) (Ran asked input is loads run)
+    subst (EndsWords words met) (sym made) (Ran asked input is loads run)
 
 -- files that give no input
-pub unread : {words : List (List ℕ)} {told : List ℕ → Option (List ℕ)} {old new : List ℕ → ℕ} {before : Option (List ℕ)} {taken : ℕ} (asked : LiveWords) (status : Status) (outcome : Outcome)
-    → served (words_of words) ≡ Some asked → Loads told old new asked.sources (Err status)
-    → outcome ≡ record { status = status; story = None; ends = None } → EndsWords words told old new before before taken taken outcome
-unread {words} {told} {old} {new} {before} {taken} asked status outcome is loads made =
-    subst (EndsWords words told old new before before taken taken) (sym made) (Unread asked is loads (record { story = refl; ends = refl; unwritten = refl }))
+pub unread : {words : List (List ℕ)} {reads : FileReads} {before : Option (List ℕ)} {taken : ℕ} (asked : LiveWords) (status : Status) (outcome : Outcome)
+    → served (words_of words) ≡ Some asked → Loads reads asked.sources (Err status)
+    → outcome ≡ record { status = status; story = None; ends = None } → EndsWords words (record { reads = reads; traffic = traffic_of before before taken taken }) outcome
+unread {words} {reads} {before} {taken} asked status outcome is loads made =
+    subst (EndsWords words (record { reads = reads; traffic = traffic_of before before taken taken })) (sym made) (Unread asked is loads (record { story = refl; ends = refl; unwritten = refl }))

@@ -34,6 +34,7 @@ use Rattle.tk_live.specs.Lived.{AreOfInput, Concludes, IsOfInput, TellsEnds}
 use Rattle.tk_live.specs.declared.verdict.Lived.{Lived}
 use Rattle.tk_live.specs.declared.verdict.Verdict.{Verdict}
 use Rattle.tk_live.specs.declared.verdict.Verdict.TheVariants as v
+use Rattle.tk_live.specs.Traffic.{traffic_of}
 use Rattle.tk_live.proofs.CarriedLemmas.{carried}
 use Rattle.tk_live.proofs.LineLemmas.{grows_front}
 
@@ -52,8 +53,8 @@ text_is names s = refl
 
 -- no worker was started
 pub concludes_unstarted : (input : Input) (version : ℕ) (was : Option (List ℕ)) (taken taken' : ℕ) (verdict : Verdict) → (verdict ≡ v.LinkFault) ⊎ (verdict ≡ v.NoMemory)
-    → Concludes input version was was taken taken' (record { verdict = verdict; story = None; ends = None })
-concludes_unstarted input version was taken taken' verdict (inl is) = subst (λ x. Concludes input version was was taken taken' (record { verdict = x; story = None; ends = None })) (sym is) (record {
+    → Concludes input version (traffic_of was was taken taken') (record { verdict = verdict; story = None; ends = None })
+concludes_unstarted input version was taken taken' verdict (inl is) = subst (λ x. Concludes input version (traffic_of was was taken taken') (record { verdict = x; story = None; ends = None })) (sym is) (record {
   done = λ e. absurd (cc);
   lived = λ e. absurd (cc);
   sound = tt;
@@ -64,7 +65,7 @@ concludes_unstarted input version was taken taken' verdict (inl is) = subst (λ 
   written = refl;
   differs = tt;
 })
-concludes_unstarted input version was taken taken' verdict (inr is) = subst (λ x. Concludes input version was was taken taken' (record { verdict = x; story = None; ends = None })) (sym is) (record {
+concludes_unstarted input version was taken taken' verdict (inr is) = subst (λ x. Concludes input version (traffic_of was was taken taken') (record { verdict = x; story = None; ends = None })) (sym is) (record {
   done = λ e. absurd (cc);
   lived = λ e. absurd (cc);
   sound = tt;
@@ -79,7 +80,7 @@ concludes_unstarted input version was taken taken' verdict (inr is) = subst (λ 
 -- the ends were kept
 pub concludes_kept : (input : Input) (version : ℕ) (was now : Option (List ℕ)) (taken taken' : ℕ) (verdict : Verdict) (ends : Ends) → AreOfInput input ends
     → GrowsByFront was now (concat (lines_of input.names ends.coordinator.coordinator.journal)) → (verdict ≡ v.Done → ⊥) → TellsEnds verdict (Some ends)
-    → Concludes input version was now taken taken' (record { verdict = verdict; story = None; ends = Some ends })
+    → Concludes input version (traffic_of was now taken taken') (record { verdict = verdict; story = None; ends = Some ends })
 concludes_kept input version was now taken taken' verdict ends are grown never tells = record {
   done = λ e. absurd (never e);
   lived = λ e. absurd (never e);
@@ -103,9 +104,9 @@ joined_tells f.NoMemory ends tells = tt
 
 -- there is a story
 pub concludes_told : (law : (s : StoryView) → IsStory s → IsOver s → IsSound s) (input : Input) (version : ℕ) (was mid now : Option (List ℕ)) (taken taken' : ℕ) (kept : KeptStory) (verdict : Verdict)
-    → IsStory kept.story → IsOfInput input kept.story → IsComplete input.names version kept.story was mid taken taken'
+    → IsStory kept.story → IsOfInput input kept.story → IsComplete input.names version kept.story (traffic_of was mid taken taken')
     → (verdict ≡ v.Done → RunsBy kept.story kept.events × Grows mid now (ledger_lines kept.story)) → GrowsByFront mid now (ledger_lines kept.story) → TellsEnds verdict None
-    → Concludes input version was now taken taken' (record { verdict = verdict; story = Some kept; ends = None })
+    → Concludes input version (traffic_of was now taken taken') (record { verdict = verdict; story = Some kept; ends = None })
 concludes_told law input version was mid now taken taken' kept verdict h of_input complete done front tells = record {
   done = λ e. refl;
   lived = λ e. record {
@@ -149,16 +150,16 @@ fault_tells v.NoMemory ends fault = tt
 -- the ends were kept beside a fault
 pub concludes_fault : (input : Input) (version : ℕ) (was now : Option (List ℕ)) (taken taken' : ℕ) (verdict : Verdict) (ends : Ends) (lived : Lived) → IsFault verdict → AreOfInput input ends
     → GrowsByFront was now (concat (lines_of input.names ends.coordinator.coordinator.journal)) → lived ≡ record { verdict = verdict; story = None; ends = Some ends }
-    → Concludes input version was now taken taken' lived
+    → Concludes input version (traffic_of was now taken taken') lived
 concludes_fault input version was now taken taken' verdict ends lived fault are grown is =
-    subst (λ l. Concludes input version was now taken taken' l) (sym is) (concludes_kept input version was now taken taken' verdict ends are grown (fault_never verdict fault) (fault_tells verdict (Some ends) fault))
+    subst (λ l. Concludes input version (traffic_of was now taken taken') l) (sym is) (concludes_kept input version was now taken taken' verdict ends are grown (fault_never verdict fault) (fault_tells verdict (Some ends) fault))
 
 -- the ends did not agree, or there was no memory to see it
 pub concludes_joined : (input : Input) (version : ℕ) (was now : Option (List ℕ)) (taken taken' : ℕ) (fault : JoinFault) (ends : Ends) (lived : Lived) → AreOfInput input ends
     → GrowsByFront was now (concat (lines_of input.names ends.coordinator.coordinator.journal)) → TellsDifference (kept_by ends.coordinator ends.monitors.items) fault
-    → lived ≡ record { verdict = joined_as fault; story = None; ends = Some ends } → Concludes input version was now taken taken' lived
+    → lived ≡ record { verdict = joined_as fault; story = None; ends = Some ends } → Concludes input version (traffic_of was now taken taken') lived
 concludes_joined input version was now taken taken' fault ends lived are grown tells is =
-    subst (λ l. Concludes input version was now taken taken' l) (sym is) (concludes_kept input version was now taken taken' (joined_as fault) ends are grown (joined_never fault) (joined_tells fault ends tells))
+    subst (λ l. Concludes input version (traffic_of was now taken taken') l) (sym is) (concludes_kept input version was now taken taken' (joined_as fault) ends are grown (joined_never fault) (joined_tells fault ends tells))
 
 -- there is a story, as the ledger was printed
 pub printed_as : {A : Type 0} (printed : Result A PrintFault) (verdict : Verdict) → IsVerdictOf printed verdict → TellsEnds verdict None
@@ -186,8 +187,8 @@ none_front at text = ([], text, refl, grows_none at)
 pub of_story : (input : Input) (s t : StoryView) → t ≡ s → IsOfInput input s → IsOfInput input t
 of_story input s t same is = subst (λ x. IsOfInput input x) (sym same) is
 
-pub complete_story : (names : List (List ℕ)) (version : ℕ) (s t : StoryView) (was now : Option (List ℕ)) (taken taken' : ℕ) → t ≡ s → IsComplete names version s was now taken taken' → IsComplete names version t was now taken taken'
-complete_story names version s t was now taken taken' same is = subst (λ x. IsComplete names version x was now taken taken') (sym same) is
+pub complete_story : (names : List (List ℕ)) (version : ℕ) (s t : StoryView) (was now : Option (List ℕ)) (taken taken' : ℕ) → t ≡ s → IsComplete names version s (traffic_of was now taken taken') → IsComplete names version t (traffic_of was now taken taken')
+complete_story names version s t was now taken taken' same is = subst (λ x. IsComplete names version x (traffic_of was now taken taken')) (sym same) is
 
 -- ends that can be joined are those of an input
 pub of_run : (input : Input) (settings : Setup) (logs : LogSet) (from : List (List ℕ)) (ends : Ends) → IsFrom input settings logs from → AreOfOneRun ends.coordinator ends.monitors.items logs settings from → AreOfInput input ends

@@ -1,5 +1,5 @@
 -- What makes a story that was joined one that is over.
-use Rattle.std.specs.Prelude.{ℕ, ◌≡◌, ◌+◌, ◌-◌, ◌^◌, ◌≤◌, min, true, List, Option, sum_by}
+use Rattle.std.specs.Prelude.{ℕ, ◌≡◌, ◌+◌, ◌-◌, ◌^◌, ◌≤◌, min, true, List, sum_by}
 use Rattle.std.specs.List.{concat}
 use Rattle.tk_frames.specs.Spelling.{IsVersion}
 use Rattle.tk_input.specs.Sink.{Grows}
@@ -12,6 +12,7 @@ use Rattle.tk_story.specs.Story.{StoryView, trail_of}
 use Rattle.tk_trail.specs.Readings.{is_stopped, taken_by}
 use Rattle.tk_trail.specs.declared.entry.Entry.{Entry}
 use Rattle.tk_live.specs.Carried.{bytes_of}
+use Rattle.tk_live.specs.Traffic.{Traffic}
 
 -- the bytes that the hub heard of a monitor: its Hello, and the frames that were got of it
 abbrev pub heard_at : (ℕ → ℕ) → List Noted → ℕ → ℕ
@@ -28,8 +29,8 @@ pub record IsHeard (version : ℕ) (s : StoryView) (old new : ℕ) : Type 0 wher
   pub taken : min (old + (sum_by (heard_at said s.journal) (monitors s.settings) + sum_by (took_in version) s.trails)) (2 ^ 64 - 1) ≤ new
 
 -- Stop was sent, every monitor took it, and all lines are written
-pub record IsComplete (names : List (List ℕ)) (version : ℕ) (s : StoryView) (before after : Option (List ℕ)) (taken taken' : ℕ) : Type 0 where
+pub record IsComplete (names : List (List ℕ)) (version : ℕ) (s : StoryView) (traffic : Traffic) : Type 0 where
   pub stopped : has_sent_stop s.journal ≡ true
   pub halted : (mon : ℕ) → IsMonitor s.settings mon → is_stopped (trail_of s mon) ≡ true
-  pub written : Grows before after (concat (lines_of names s.journal))
-  pub heard : IsHeard version s taken taken'
+  pub written : Grows traffic.output.before traffic.output.after (concat (lines_of names s.journal))
+  pub heard : IsHeard version s traffic.taken traffic.taken_then

@@ -2,6 +2,7 @@ pub mod Carried
 pub mod Complete
 pub mod Crew
 pub mod Ending
+pub mod Hosted
 pub mod Hosting
 pub mod Joined
 pub mod Joining
@@ -12,3 +13,4 @@ pub mod Odd
 pub mod Parting
 pub mod Serving
 pub mod Slots
+pub mod Traffic

@@ -7,6 +7,7 @@ use Rattle.tk_input.specs.Sink.{Grows, GrowsByFront}
 use Rattle.tk_ledger.specs.Text.{lines_of, text_of}
 use Rattle.tk_load.specs.declared.input.Input.{Input}
 use Rattle.tk_run.specs.Headline.{IsSound}
+use Rattle.tk_run.specs.Surroundings.{IsUnwritten, Output}
 use Rattle.tk_story.specs.Ends.{AreOfOneRun, IsFirstOfAll, kept_by}
 use Rattle.tk_story.specs.Kept.{KeptStory}
 use Rattle.tk_story.specs.Moments.{IsOver}
@@ -14,6 +15,7 @@ use Rattle.tk_story.specs.Story.{StoryView}
 use Rattle.tk_story.specs.declared.ends.Ends.{Ends}
 use Rattle.tk_wire.specs.Net.{NetState}
 use Rattle.tk_live.specs.Carried.{IsCarried}
+use Rattle.tk_live.specs.Traffic.{Traffic, traffic_over}
 use Rattle.tk_live.specs.declared.verdict.Lived.{Lived}
 use Rattle.tk_live.specs.declared.verdict.Verdict.{Verdict}
 use Rattle.tk_live.specs.declared.verdict.Verdict.TheVariants as v
@@ -28,10 +30,10 @@ pub record IsOfInput (input : Input) (s : StoryView) : Type 0 where
 
 -- the story of a live run that is done: it runs the events that are kept with it, its text was written, where that is
 -- told, and as many bytes as it needs were taken from the links
-pub record HasLived (input : Input) (version : ℕ) (before after : Option (List ℕ)) (taken taken_then : ℕ) (kept : KeptStory) : Type 0 where
+pub record HasLived (input : Input) (version : ℕ) (traffic : Traffic) (kept : KeptStory) : Type 0 where
   pub runs : RunsFrom input.settings input.logs (beginnings input.logs) kept
-  pub written : Grows before after (text_of input.names kept.story)
-  pub carried : IsCarried version kept.story taken taken_then
+  pub written : Grows traffic.output.before traffic.output.after (text_of input.names kept.story)
+  pub carried : IsCarried version kept.story traffic.taken traffic.taken_then
 
 -- ---- what is left of any run
 
@@ -41,10 +43,10 @@ AreOfInput input ends = AreOfOneRun ends.coordinator ends.monitors.items input.l
 
 -- what was written: with a story a front of its text, with ends a front of the lines that their journal published, and
 -- with neither nothing
-abbrev pub Leaves : List (List ℕ) → Option (List ℕ) → Option (List ℕ) → Option KeptStory → Option Ends → Type 0
-Leaves names before after (Some kept) ends = GrowsByFront before after (text_of names kept.story)
-Leaves names before after None (Some ends) = GrowsByFront before after (concat (lines_of names ends.coordinator.coordinator.journal))
-Leaves names before after None None = after ≡ before
+abbrev pub Leaves : List (List ℕ) → Output → Option KeptStory → Option Ends → Type 0
+Leaves names output (Some kept) ends = GrowsByFront output.before output.after (text_of names kept.story)
+Leaves names output None (Some ends) = GrowsByFront output.before output.after (concat (lines_of names ends.coordinator.coordinator.journal))
+Leaves names output None None = IsUnwritten output
 
 -- a difference is the first that the ends show
 abbrev pub TellsEnds : Verdict → Option Ends → Type 0
@@ -57,9 +59,9 @@ TellsEnds v.LinkFault ends = ⊤
 TellsEnds v.NoMemory ends = ⊤
 
 -- what a live run leaves
-pub record Concludes (input : Input) (version : ℕ) (before after : Option (List ℕ)) (taken taken_then : ℕ) (result : Lived) : Type 0 where
+pub record Concludes (input : Input) (version : ℕ) (traffic : Traffic) (result : Lived) : Type 0 where
   pub done : result.verdict ≡ v.Done → IsSome result.story
-  pub lived : result.verdict ≡ v.Done → IfSome result.story (HasLived input version before after taken taken_then)
+  pub lived : result.verdict ≡ v.Done → IfSome result.story (HasLived input version traffic)
   -- for any story all of the headline holds, and each monitor took Stop
   pub sound : IfSome result.story (λ s. IsSound s.story)
   pub over : IfSome result.story (λ s. IsOver s.story)
@@ -67,9 +69,9 @@ pub record Concludes (input : Input) (version : ℕ) (before after : Option (Lis
   -- any ends are those of the nodes that were made for the input
   pub ends : IfSome result.ends (AreOfInput input)
   pub one : IsSome result.story → result.ends ≡ None
-  pub written : Leaves input.names before after result.story result.ends
+  pub written : Leaves input.names traffic.output result.story result.ends
   pub differs : TellsEnds result.verdict result.ends
 
 -- the same over a net, which counts the bytes that were taken from its links
-abbrev pub EndsOver : Input → ℕ → Option (List ℕ) → Option (List ℕ) → NetState → NetState → Lived → Type 0
-EndsOver input version before after net net' result = Concludes input version before after net.taken net'.taken result
+abbrev pub EndsOver : Input → ℕ → Output → NetState → NetState → Lived → Type 0
+EndsOver input version output net net' result = Concludes input version (traffic_over output net net') result

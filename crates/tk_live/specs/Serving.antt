@@ -6,7 +6,9 @@ use Rattle.tk_load.specs.Reads.{Loads}
 use Rattle.tk_load.specs.declared.input.Input.{Input}
 use Rattle.tk_load.specs.declared.status.Status.{Status}
 use Rattle.tk_load.specs.declared.status.Status.TheVariants as s
+use Rattle.tk_run.specs.Surroundings.{IsUnwritten, Output}
 use Rattle.tk_live.specs.Lived.{Concludes}
+use Rattle.tk_live.specs.Traffic.{LiveSurroundings, Traffic}
 use Rattle.tk_live.specs.declared.outcome.Outcome.{Outcome}
 use Rattle.tk_live.specs.declared.verdict.Verdict.{Verdict}
 use Rattle.tk_live.specs.declared.verdict.Verdict.TheVariants as v
@@ -31,21 +33,21 @@ status_of (v.LinkDiffers mon direction place sent received) = s.LinkDiffers mon 
 status_of v.NoMemory = s.NoMemory
 
 -- no worker was started, and nothing was written
-pub record IsUnstarted (before after : Option (List ℕ)) (outcome : Outcome) : Type 0 where
+pub record IsUnstarted (output : Output) (outcome : Outcome) : Type 0 where
   pub story : outcome.story ≡ None
   pub ends : outcome.ends ≡ None
-  pub unwritten : after ≡ before
+  pub unwritten : IsUnwritten output
 
 -- the input of the words has run, and the status tells its verdict
-pub record HasRun (input : Input) (version : ℕ) (before after : Option (List ℕ)) (taken taken_then : ℕ) (outcome : Outcome) : Type 0 where
+pub record HasRun (input : Input) (version : ℕ) (traffic : Traffic) (outcome : Outcome) : Type 0 where
   pub verdict : Verdict
   pub told : outcome.status ≡ status_of verdict
-  pub concludes : Concludes input version before after taken taken_then (record { verdict = verdict; story = outcome.story; ends = outcome.ends })
+  pub concludes : Concludes input version traffic (record { verdict = verdict; story = outcome.story; ends = outcome.ends })
 
 -- how words end: they are not those of a live run; there was no memory for them; their files give no input, by the first
 -- rule that fails; or their input has run
-pub data EndsWords (words : List (List ℕ)) (told : List ℕ → Option (List ℕ)) (old new : List ℕ → ℕ) (before after : Option (List ℕ)) (taken taken_then : ℕ) (outcome : Outcome) : Type 0 where
-  Refused : served (words_of words) ≡ None → outcome.status ≡ s.Usage → IsUnstarted before after outcome → EndsWords words told old new before after taken taken_then outcome
-  Unmet : outcome.status ≡ s.NoMemory → IsUnstarted before after outcome → EndsWords words told old new before after taken taken_then outcome
-  Unread : (asked : LiveWords) → served (words_of words) ≡ Some asked → Loads told old new asked.sources (Err outcome.status) → IsUnstarted before after outcome → EndsWords words told old new before after taken taken_then outcome
-  Ran : (asked : LiveWords) (input : Input) → served (words_of words) ≡ Some asked → Loads told old new asked.sources (Ok input) → HasRun input asked.frames before after taken taken_then outcome → EndsWords words told old new before after taken taken_then outcome
+pub data EndsWords (words : List (List ℕ)) (met : LiveSurroundings) (outcome : Outcome) : Type 0 where
+  Refused : served (words_of words) ≡ None → outcome.status ≡ s.Usage → IsUnstarted met.traffic.output outcome → EndsWords words met outcome
+  Unmet : outcome.status ≡ s.NoMemory → IsUnstarted met.traffic.output outcome → EndsWords words met outcome
+  Unread : (asked : LiveWords) → served (words_of words) ≡ Some asked → Loads met.reads asked.sources (Err outcome.status) → IsUnstarted met.traffic.output outcome → EndsWords words met outcome
+  Ran : (asked : LiveWords) (input : Input) → served (words_of words) ≡ Some asked → Loads met.reads asked.sources (Ok input) → HasRun input asked.frames met.traffic outcome → EndsWords words met outcome

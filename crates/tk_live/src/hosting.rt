@@ -2,6 +2,7 @@ ghost use Rattle.std.specs.Prelude.{◌≡◌, true, IfSome};
 ghost use Rattle.tk_hub.specs.Hub.{IsHub};
 ghost use Rattle.tk_hub.specs.declared.course.Course.TheVariants.{Open};
 ghost use Rattle.tk_live.specs.declared.parting.Parting.TheVariants.{Finished as Done};
+ghost use Rattle.tk_live.specs.Hosted.{HostsFrom};
 ghost use Rattle.tk_live.specs.Hosting.{CanHost, Closes, HasGone, Hosts, IsOfNet, IsRefusedCourse};
 
 use crate::parting::Parting;
@@ -102,9 +103,7 @@ impl<'h, N: Net, O: Sink> Host<'h, N, O> {
         requires { CanHost self.hub (N.state self.net.now) names.now }
         ensures same_net { result.0.net.ghost_name ≡ self.entry.net.ghost_name }
         ensures same_out { result.0.out.ghost_name ≡ self.entry.out.ghost_name }
-        ensures hosts { Hosts result.1 names.now self.entry.hub result.0.hub
-            (N.state self.entry.net.now) (N.state result.0.net.now)
-            (O.written self.entry.out.now) (O.written result.0.out.now) }
+        ensures hosts { HostsFrom N.state O.Sink result.1 names.now self.entry result.0 }
     {
         let Host { mut hub, net, out } = self;
         let parting = attend(rt, &mut hub, net, names, out, alarm);

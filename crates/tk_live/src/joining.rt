@@ -1,13 +1,9 @@
-ghost use Rattle.std.specs.Prelude.{◌≡◌, ℕ, List, Option, OnOk, OnErr};
-ghost use Rattle.std.specs.List.{concat};
+ghost use Rattle.std.specs.Prelude.{◌≡◌, OnOk, OnErr};
 ghost use Rattle.tk_input.specs.Files.{HasRisen};
 ghost use Rattle.tk_input.specs.Sink.{Grows, GrowsByFront};
-ghost use Rattle.tk_ledger.specs.Text.{lines_of};
-ghost use Rattle.tk_load.specs.declared.input.Input.{Input as InputOf};
+ghost use Rattle.tk_run.specs.Surroundings.{output_by};
 ghost use Rattle.tk_story.specs.Ends.{AreOfOneRun};
-ghost use Rattle.tk_live.specs.Complete.{IsComplete};
-ghost use Rattle.tk_live.specs.Joining.{IsCompleteUnlessOdd, IsFrom, IsVerdictOf, ledger_lines};
-ghost use Rattle.tk_live.specs.Lived.{Concludes, IsOfInput};
+ghost use Rattle.tk_live.specs.Joining.{ConcludesEnds, ConcludesStory, IsVerdictOf, ledger_lines};
 ghost use Rattle.tk_live.specs.declared.verdict.Verdict.TheVariants.{LinkFault as Unlinked, WriteFault as Unwritten};
 
 use crate::verdict::{Lived, Verdict};
@@ -44,9 +40,7 @@ fn verdict_of<O: Sink>(printed: Result<(), PrintFault>, faults: u64, out: &O) ->
 
 /// Gives a story that is over its events, and writes the lines of its ledger.
 fn finish<O: Sink>(alloc: Global, story: Story, faults: u64, out: &mut O) -> Lived
-    ensures concludes { (input : InputOf) (version : ℕ) (was : Option (List ℕ)) (taken taken' : ℕ) → IsOfInput input story.story
-        → IsComplete input.names version story.story was (O.written out.old) taken taken'
-        → Concludes input version was (O.written out.new) taken taken' result }
+    ensures concludes { ConcludesStory story.story (output_by O.Sink out.old out.new) result }
     ensures unlinked { result.verdict ≡ Unlinked → ⊥ }
     ensures risen { result.verdict ≡ Unwritten → HasRisen faults (O.fault_count out.new) }
 {
@@ -73,11 +67,7 @@ pub fn join_ends<O: Sink>(
     out: &mut O,
 ) -> Lived
     requires { AreOfOneRun ends.coordinator ends.monitors.items logs settings from }
-    ensures concludes { (input : InputOf) (version : ℕ) (was : Option (List ℕ)) (taken taken' : ℕ)
-        → IsFrom input settings logs from
-        → IsCompleteUnlessOdd input.names version ends logs from was (O.written out.old) taken taken'
-        → GrowsByFront was (O.written out.old) (concat (lines_of input.names ends.coordinator.coordinator.journal))
-        → Concludes input version was (O.written out.new) taken taken' result }
+    ensures concludes { ConcludesEnds settings logs from ends (output_by O.Sink out.old out.new) result }
     ensures unlinked { result.verdict ≡ Unlinked → ⊥ }
     ensures risen { result.verdict ≡ Unwritten → HasRisen faults (O.fault_count out.new) }
 {

@@ -1,17 +1,15 @@
-ghost use Rattle.std.specs.Prelude.{◌≡◌, ◌≤◌, ℕ, List, Option, [], false, length, map, vec_capacity};
-ghost use Rattle.std.specs.List.{concat};
+ghost use Rattle.std.specs.Prelude.{◌≡◌, ◌≤◌, [], false, length, map, vec_capacity};
 ghost use Rattle.tk_frames.specs.Spelling.{IsVersion};
 ghost use Rattle.tk_input.specs.Files.{HasRisen};
 ghost use Rattle.tk_input.specs.Logs.{IsCut, beginnings};
-ghost use Rattle.tk_input.specs.Sink.{GrowsByFront};
 ghost use Rattle.tk_journal.specs.Legal.{opened, start as begun_by};
-ghost use Rattle.tk_ledger.specs.Text.{lines_of};
 ghost use Rattle.tk_load.specs.Whole.{AreAgreed};
 ghost use Rattle.tk_live.specs.Crew.{made_in};
 ghost use Rattle.tk_live.specs.Hosting.{CanHost};
-ghost use Rattle.tk_live.specs.Left.{IsCompleteLeft};
-ghost use Rattle.tk_live.specs.Lived.{AreOfInput, Concludes, EndsOver};
+ghost use Rattle.tk_live.specs.Left.{ConcludesLeft};
+ghost use Rattle.tk_live.specs.Lived.{AreOfInput, EndsOver};
 ghost use Rattle.tk_live.specs.Made.{all_made};
+ghost use Rattle.tk_run.specs.Surroundings.{output_by};
 ghost use Rattle.tk_live.specs.declared.verdict.Verdict.TheVariants.{LinkFault as Unlinked, WriteFault as Unwritten};
 
 use crate::ending::{Choice, choose, is_odd};
@@ -51,10 +49,7 @@ fn conclude<N: Net, O: Sink>(
 ) -> Lived
     requires run { AreOfInput input left.ends }
     requires from { from ≡ beginnings input.logs }
-    ensures concludes { (version : ℕ) (was : Option (List ℕ)) (taken taken' : ℕ)
-        → GrowsByFront was (O.written out.old) (concat (lines_of input.names left.ends.coordinator.coordinator.journal))
-        → IsCompleteLeft input version from left was (O.written out.old) taken taken'
-        → Concludes input version was (O.written out.new) taken taken' result }
+    ensures concludes { ConcludesLeft input from left (output_by O.Sink out.old out.new) result }
     ensures failed { result.verdict ≡ Unlinked → HasRisen faults.net (N.state net.now).faults }
     ensures unwritten { result.verdict ≡ Unwritten → HasRisen faults.out (O.fault_count out.new) }
 {
@@ -97,7 +92,7 @@ fn run_stage<R: Threads + Wait + Sync, N: Net, G: Gate + Sync, O: Sink>(
     requires made { map (λ b. made_in b.port.monitor b.version) stage.crew.berths.items ≡ all_made input from version }
     requires empty { stage.ends.items ≡ [] }
     requires room { length stage.crew.berths.items ≤ vec_capacity stage.ends }
-    ensures ends { EndsOver input version (O.written out.old) (O.written out.new) (N.state net.old) (N.state net.new) result }
+    ensures ends { EndsOver input version (output_by O.Sink out.old out.new) (N.state net.old) (N.state net.new) result }
     ensures failed { result.verdict ≡ Unlinked → HasRisen faults.net (N.state net.new).faults }
     ensures unwritten { result.verdict ≡ Unwritten → HasRisen faults.out (O.fault_count out.new) }
 {
@@ -136,7 +131,7 @@ pub fn live_over<R: Threads + Wait + Sync, N: Net, G: Gate + Sync, O: Sink>(
     requires links { (N.state net.old).links ≡ 0 }
     // Done tells a story that is sound, of this input, whose events it runs; its text is written, and its bytes came over
     // the links. Any other verdict leaves the story or the ends, and a front of what is written of them.
-    ensures ends { EndsOver input version (O.written out.old) (O.written out.new) (N.state net.old) (N.state net.new) result }
+    ensures ends { EndsOver input version (output_by O.Sink out.old out.new) (N.state net.old) (N.state net.new) result }
     // Each fault has its cause.
     ensures failed { result.verdict ≡ Unlinked → HasRisen (N.state net.old).faults (N.state net.new).faults }
     ensures unwritten { result.verdict ≡ Unwritten → HasRisen (O.fault_count out.old) (O.fault_count out.new) }

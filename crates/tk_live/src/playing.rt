@@ -1,5 +1,6 @@
 ghost use Rattle.std.specs.Prelude.{◌≡◌, map};
 ghost use Rattle.tk_live.specs.Crew.{made_in};
+ghost use Rattle.tk_live.specs.Hosted.{HostsFrom};
 ghost use Rattle.tk_live.specs.Hosting.{CanHost, Hosts};
 
 use crate::berths::Crew;
@@ -30,8 +31,7 @@ fn play_beside<'s, 'a: 's, 'h, R: Threads + Wait + Sync, N: Net + 'a, G: Gate + 
     requires { CanHost host.hub (N.state host.net.now) names.now }
     ensures same_net { result.0.net.ghost_name ≡ host.entry.net.ghost_name }
     ensures same_out { result.0.out.ghost_name ≡ host.entry.out.ghost_name }
-    ensures hosts { Hosts result.1 names.now host.entry.hub result.0.hub (N.state host.entry.net.now) (N.state result.0.net.now)
-        (O.written host.entry.out.now) (O.written result.0.out.now) }
+    ensures hosts { HostsFrom N.state O.Sink result.1 names.now host.entry result.0 }
     ensures made { map (λ w. made_in w.served.end.monitor w.version) result.2.items
         ≡ map (λ b. made_in b.port.monitor b.version) crew.berths.items }
 {
@@ -58,8 +58,7 @@ fn play_in<'a, 'h, R: Threads + Wait + Sync, N: Net + 'a, G: Gate + Sync, O: Sin
     requires { CanHost host.hub (N.state host.net.now) names.now }
     ensures same_net { result.0.net.ghost_name ≡ host.entry.net.ghost_name }
     ensures same_out { result.0.out.ghost_name ≡ host.entry.out.ghost_name }
-    ensures hosts { Hosts result.1 names.now host.entry.hub result.0.hub (N.state host.entry.net.now) (N.state result.0.net.now)
-        (O.written host.entry.out.now) (O.written result.0.out.now) }
+    ensures hosts { HostsFrom N.state O.Sink result.1 names.now host.entry result.0 }
     ensures made { map (λ w. made_in w.served.end.monitor w.version) result.2.items
         ≡ map (λ b. made_in b.port.monitor b.version) crew.berths.items }
 {
@@ -70,9 +69,7 @@ fn play_in<'a, 'h, R: Threads + Wait + Sync, N: Net + 'a, G: Gate + Sync, O: Sin
             requires { CanHost host.hub (N.state host.net.now) names.now }
             ensures same_net { result.0.net.ghost_name ≡ host.entry.net.ghost_name }
             ensures same_out { result.0.out.ghost_name ≡ host.entry.out.ghost_name }
-            ensures hosts { Hosts result.1 names.entry.now host.entry.hub result.0.hub
-                (N.state host.entry.net.now) (N.state result.0.net.now)
-                (O.written host.entry.out.now) (O.written result.0.out.now) }
+            ensures hosts { HostsFrom N.state O.Sink result.1 names.entry.now host.entry result.0 }
             ensures made { map (λ w. made_in w.served.end.monitor w.version) result.2.items
                 ≡ map (λ b. made_in b.port.monitor b.version) crew.berths.items }
         { play_beside(scope, rt, crew, host, names, gate, signals) },

@@ -1,6 +1,7 @@
 ghost use Rattle.std.specs.Prelude.{◌≡◌, ◌≤◌, true, All, [], length, map, sum_by, vec_capacity};
-ghost use Rattle.tk_trail.specs.Readings.{is_stopped, taken_by};
-ghost use Rattle.tk_live.specs.Carried.{HasTaken, bytes_of};
+ghost use Rattle.tk_trail.specs.Readings.{is_stopped};
+ghost use Rattle.tk_live.specs.Carried.{HasTaken};
+ghost use Rattle.tk_live.specs.Complete.{took_in};
 ghost use Rattle.tk_live.specs.Crew.{graver as graver_of, gravest};
 
 use crate::worked::Worked;
@@ -45,8 +46,8 @@ pub fn part<N: Net>(
     ensures ends { result.0.items ≡ map (λ w. w.served.end) workers.items }
     ensures cause { result.1 ≡ gravest (map (λ w. w.served.why) workers.items) }
     ensures stopped { result.1 ≡ Why.Stopped → All (λ w. is_stopped w.served.end.monitor.trail ≡ true) workers.items }
-    ensures taken { let heard = sum_by (λ w. bytes_of w.version (taken_by w.served.end.monitor.trail)) workers.items in
-        HasTaken (N.state net.old) (N.state net.new) heard }
+    ensures taken { HasTaken (N.state net.old) (N.state net.new)
+        (sum_by (λ w. took_in w.version w.served.end.monitor.trail) workers.items) }
 {
     let mut ends = room;
     let mut cause = Why::Stopped;

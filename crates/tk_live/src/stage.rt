@@ -57,12 +57,7 @@ fn make_berth<N: Net>(
     ensures links { IfOk result (λ b. (N.state net.new).links ≡ (N.state net.old).links + 1) }
     ensures gone { HasGone (N.state net.old) (N.state net.new) }
 {
-    let Plan {
-        input,
-        from,
-        version,
-        run,
-    } = *plan;
+    let Plan { input, from, .. } = *plan;
     let (link, rest, bell) = match net.connect() {
         Ok(made) => made,
         Err(fault) => return Err(fault),
@@ -74,12 +69,12 @@ fn make_berth<N: Net>(
     let Ok(monitor) = Monitor::new(alloc, &input.settings, mon, parts, places) else {
         return Err(NetFault::NoMemory);
     };
-    let Ok(port) = Port::new(alloc, link, monitor, run, version) else {
+    let Ok(port) = Port::new(alloc, link, monitor, plan.run, plan.version) else {
         return Err(NetFault::NoMemory);
     };
     Ok(Berth {
         port,
-        version,
+        version: plan.version,
         rest,
         bell,
     })
@@ -110,6 +105,37 @@ fn make_berths<N: Net>(
         };
     }
     Ok(berths)
+}
+
+/// A port for each monitor, and the room for the workers and for what they leave.
+fn make_crew<N: Net>(
+    alloc: Global,
+    plan: &Plan<'_>,
+    net: &mut N,
+) -> Result<Crew<N::Link, N::Rest, N::Bell>, NetFault>
+    requires agreed { AreAgreed plan.now.input.now.names plan.now.input.now.settings plan.now.input.now.logs }
+    requires cut { IsCut plan.now.input.now.logs.logs plan.now.from.now }
+    requires version { IsVersion plan.now.version }
+    requires listens { (N.state net.old).listens ≡ true }
+    requires links { (N.state net.old).links ≡ 0 }
+    ensures made { IfOk result (λ c. map (λ b. made_in b.port.monitor b.version) c.berths.items ≡ all_planned plan.now) }
+    ensures gone { HasGone (N.state net.old) (N.state net.new) }
+{
+    let berths = match make_berths(alloc, plan, net) {
+        Ok(berths) => berths,
+        Err(fault) => return Err(fault),
+    };
+    let Ok(slots) = Vec::with_capacity(alloc, berths.len()) else {
+        return Err(NetFault::NoMemory);
+    };
+    let Ok(workers) = Vec::with_capacity(alloc, berths.len()) else {
+        return Err(NetFault::NoMemory);
+    };
+    Ok(Crew {
+        berths,
+        slots,
+        workers,
+    })
 }
 
 /// A hub for the settings of an input.
@@ -154,27 +180,16 @@ pub fn make_stage<N: Net>(
     if let Err(fault) = net.listen() {
         return Err(fault);
     }
-    let berths = match make_berths(alloc, plan, net) {
-        Ok(berths) => berths,
+    let crew = match make_crew(alloc, plan, net) {
+        Ok(crew) => crew,
         Err(fault) => return Err(fault),
     };
     let hub = match make_hub(alloc, plan) {
         Ok(hub) => hub,
         Err(fault) => return Err(fault),
     };
-    let Ok(slots) = Vec::with_capacity(alloc, berths.len()) else {
+    let Ok(ends) = Vec::with_capacity(alloc, crew.berths.len()) else {
         return Err(NetFault::NoMemory);
-    };
-    let Ok(workers) = Vec::with_capacity(alloc, berths.len()) else {
-        return Err(NetFault::NoMemory);
-    };
-    let Ok(ends) = Vec::with_capacity(alloc, berths.len()) else {
-        return Err(NetFault::NoMemory);
-    };
-    let crew = Crew {
-        berths,
-        slots,
-        workers,
     };
     Ok(Stage { hub, crew, ends })
 }

@@ -2,10 +2,11 @@
 use Rattle.std.proofs.Common.{◌≡◌, ℕ, max, List, [], All, Option, Some, None, IfSome, unwrap_or, option_map, Result, Ok, Err, get_or, length, map, refl, ap, sym, subst, ◌∙◌}
 use Rattle.std.proofs.lemmas.List.Folds.{fold-map}
 use Rattle.tk_input.specs.Records.{and_then}
+use Rattle.tk_input.specs.declared.files.Files.{Ghosts as FilesOf}
 use Rattle.tk_words.specs.Words.{SourceWords}
 use Rattle.tk_load.specs.Faults.{Fault, after}
 use Rattle.tk_load.specs.Input.{File, ReadWords, basis_of, greatest_monitor, limits_in, logs_in, names_in, together}
-use Rattle.tk_load.specs.Reads.{AreKept, AreRead, IsRead, LoadsBasis, LoadsBy, Reads, ReadsLogs, ReadsOrder, Tells, log_of, without_order, words_of}
+use Rattle.tk_load.specs.Reads.{AreKept, AreRead, FileReads, IsRead, LoadsBasis, LoadsBy, Reads, ReadsLogs, ReadsOrder, Tells, log_of, reads_by, without_order, words_of}
 use Rattle.tk_window.specs.TickEnds.{Sources}
 use Rattle.tk_load.specs.declared.basis.Basis.{Basis}
 use Rattle.tk_load.specs.declared.changes.Together.{Together}
@@ -58,9 +59,9 @@ pub order_unread : (told : List ℕ → Option (List ℕ)) (order : Option (List
 order_unread told None = refl
 order_unread told (Some name) = refl
 
-pub read_order_unread : (told : List ℕ → Option (List ℕ)) (old new : List ℕ → ℕ) (order : Option (List ℕ)) → IfSome (unread_order told order) (IsRead told old new)
-read_order_unread told old new None = tt
-read_order_unread told old new (Some name) = gave_told (told name) (old name) (new name)
+pub read_order_unread : (reads : FileReads) (order : Option (List ℕ)) → IfSome (unread_order reads.told order) (IsRead reads)
+read_order_unread reads None = tt
+read_order_unread reads (Some name) = gave_told (reads.told name) (reads.failed name) (reads.failed_then name)
 
 -- the words with these files, and no order
 abbrev with_files : SourceWords → Option (List ℕ) → List (ℕ × File) → ReadWords
@@ -78,33 +79,35 @@ words_with : (words : SourceWords) (content : Option (List ℕ)) (logs : List (�
 words_with words content logs are = ap (λ (l : List (ℕ × List ℕ)). record (without_order words) { logs = l }) are
 
 -- what was read before other files, after them or between them
-pub logs_before : (t t' : List ℕ → Option (List ℕ)) (a b c : List ℕ → ℕ) (logs : List (ℕ × File)) → All (λ (log : ℕ × File). IsRead t a b log.1) logs → AreKept t t' b c → All (λ (log : ℕ × File). IsRead t a c log.1) logs
-logs_before t t' a b c logs read kept = λ i d within. read_before t t' a b c (get_or logs i d).1 (read i d within) kept
+pub logs_before : {F : Type 0} (files : FilesOf F) (a b c : F) (logs : List (ℕ × File)) → All (λ (log : ℕ × File). IsRead (reads_by files a b) log.1) logs → AreKept files b c
+    → All (λ (log : ℕ × File). IsRead (reads_by files a c) log.1) logs
+logs_before files a b c logs read kept = λ i d within. read_before files a b c (get_or logs i d).1 (read i d within) kept
 
-pub logs_after : (t t' t'' : List ℕ → Option (List ℕ)) (a b c : List ℕ → ℕ) (logs : List (ℕ × File)) → AreKept t t' a b → All (λ (log : ℕ × File). IsRead t' b c log.1) logs → AreKept t' t'' b c → All (λ (log : ℕ × File). IsRead t a c log.1) logs
-logs_after t t' t'' a b c logs first read last = λ i d within. read_after t t' t'' a b c (get_or logs i d).1 first (read i d within) last
+pub logs_after : {F : Type 0} (files : FilesOf F) (a b c : F) (logs : List (ℕ × File)) → AreKept files a b → All (λ (log : ℕ × File). IsRead (reads_by files b c) log.1) logs → AreKept files b c
+    → All (λ (log : ℕ × File). IsRead (reads_by files a c) log.1) logs
+logs_after files a b c logs first read last = λ i d within. read_after files a b c (get_or logs i d).1 first (read i d within) last
 
-pub order_after : (t t' t'' : List ℕ → Option (List ℕ)) (a b c : List ℕ → ℕ) (order : Option File) → AreKept t t' a b → IfSome order (IsRead t' b c) → AreKept t' t'' b c → IfSome order (IsRead t a c)
-order_after t t' t'' a b c None first read last = tt
-order_after t t' t'' a b c (Some file) first read last = read_after t t' t'' a b c file first read last
+pub order_after : {F : Type 0} (files : FilesOf F) (a b c : F) (order : Option File) → AreKept files a b → IfSome order (IsRead (reads_by files b c)) → AreKept files b c → IfSome order (IsRead (reads_by files a c))
+order_after files a b c None first read last = tt
+order_after files a b c (Some file) first read last = read_after files a b c file first read last
 
-module _ (t0 t1 : List ℕ → Option (List ℕ)) (f0 f1 : List ℕ → ℕ) (words : SourceWords) (kept1 : AreKept t0 t1 f0 f1) where
+module _ {F : Type 0} (files : FilesOf F) (s0 s1 : F) (words : SourceWords) (kept1 : AreKept files s0 s1) where
   abbrev ReadsNames : Result (List (List ℕ)) Status → Type 0
-  ReadsNames answer = Reads t0 f0 f1 words.objects (λ (names : List (List ℕ)). names) names_in answer
+  ReadsNames answer = Reads (reads_by files s0 s1) words.objects (λ (names : List (List ℕ)). names) names_in answer
 
   -- where no log was read
-  no_logs : (content : Option (List ℕ)) → IsRead t0 f0 f1 (record { name = words.objects; content = content }) → AreRead t0 f0 f1 (without_order words) (with_files words content (unread t0 words.logs))
+  no_logs : (content : Option (List ℕ)) → IsRead (reads_by files s0 s1) (record { name = words.objects; content = content }) → AreRead (reads_by files s0 s1) (without_order words) (with_files words content (unread (files.content s0) words.logs))
   no_logs content objects = record {
-    same = words_with words content (unread t0 words.logs) (names_unread t0 words.logs);
+    same = words_with words content (unread (files.content s0) words.logs) (names_unread (files.content s0) words.logs);
     objects = objects;
-    logs = read_unread t0 f0 f1 words.logs;
+    logs = read_unread (reads_by files s0 s1) words.logs;
     order = tt;
   }
 
   -- the objects are refused
-  pub names_refused : (status : Status) → ReadsNames (Err status) → LoadsBasis t0 f0 f1 words (Err status)
+  pub names_refused : (status : Status) → ReadsNames (Err status) → LoadsBasis (reads_by files s0 s1) words (Err status)
   names_refused status names =
-      let read = with_files words names.content (unread t0 words.logs) in record {
+      let read = with_files words names.content (unread (files.content s0) words.logs) in record {
         read = read;
         are_read = no_logs names.content names.read;
         meets = tells_on status (names_in read.objects) (from_names read) names.meets;
@@ -112,18 +115,18 @@ module _ (t0 t1 : List ℕ → Option (List ℕ)) (f0 f1 : List ℕ → ℕ) (wo
 
   module _ (names : List (List ℕ)) (reads : ReadsNames (Ok names)) where
     -- the settings are refused
-    pub settings_refused : (status : Status) → Tells status (limits_in words.k words.epsilon words.own_weight words.width (length names) (greatest_monitor words.logs)) → LoadsBasis t0 f0 f1 words (Err status)
+    pub settings_refused : (status : Status) → Tells status (limits_in words.k words.epsilon words.own_weight words.width (length names) (greatest_monitor words.logs)) → LoadsBasis (reads_by files s0 s1) words (Err status)
     settings_refused status tells =
-        let read = with_files words reads.content (unread t0 words.logs) in record {
+        let read = with_files words reads.content (unread (files.content s0) words.logs) in record {
           read = read;
           are_read = no_logs reads.content reads.read;
           meets = subst (λ (m : Result Basis Fault). Tells status m) (sym (at_names read names reads.meets))
               (tells_on status (settings_at read names) (from_settings read names)
-              (subst (λ (last : ℕ). Tells status (limits_in words.k words.epsilon words.own_weight words.width (length names) last)) (sym (greatest_of (unread t0 words.logs) words.logs (names_unread t0 words.logs))) tells));
+              (subst (λ (last : ℕ). Tells status (limits_in words.k words.epsilon words.own_weight words.width (length names) last)) (sym (greatest_of (unread (files.content s0) words.logs) words.logs (names_unread (files.content s0) words.logs))) tells));
         }
 
     module _ (settings : Limits) (set : limits_in words.k words.epsilon words.own_weight words.width (length names) (greatest_monitor words.logs) ≡ Ok settings)
-        (t2 : List ℕ → Option (List ℕ)) (f2 : List ℕ → ℕ) (kept2 : AreKept t1 t2 f1 f2) where
+        (s2 : F) (kept2 : AreKept files s1 s2) where
       -- the settings and the names, whatever logs come after
       settled : (logs : List (ℕ × File)) → map log_of logs ≡ words.logs → basis_of (with_files words reads.content logs) ≡ from_settings (with_files words reads.content logs) names settings
       settled logs are =
@@ -132,29 +135,29 @@ module _ (t0 t1 : List ℕ → Option (List ℕ)) (f0 f1 : List ℕ → ℕ) (wo
           ∙ at_settings read names settings (ap (λ (last : ℕ). limits_in words.k words.epsilon words.own_weight words.width (length names) last) (greatest_of logs words.logs are) ∙ set)
 
       -- so are they read, with the logs
-      with_logs : (logs : List (ℕ × File)) → map log_of logs ≡ words.logs → All (λ (log : ℕ × File). IsRead t1 f1 f2 log.1) logs → AreRead t0 f0 f2 (without_order words) (with_files words reads.content logs)
+      with_logs : (logs : List (ℕ × File)) → map log_of logs ≡ words.logs → All (λ (log : ℕ × File). IsRead (reads_by files s1 s2) log.1) logs → AreRead (reads_by files s0 s2) (without_order words) (with_files words reads.content logs)
       with_logs logs are read =
           let all = with_files words reads.content logs in record {
             same = words_with words reads.content logs are;
-            objects = read_before t0 t2 f0 f1 f2 all.objects reads.read (record { same = λ n. kept2.same n ∙ kept1.same n; counts = kept2.counts });
-            logs = logs_after t0 t1 t2 f0 f1 f2 logs kept1 read kept2;
+            objects = read_before files s0 s1 s2 all.objects reads.read kept2;
+            logs = logs_after files s0 s1 s2 logs kept1 read kept2;
             order = tt;
           }
 
       -- a log is refused
-      pub logs_refused : {A : Type 0} (view : A → Sources) (status : Status) → ReadsLogs t1 f1 f2 words.logs view (logs_in settings.width names) (Err status) → LoadsBasis t0 f0 f2 words (Err status)
+      pub logs_refused : {A : Type 0} (view : A → Sources) (status : Status) → ReadsLogs (reads_by files s1 s2) words.logs view (logs_in settings.width names) (Err status) → LoadsBasis (reads_by files s0 s2) words (Err status)
       logs_refused view status logs = record {
         read = with_files words reads.content logs.logs;
         are_read = with_logs logs.logs logs.are_of logs.read;
         meets = subst (λ (m : Result Basis Fault). Tells status m) (sym (settled logs.logs logs.are_of)) (tells_on status (logs_in settings.width names logs.logs) (from_logs names settings) logs.meets);
       }
 
-      module _ (parts : Sources) (logs : ReadsLogs t1 f1 f2 words.logs (λ (logs : Sources). logs) (logs_in settings.width names) (Ok parts)) where
+      module _ (parts : Sources) (logs : ReadsLogs (reads_by files s1 s2) words.logs (λ (logs : Sources). logs) (logs_in settings.width names) (Ok parts)) where
         to_logs : basis_of (with_files words reads.content logs.logs) ≡ from_logs names settings parts
         to_logs = settled logs.logs logs.are_of ∙ at_logs (with_files words reads.content logs.logs) names settings parts logs.meets
 
         -- the logs together are refused
-        pub joined_refused : (status : Status) → Tells status (together settings.width parts (length names)) → LoadsBasis t0 f0 f2 words (Err status)
+        pub joined_refused : (status : Status) → Tells status (together settings.width parts (length names)) → LoadsBasis (reads_by files s0 s2) words (Err status)
         joined_refused status tells = record {
           read = with_files words reads.content logs.logs;
           are_read = with_logs logs.logs logs.are_of logs.read;
@@ -162,7 +165,7 @@ module _ (t0 t1 : List ℕ → Option (List ℕ)) (f0 f1 : List ℕ → ℕ) (wo
         }
 
         -- nothing is refused
-        pub basis_loaded : (all : Together) → together settings.width parts (length names) ≡ Ok all → LoadsBasis t0 f0 f2 words (Ok (whole names settings all))
+        pub basis_loaded : (all : Together) → together settings.width parts (length names) ≡ Ok all → LoadsBasis (reads_by files s0 s2) words (Ok (whole names settings all))
         basis_loaded all join = record {
           read = with_files words reads.content logs.logs;
           are_read = with_logs logs.logs logs.are_of logs.read;
@@ -171,7 +174,7 @@ module _ (t0 t1 : List ℕ → Option (List ℕ)) (f0 f1 : List ℕ → ℕ) (wo
 
 -- ---- the order behind it, whatever an order is and whatever is made of it
 
-module _ {O I : Type 0} (order_at : Basis → Option File → Result (Option O) Fault) (made : Basis → Option O → I) (t0 t1 : List ℕ → Option (List ℕ)) (f0 f1 : List ℕ → ℕ) (words : SourceWords) where
+module _ {O I : Type 0} (order_at : Basis → Option File → Result (Option O) Fault) (made : Basis → Option O → I) {F : Type 0} (files : FilesOf F) (s0 s1 : F) (words : SourceWords) where
   abbrev with_order : ReadWords → Option File → ReadWords
   with_order read order = record read { order = order }
 
@@ -187,36 +190,33 @@ module _ {O I : Type 0} (order_at : Basis → Option File → Result (Option O) 
       ∙ ap (λ (name : Option (List ℕ)). record words { order = name }) is
 
   -- what stands in front is refused
-  pub basis_refused : (status : Status) → LoadsBasis t0 f0 f1 words (Err status) → LoadsBy meant t0 f0 f1 words (Err status)
+  pub basis_refused : (status : Status) → LoadsBasis (reads_by files s0 s1) words (Err status) → LoadsBy meant (reads_by files s0 s1) words (Err status)
   basis_refused status basis =
-      let order = unread_order t0 words.order in record {
+      let order = unread_order (files.content s0) words.order in record {
         read = with_order basis.read order;
         are_read = record {
-          same = same_words basis.read order basis.are_read.same (order_unread t0 words.order);
+          same = same_words basis.read order basis.are_read.same (order_unread (files.content s0) words.order);
           objects = basis.are_read.objects;
           logs = basis.are_read.logs;
-          order = read_order_unread t0 f0 f1 words.order;
+          order = read_order_unread (reads_by files s0 s1) words.order;
         };
         meets = tells_on status (basis_of basis.read) (from_basis order) basis.meets;
       }
 
-  module _ (basis : Basis) (given : LoadsBasis t0 f0 f1 words (Ok basis)) (t2 : List ℕ → Option (List ℕ)) (f2 : List ℕ → ℕ) (kept1 : AreKept t0 t1 f0 f1) (kept2 : AreKept t1 t2 f1 f2) where
-    kept_two : AreKept t0 t2 f1 f2
-    kept_two = record { same = λ n. kept2.same n ∙ kept1.same n; counts = kept2.counts }
-
-    are_all : (order : Option File) → option_map (λ (f : File). f.name) order ≡ words.order → IfSome order (IsRead t1 f1 f2) → AreRead t0 f0 f2 words (with_order given.read order)
+  module _ (basis : Basis) (given : LoadsBasis (reads_by files s0 s1) words (Ok basis)) (s2 : F) (kept1 : AreKept files s0 s1) (kept2 : AreKept files s1 s2) where
+    are_all : (order : Option File) → option_map (λ (f : File). f.name) order ≡ words.order → IfSome order (IsRead (reads_by files s1 s2)) → AreRead (reads_by files s0 s2) words (with_order given.read order)
     are_all order is read = record {
       same = same_words given.read order given.are_read.same is;
-      objects = read_before t0 t2 f0 f1 f2 given.read.objects given.are_read.objects kept_two;
-      logs = logs_before t0 t2 f0 f1 f2 given.read.logs given.are_read.logs kept_two;
-      order = order_after t0 t1 t2 f0 f1 f2 order kept1 read kept2;
+      objects = read_before files s0 s1 s2 given.read.objects given.are_read.objects kept2;
+      logs = logs_before files s0 s1 s2 given.read.logs given.are_read.logs kept2;
+      order = order_after files s0 s1 s2 order kept1 read kept2;
     }
 
     order_then : (order : Option File) → meant (with_order given.read order) ≡ from_basis order basis
     order_then order = ap (and_then (from_basis order)) given.meets
 
     -- the order is refused
-    pub order_refused : (status : Status) → ReadsOrder t1 f1 f2 words.order (order_at basis) (Err status) → LoadsBy meant t0 f0 f2 words (Err status)
+    pub order_refused : (status : Status) → ReadsOrder (reads_by files s1 s2) words.order (order_at basis) (Err status) → LoadsBy meant (reads_by files s0 s2) words (Err status)
     order_refused status order = record {
       read = with_order given.read order.file;
       are_read = are_all order.file order.is_of order.read;
@@ -224,7 +224,7 @@ module _ {O I : Type 0} (order_at : Basis → Option File → Result (Option O) 
     }
 
     -- nothing is refused
-    pub loaded : (found : Option O) → ReadsOrder t1 f1 f2 words.order (order_at basis) (Ok found) → LoadsBy meant t0 f0 f2 words (Ok (made basis found))
+    pub loaded : (found : Option O) → ReadsOrder (reads_by files s1 s2) words.order (order_at basis) (Ok found) → LoadsBy meant (reads_by files s0 s2) words (Ok (made basis found))
     loaded found order = record {
       read = with_order given.read order.file;
       are_read = are_all order.file order.is_of order.read;
@@ -232,10 +232,10 @@ module _ {O I : Type 0} (order_at : Basis → Option File → Result (Option O) 
     }
 
 -- logs that were read, as the words have them
-pub seen_logs : {A : Type 0} (view : A → Sources) (told : List ℕ → Option (List ℕ)) (old new : List ℕ → ℕ) (width : Option ℕ) (names : List (List ℕ)) (words words' : List (ℕ × List ℕ)) (parts : A) → words' ≡ words
-    → ReadsLogs told old new words' view (logs_in width names) (Ok parts) → ReadsLogs told old new words (λ (logs : Sources). logs) (logs_in width names) (Ok (view parts))
-seen_logs view told old new width names words words' parts same reads = record { logs = reads.logs; are_of = reads.are_of ∙ same; read = reads.read; meets = reads.meets }
+pub seen_logs : {A : Type 0} (view : A → Sources) (reads : FileReads) (width : Option ℕ) (names : List (List ℕ)) (words words' : List (ℕ × List ℕ)) (parts : A) → words' ≡ words
+    → ReadsLogs reads words' view (logs_in width names) (Ok parts) → ReadsLogs reads words (λ (logs : Sources). logs) (logs_in width names) (Ok (view parts))
+seen_logs view reads width names words words' parts same given = record { logs = given.logs; are_of = given.are_of ∙ same; read = given.read; meets = given.meets }
 
-pub seen_fault : {A : Type 0} (view : A → Sources) (told : List ℕ → Option (List ℕ)) (old new : List ℕ → ℕ) (width : Option ℕ) (names : List (List ℕ)) (words words' : List (ℕ × List ℕ)) (status : Status) → words' ≡ words
-    → ReadsLogs told old new words' view (logs_in width names) (Err status) → ReadsLogs told old new words view (logs_in width names) (Err status)
-seen_fault view told old new width names words words' status same reads = record { logs = reads.logs; are_of = reads.are_of ∙ same; read = reads.read; meets = reads.meets }
+pub seen_fault : {A : Type 0} (view : A → Sources) (reads : FileReads) (width : Option ℕ) (names : List (List ℕ)) (words words' : List (ℕ × List ℕ)) (status : Status) → words' ≡ words
+    → ReadsLogs reads words' view (logs_in width names) (Err status) → ReadsLogs reads words view (logs_in width names) (Err status)
+seen_fault view reads width names words words' status same given = record { logs = given.logs; are_of = given.are_of ∙ same; read = given.read; meets = given.meets }

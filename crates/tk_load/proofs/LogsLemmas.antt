@@ -6,6 +6,7 @@ use Rattle.std.proofs.lemmas.List.Sums.{fold_push, sum_by-append}
 use Rattle.std.proofs.lemmas.List.Elements.{All-append, All-map, All-push}
 use Rattle.tk_base.specs.declared.ids.Mon.{Mon}
 use Rattle.tk_input.specs.Records.{and_then, through}
+use Rattle.tk_input.specs.declared.files.Files.{Ghosts as FilesOf}
 use Rattle.tk_window.specs.Expanded.{expansion_of, sources_of}
 use Rattle.tk_window.specs.TickEnds.{Sources, last_source}
 use Rattle.tk_window.specs.Window.{Expansion}
@@ -13,7 +14,7 @@ use Rattle.tk_window.specs.declared.expanded.Expanded.{Expanded}
 use Rattle.tk_words.specs.Asked.{asked_logs}
 use Rattle.tk_load.specs.Faults.{Fault}
 use Rattle.tk_load.specs.Input.{File, changes_after, count_of, greatest_monitor, log_added, logs_in}
-use Rattle.tk_load.specs.Reads.{AreKept, IsRead, Reads, ReadsLogs, Tells, log_of}
+use Rattle.tk_load.specs.Reads.{AreKept, FileReads, IsRead, Reads, ReadsLogs, Tells, log_of, reads_by}
 use Rattle.tk_load.specs.declared.status.Status.{Status}
 use Rattle.tk_load.specs.declared.status.Status.TheVariants as s
 use Rattle.tk_load.proofs.FaultLemmas.{tells_on}
@@ -52,34 +53,34 @@ pub names_unread : (told : List ℕ → Option (List ℕ)) (rest : List (ℕ × 
 names_unread told [] = refl
 names_unread told (log ∷ rest) = ap (λ (logs : List (ℕ × List ℕ)). log ∷ logs) (names_unread told rest)
 
-pub read_unread : (told : List ℕ → Option (List ℕ)) (old new : List ℕ → ℕ) (rest : List (ℕ × List ℕ)) → All (λ (log : ℕ × File). IsRead told old new log.1) (unread told rest)
-read_unread told old new rest =
-    All-map (λ (log : ℕ × File). IsRead told old new log.1) (λ (log : ℕ × List ℕ). (log.0, record { name = log.1; content = Some (unwrap_or (told log.1) []) })) rest
-    (λ i d within. gave_told (told (get_or rest i d).1) (old (get_or rest i d).1) (new (get_or rest i d).1))
+pub read_unread : (reads : FileReads) (rest : List (ℕ × List ℕ)) → All (λ (log : ℕ × File). IsRead reads log.1) (unread reads.told rest)
+read_unread reads rest =
+    All-map (λ (log : ℕ × File). IsRead reads log.1) (λ (log : ℕ × List ℕ). (log.0, record { name = log.1; content = Some (unwrap_or (reads.told log.1) []) })) rest
+    (λ i d within. gave_told (reads.told (get_or rest i d).1) (reads.failed (get_or rest i d).1) (reads.failed_then (get_or rest i d).1))
 
 -- the logs of some words, and what they give
-pub record SoFar (told : List ℕ → Option (List ℕ)) (old now : List ℕ → ℕ) (width : Option ℕ) (names : List (List ℕ)) (words : List (ℕ × List ℕ)) (parts : Sources) : Type 0 where
+pub record SoFar (reads : FileReads) (width : Option ℕ) (names : List (List ℕ)) (words : List (ℕ × List ℕ)) (parts : Sources) : Type 0 where
   pub logs : List (ℕ × File)
   pub are_of : map log_of logs ≡ words
-  pub read : All (λ log. IsRead told old now log.1) logs
+  pub read : All (λ log. IsRead reads log.1) logs
   pub value : logs_in width names logs ≡ Ok parts
 
-pub none_so_far : (told : List ℕ → Option (List ℕ)) (old : List ℕ → ℕ) (width : Option ℕ) (names : List (List ℕ)) → SoFar told old old width names [] []
-none_so_far told old width names = record { logs = []; are_of = refl; read = λ i d within. absurd (omega (arith, within)); value = through_none (log_added width names) [] }
+pub none_so_far : (reads : FileReads) (width : Option ℕ) (names : List (List ℕ)) → SoFar reads width names [] []
+none_so_far reads width names = record { logs = []; are_of = refl; read = λ i d within. absurd (omega (arith, within)); value = through_none (log_added width names) [] }
 
 -- later counts do not undo it
-later : (told told2 : List ℕ → Option (List ℕ)) (old mid new : List ℕ → ℕ) (logs : List (ℕ × File)) → AreKept told told2 mid new
-    → All (λ (log : ℕ × File). IsRead told old mid log.1) logs → All (λ (log : ℕ × File). IsRead told old new log.1) logs
-later told told2 old mid new logs kept read = λ i d within. read_before told told2 old mid new (get_or logs i d).1 (read i d within) (record { same = kept.same; counts = kept.counts })
+later : {F : Type 0} (files : FilesOf F) (a b c : F) (logs : List (ℕ × File)) → AreKept files b c
+    → All (λ (log : ℕ × File). IsRead (reads_by files a b) log.1) logs → All (λ (log : ℕ × File). IsRead (reads_by files a c) log.1) logs
+later files a b c logs kept read = λ i d within. read_before files a b c (get_or logs i d).1 (read i d within) kept
 
-module _ (told told2 told3 : List ℕ → Option (List ℕ)) (old mid new : List ℕ → ℕ) (width : Option ℕ) (names : List (List ℕ)) (words : List (ℕ × List ℕ)) (parts : Sources) (mon : ℕ) (name : List ℕ)
-    (count : ℕ) (counted : count ≡ count_of parts) (first : AreKept told told2 old mid) (next : AreKept told2 told3 mid new) (so_far : SoFar told old mid width names words parts) where
+module _ {F : Type 0} (files : FilesOf F) (a b c : F) (width : Option ℕ) (names : List (List ℕ)) (words : List (ℕ × List ℕ)) (parts : Sources) (mon : ℕ) (name : List ℕ)
+    (count : ℕ) (counted : count ≡ count_of parts) (first : AreKept files a b) (next : AreKept files b c) (so_far : SoFar (reads_by files a b) width names words parts) where
   -- a log whose file was read, among those before
-  read_one : (content : Option (List ℕ)) → IsRead told2 mid new (record { name = name; content = content }) → All (λ (log : ℕ × File). IsRead told old new log.1) (so_far.logs ++ (mon, record { name = name; content = content }) ∷ [])
+  read_one : (content : Option (List ℕ)) → IsRead (reads_by files b c) (record { name = name; content = content }) → All (λ (log : ℕ × File). IsRead (reads_by files a c) log.1) (so_far.logs ++ (mon, record { name = name; content = content }) ∷ [])
   read_one content read =
-      All-push (λ (log : ℕ × File). IsRead told old new log.1) so_far.logs (mon, record { name = name; content = content })
-      (later told told old mid new so_far.logs (record { same = λ n. refl; counts = next.counts }) so_far.read)
-      (read_after told told2 told3 old mid new (record { name = name; content = content }) first read next)
+      All-push (λ (log : ℕ × File). IsRead (reads_by files a c) log.1) so_far.logs (mon, record { name = name; content = content })
+      (later files a b c so_far.logs next so_far.read)
+      (read_after files a b c (record { name = name; content = content }) first read next)
 
   are_one : (content : Option (List ℕ)) → map log_of (so_far.logs ++ (mon, record { name = name; content = content }) ∷ []) ≡ words ++ (mon, name) ∷ []
   are_one content = map-append log_of so_far.logs ((mon, record { name = name; content = content }) ∷ []) ∙ ap (λ (logs : List (ℕ × List ℕ)). logs ++ (mon, name) ∷ []) so_far.are_of
@@ -93,8 +94,8 @@ module _ (told told2 told3 : List ℕ → Option (List ℕ)) (old mid new : List
       ∙ through_one (log_added width names) parts log []
       ∙ alone (log_added width names) (log_added width names parts log)
 
-  pub so_far_next : {B : Type 0} (shown : B → Expansion) (log : B) → Reads told2 mid new name shown (changes_after count width names) (Ok log)
-      → SoFar told old new width names (words ++ (mon, name) ∷ []) (parts ++ (record { 0 = mon }, shown log) ∷ [])
+  pub so_far_next : {B : Type 0} (shown : B → Expansion) (log : B) → Reads (reads_by files b c) name shown (changes_after count width names) (Ok log)
+      → SoFar (reads_by files a c) width names (words ++ (mon, name) ∷ []) (parts ++ (record { 0 = mon }, shown log) ∷ [])
   so_far_next shown log reads = record {
     logs = so_far.logs ++ (mon, record { name = name; content = reads.content }) ∷ [];
     are_of = are_one reads.content;
@@ -103,30 +104,30 @@ module _ (told told2 told3 : List ℕ → Option (List ℕ)) (old mid new : List
   }
 
   -- a log that is refused, whatever logs come behind it
-  pub logs_refused : {A B : Type 0} (view : A → Sources) (shown : B → Expansion) (status : Status) (rest all : List (ℕ × List ℕ)) → all ≡ (words ++ (mon, name) ∷ []) ++ rest → Reads told2 mid new name shown (changes_after count width names) (Err status)
-      → ReadsLogs told old new all view (logs_in width names) (Err status)
+  pub logs_refused : {A B : Type 0} (view : A → Sources) (shown : B → Expansion) (status : Status) (rest all : List (ℕ × List ℕ)) → all ≡ (words ++ (mon, name) ∷ []) ++ rest → Reads (reads_by files b c) name shown (changes_after count width names) (Err status)
+      → ReadsLogs (reads_by files a c) all view (logs_in width names) (Err status)
   logs_refused view shown status rest all is reads =
       let log : ℕ × File = (mon, record { name = name; content = reads.content }) in
       let front = so_far.logs ++ log ∷ [] in
       let told_of = tells_on status (changes_after (count_of parts) width names log.1) (λ changes. Ok (parts ++ (record { 0 = mon }, changes) ∷ [])) (subst (λ (n : ℕ). Tells status (changes_after n width names log.1)) counted reads.meets) in record {
-        logs = front ++ unread told rest;
-        are_of = map-append log_of front (unread told rest) ∙ ap (λ (logs : List (ℕ × List ℕ)). logs ++ map log_of (unread told rest)) (are_one reads.content) ∙ ap (λ (logs : List (ℕ × List ℕ)). (words ++ (mon, name) ∷ []) ++ logs) (names_unread told rest) ∙ sym is;
-        read = All-append (λ (log : ℕ × File). IsRead told old new log.1) front (unread told rest) (read_one reads.content reads.read) (read_unread told old new rest);
-        meets = subst (λ (m : Result Sources Fault). Tells status m) (sym (through-append (log_added width names) [] front (unread told rest) ∙ ap (and_then (λ mid. through (log_added width names) mid (unread told rest))) (value_one reads.content)))
-            (tells_on status (log_added width names parts log) (λ mid. through (log_added width names) mid (unread told rest)) told_of);
+        logs = front ++ unread (files.content a) rest;
+        are_of = map-append log_of front (unread (files.content a) rest) ∙ ap (λ (logs : List (ℕ × List ℕ)). logs ++ map log_of (unread (files.content a) rest)) (are_one reads.content) ∙ ap (λ (logs : List (ℕ × List ℕ)). (words ++ (mon, name) ∷ []) ++ logs) (names_unread (files.content a) rest) ∙ sym is;
+        read = All-append (λ (log : ℕ × File). IsRead (reads_by files a c) log.1) front (unread (files.content a) rest) (read_one reads.content reads.read) (read_unread (reads_by files a c) rest);
+        meets = subst (λ (m : Result Sources Fault). Tells status m) (sym (through-append (log_added width names) [] front (unread (files.content a) rest) ∙ ap (and_then (λ mid. through (log_added width names) mid (unread (files.content a) rest))) (value_one reads.content)))
+            (tells_on status (log_added width names parts log) (λ mid. through (log_added width names) mid (unread (files.content a) rest)) told_of);
       }
 
 -- no memory is found, whatever the logs give
-pub logs_wanting : {A : Type 0} (view : A → Sources) (told : List ℕ → Option (List ℕ)) (old new : List ℕ → ℕ) (width : Option ℕ) (names : List (List ℕ)) (words : List (ℕ × List ℕ)) → ReadsLogs told old new words view (logs_in width names) (Err s.NoMemory)
-logs_wanting view told old new width names words = record { logs = unread told words; are_of = names_unread told words; read = read_unread told old new words; meets = tt }
+pub logs_wanting : {A : Type 0} (view : A → Sources) (reads : FileReads) (width : Option ℕ) (names : List (List ℕ)) (words : List (ℕ × List ℕ)) → ReadsLogs reads words view (logs_in width names) (Err s.NoMemory)
+logs_wanting view reads width names words = record { logs = unread reads.told words; are_of = names_unread reads.told words; read = read_unread reads words; meets = tt }
 
-pub logs_answered : {A : Type 0} (view : A → Sources) (told : List ℕ → Option (List ℕ)) (old new : List ℕ → ℕ) (width : Option ℕ) (names : List (List ℕ)) (words : List (ℕ × List ℕ)) (answer : Result A Status) → IsErrAnd answer (λ e. e ≡ s.NoMemory) → ReadsLogs told old new words view (logs_in width names) answer
-logs_answered view told old new width names words (Err e) wants = subst (λ (status : Status). ReadsLogs told old new words view (logs_in width names) (Err status)) (sym wants) (logs_wanting view told old new width names words)
-logs_answered view told old new width names words (Ok x) wants = absurd wants
+pub logs_answered : {A : Type 0} (view : A → Sources) (reads : FileReads) (width : Option ℕ) (names : List (List ℕ)) (words : List (ℕ × List ℕ)) (answer : Result A Status) → IsErrAnd answer (λ e. e ≡ s.NoMemory) → ReadsLogs reads words view (logs_in width names) answer
+logs_answered view reads width names words (Err e) wants = subst (λ (status : Status). ReadsLogs reads words view (logs_in width names) (Err status)) (sym wants) (logs_wanting view reads width names words)
+logs_answered view reads width names words (Ok x) wants = absurd wants
 
 -- all logs were read
-pub logs_read : {A : Type 0} (view : A → Sources) (told : List ℕ → Option (List ℕ)) (old new : List ℕ → ℕ) (width : Option ℕ) (names : List (List ℕ)) (words : List (ℕ × List ℕ)) (parts : A) → SoFar told old new width names words (view parts) → ReadsLogs told old new words view (logs_in width names) (Ok parts)
-logs_read view told old new width names words parts so_far = record { logs = so_far.logs; are_of = so_far.are_of; read = so_far.read; meets = so_far.value }
+pub logs_read : {A : Type 0} (view : A → Sources) (reads : FileReads) (width : Option ℕ) (names : List (List ℕ)) (words : List (ℕ × List ℕ)) (parts : A) → SoFar reads width names words (view parts) → ReadsLogs reads words view (logs_in width names) (Ok parts)
+logs_read view reads width names words parts so_far = record { logs = so_far.logs; are_of = so_far.are_of; read = so_far.read; meets = so_far.value }
 
 -- the logs of the words before and the next one
 abbrev pub named_at : List (Mon × Bor (List ℕ)) → ℕ → Mon × Bor (List ℕ) → ℕ × List ℕ

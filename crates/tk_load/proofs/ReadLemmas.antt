@@ -3,10 +3,11 @@ use Rattle.std.proofs.Common.{◌≡◌, ℕ, ◌+◌, ◌-◌, ◌^◌, ◌∙�
 use Rattle.std.proofs.lemmas.Bool.{cases_lt, le-ltb, lt-ltb}
 use Rattle.std.proofs.lemmas.List.{length-replicate}
 use Rattle.tk_input.specs.Files.{HasRisen}
+use Rattle.tk_input.specs.declared.files.Files.{Ghosts as FilesOf}
 use Rattle.tk_load.specs.Faults.{Fault, after, bad_file}
 use Rattle.tk_load.specs.Faults.Fault.{Unread}
 use Rattle.tk_load.specs.Input.{File, bytes_from, bytes_in}
-use Rattle.tk_load.specs.Reads.{AreKept, Gave, IsRead, Meets, Reads, Says}
+use Rattle.tk_load.specs.Reads.{AreKept, FileReads, Gave, IsRead, Meets, Reads, Says, reads_by}
 use Rattle.tk_load.specs.declared.status.InputKind.TheVariants.{TooLong}
 use Rattle.tk_load.specs.declared.status.Status.{Status}
 use Rattle.tk_load.specs.declared.status.Status.TheVariants as s
@@ -34,22 +35,23 @@ gave_after told a b c None kept gave last = rises_on a b c kept gave last
 gave_after told a b c (Some bytes) kept gave last = gave
 
 -- kept twice
-pub kept_on : (told told2 told3 : List ℕ → Option (List ℕ)) (a b c : List ℕ → ℕ) → AreKept told told2 a b → AreKept told2 told3 b c → AreKept told told3 a c
-kept_on told told2 told3 a b c first next = record {
+pub kept_on : {F : Type 0} (files : FilesOf F) (a b c : F) → AreKept files a b → AreKept files b c → AreKept files a c
+kept_on files a b c first next = record {
   same = λ name. next.same name ∙ first.same name;
   counts = λ name. let f = first.counts name in let n = next.counts name in omega (arith, f, n);
 }
 
-pub kept_all : (told : List ℕ → Option (List ℕ)) (a : List ℕ → ℕ) → AreKept told told a a
-kept_all told a = record { same = λ name. refl; counts = λ name. omega arith }
+pub kept_all : {F : Type 0} (files : FilesOf F) (a : F) → AreKept files a a
+kept_all files a = record { same = λ name. refl; counts = λ name. omega arith }
 
-pub read_before : (told told2 : List ℕ → Option (List ℕ)) (a b c : List ℕ → ℕ) (file : File) → IsRead told a b file → AreKept told told2 b c → IsRead told a c file
-read_before told told2 a b c file read kept = gave_before (told file.name) (a file.name) (b file.name) (c file.name) file.content read (kept.counts file.name)
+pub read_before : {F : Type 0} (files : FilesOf F) (a b c : F) (file : File) → IsRead (reads_by files a b) file → AreKept files b c → IsRead (reads_by files a c) file
+read_before files a b c file read kept =
+    gave_before (files.content a file.name) (files.fault_count a file.name) (files.fault_count b file.name) (files.fault_count c file.name) file.content read (kept.counts file.name)
 
-pub read_after : (told told2 told3 : List ℕ → Option (List ℕ)) (a b c : List ℕ → ℕ) (file : File) → AreKept told told2 a b → IsRead told2 b c file → AreKept told2 told3 b c → IsRead told a c file
-read_after told told2 told3 a b c file kept read last =
-    gave_after (told file.name) (a file.name) (b file.name) (c file.name) file.content (kept.counts file.name)
-    (subst (λ (t : Option (List ℕ)). Gave t (b file.name) (c file.name) file.content) (kept.same file.name) read)
+pub read_after : {F : Type 0} (files : FilesOf F) (a b c : F) (file : File) → AreKept files a b → IsRead (reads_by files b c) file → AreKept files b c → IsRead (reads_by files a c) file
+read_after files a b c file kept read last =
+    gave_after (files.content a file.name) (files.fault_count a file.name) (files.fault_count b file.name) (files.fault_count c file.name) file.content (kept.counts file.name)
+    (subst (λ (t : Option (List ℕ)). Gave t (files.fault_count b file.name) (files.fault_count c file.name) file.content) (kept.same file.name) read)
     (last.counts file.name)
 
 -- bytes within the limit, and over it
@@ -68,45 +70,45 @@ long_bytes None old new long = let long_one = long_of 67108864 in (long_one.0, t
 long_bytes (Some content) old new long = (content, refl, long)
 
 -- a file that is too long
-pub reads_too_long : {A : Type 0} (view : A → List ℕ) (told : List ℕ → Option (List ℕ)) (old new : List ℕ → ℕ) (name : List ℕ) (status : Status)
-    → IfSome (told name) (λ content. 67108864 < length content) → Says status (bad_file name TooLong) → Reads told old new name view bytes_in (Err status)
-reads_too_long view told old new name status long says =
-    let some = long_bytes (told name) (old name) (new name) long in record {
+pub reads_too_long : {A : Type 0} (view : A → List ℕ) (reads : FileReads) (name : List ℕ) (status : Status)
+    → IfSome (reads.told name) (λ content. 67108864 < length content) → Says status (bad_file name TooLong) → Reads reads name view bytes_in (Err status)
+reads_too_long view reads name status long says =
+    let some = long_bytes (reads.told name) (reads.failed name) (reads.failed_then name) long in record {
       content = Some some.0;
       read = some.1;
       meets = tells_of {V = List ℕ} status (bad_file name TooLong) _ says (bytes_pass name some.0 some.2);
     }
 
 -- a file that was read
-pub reads_bytes : {A : Type 0} (view : A → List ℕ) (told : List ℕ → Option (List ℕ)) (old new : List ℕ → ℕ) (name : List ℕ) (bytes : A)
-    → IfSome (told name) (λ content. view bytes ≡ content) → length (view bytes) ≤ 67108864 → Reads told old new name view bytes_in (Ok bytes)
-reads_bytes view told old new name bytes is fit = record { content = Some (view bytes); read = is; meets = bytes_fit name (view bytes) fit }
+pub reads_bytes : {A : Type 0} (view : A → List ℕ) (reads : FileReads) (name : List ℕ) (bytes : A)
+    → IfSome (reads.told name) (λ content. view bytes ≡ content) → length (view bytes) ≤ 67108864 → Reads reads name view bytes_in (Ok bytes)
+reads_bytes view reads name bytes is fit = record { content = Some (view bytes); read = is; meets = bytes_fit name (view bytes) fit }
 
 -- one that could not be read
-pub reads_failed : {A : Type 0} (view : A → List ℕ) (told : List ℕ → Option (List ℕ)) (old new : List ℕ → ℕ) (name : List ℕ) (status : Status)
-    → HasRisen (old name) (new name) → Says status (Unread name) → Reads told old new name view bytes_in (Err status)
-reads_failed view told old new name status rose says = record { content = None; read = rose; meets = tells_of {V = List ℕ} status (Unread name) _ says refl }
+pub reads_failed : {A : Type 0} (view : A → List ℕ) (reads : FileReads) (name : List ℕ) (status : Status)
+    → HasRisen (reads.failed name) (reads.failed_then name) → Says status (Unread name) → Reads reads name view bytes_in (Err status)
+reads_failed view reads name status rose says = record { content = None; read = rose; meets = tells_of {V = List ℕ} status (Unread name) _ says refl }
 
 -- want of memory, whatever the file gives
-pub reads_wanting : {A V : Type 0} (view : A → V) (meant : File → Result V Fault) (told : List ℕ → Option (List ℕ)) (old new : List ℕ → ℕ) (name : List ℕ)
-    → Reads told old new name view meant (Err s.NoMemory)
-reads_wanting view meant told old new name = record { content = Some (unwrap_or (told name) []); read = gave_told (told name) (old name) (new name); meets = tt }
+pub reads_wanting : {A V : Type 0} (view : A → V) (meant : File → Result V Fault) (reads : FileReads) (name : List ℕ)
+    → Reads reads name view meant (Err s.NoMemory)
+reads_wanting view meant reads name = record { content = Some (unwrap_or (reads.told name) []); read = gave_told (reads.told name) (reads.failed name) (reads.failed_then name); meets = tt }
 
 -- a file that is refused, whatever comes after
-pub reads_refused : {A B V W : Type 0} (view : A → V) (view' : B → W) (meant : File → Result V Fault) (next : File → V → Result W Fault) (told : List ℕ → Option (List ℕ)) (old new : List ℕ → ℕ) (name : List ℕ) (status : Status)
-    → Reads told old new name view meant (Err status) → Reads told old new name view' (λ file. after (meant file) (next file)) (Err status)
-reads_refused view view' meant next told old new name status reads = record {
-  content = reads.content;
-  read = reads.read;
-  meets = tells_on status (meant (record { name = name; content = reads.content })) (next (record { name = name; content = reads.content })) reads.meets;
+pub reads_refused : {A B V W : Type 0} (view : A → V) (view' : B → W) (meant : File → Result V Fault) (next : File → V → Result W Fault) (reads : FileReads) (name : List ℕ) (status : Status)
+    → Reads reads name view meant (Err status) → Reads reads name view' (λ file. after (meant file) (next file)) (Err status)
+reads_refused view view' meant next reads name status given = record {
+  content = given.content;
+  read = given.read;
+  meets = tells_on status (meant (record { name = name; content = given.content })) (next (record { name = name; content = given.content })) given.meets;
 }
 
 -- what is made of a file that gave something
-pub reads_further : {A B V W : Type 0} (view : A → V) (view' : B → W) (meant : File → Result V Fault) (next : File → V → Result W Fault) (told : List ℕ → Option (List ℕ)) (old new : List ℕ → ℕ) (name : List ℕ) (x : A) (answer : Result B Status)
-    → Reads told old new name view meant (Ok x) → ((content : Option (List ℕ)) → Meets view' (next (record { name = name; content = content }) (view x)) answer)
-    → Reads told old new name view' (λ file. after (meant file) (next file)) answer
-reads_further view view' meant next told old new name x answer reads meets = record {
-  content = reads.content;
-  read = reads.read;
-  meets = meets_after view' (meant (record { name = name; content = reads.content })) (view x) (next (record { name = name; content = reads.content })) answer reads.meets (meets reads.content);
+pub reads_further : {A B V W : Type 0} (view : A → V) (view' : B → W) (meant : File → Result V Fault) (next : File → V → Result W Fault) (reads : FileReads) (name : List ℕ) (x : A) (answer : Result B Status)
+    → Reads reads name view meant (Ok x) → ((content : Option (List ℕ)) → Meets view' (next (record { name = name; content = content }) (view x)) answer)
+    → Reads reads name view' (λ file. after (meant file) (next file)) answer
+reads_further view view' meant next reads name x answer given meets = record {
+  content = given.content;
+  read = given.read;
+  meets = meets_after view' (meant (record { name = name; content = given.content })) (view x) (next (record { name = name; content = given.content })) answer given.meets (meets given.content);
 }

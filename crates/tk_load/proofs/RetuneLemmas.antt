@@ -6,13 +6,13 @@ use Rattle.std.proofs.Math.Seq.{drop-cons}
 use Rattle.std.proofs.lemmas.Option.{get_or_from_slice_get, slice_get_within}
 use Rattle.std.proofs.lemmas.Slice.Zip.{get_or-zip, length-zip}
 use Rattle.tk_base.specs.Settings.{Setup}
-use Rattle.tk_input.specs.Order.{Ordered}
+use Rattle.tk_input.specs.Order.{OrderView}
 use Rattle.tk_input.specs.Records.{and_then, through}
 use Rattle.tk_input.specs.declared.event.Event.{Event}
 use Rattle.tk_input.proofs.ThroughLemmas.{through-fault, through-none, through-some}
 use Rattle.tk_load.specs.Faults.Fault.{Bad}
 use Rattle.tk_load.specs.Input.{bad_line, order_from, order_in, retune_kind, retune_tested, retunes_tested}
-use Rattle.tk_load.specs.Reads.{Reads, ReadsOrder, Says, Tells}
+use Rattle.tk_load.specs.Reads.{FileReads, Reads, ReadsOrder, Says, Tells}
 use Rattle.tk_load.specs.declared.status.InputKind.{InputKind}
 use Rattle.tk_load.specs.declared.status.Status.{Status}
 use Rattle.tk_load.proofs.FaultLemmas.{tells_of, tells_on}
@@ -32,7 +32,7 @@ none_of None other = refl
 none_of (Some x) other = absurd (other x refl)
 
 -- the pairs that are left once those before pass
-module _ (s : Setup) (name : List ℕ) (order : Ordered) (i : ℕ) (event : Event) (line : ℕ) (at_event : slice_get order.events i ≡ Some event) (at_line : slice_get order.lines i ≡ Some line)
+module _ (s : Setup) (name : List ℕ) (order : OrderView) (i : ℕ) (event : Event) (line : ℕ) (at_event : slice_get order.events i ≡ Some event) (at_line : slice_get order.lines i ≡ Some line)
     (before : through (retune_tested s name) tt (drop i (zip order.events order.lines)) ≡ retunes_tested s name order) where
   pub one_passes : retune_kind s event ≡ None → through (retune_tested s name) tt (drop (i + 1) (zip order.events order.lines)) ≡ retunes_tested s name order
   one_passes none =
@@ -48,24 +48,24 @@ module _ (s : Setup) (name : List ℕ) (order : Ordered) (i : ℕ) (event : Even
       (zipped_at order.events order.lines i event line at_event at_line) (ap (bad_line name line) (sym some)))
 
 -- no pair is left
-pub all_pass : (s : Setup) (name : List ℕ) (order : Ordered) (i : ℕ) → length order.events ≤ i → through (retune_tested s name) tt (drop i (zip order.events order.lines)) ≡ retunes_tested s name order → retunes_tested s name order ≡ Ok tt
+pub all_pass : (s : Setup) (name : List ℕ) (order : OrderView) (i : ℕ) → length order.events ≤ i → through (retune_tested s name) tt (drop i (zip order.events order.lines)) ≡ retunes_tested s name order → retunes_tested s name order ≡ Ok tt
 all_pass s name order i ends before =
     sym before ∙ through-none (retune_tested s name) tt (drop i (zip order.events order.lines)) (drop_of_length-le (zip order.events order.lines) (omega (arith, length-zip order.events order.lines)))
 
 -- the order of the words, where they name a file of one
-module _ (s : Setup) (told : List ℕ → Option (List ℕ)) (old new : List ℕ → ℕ) (named : Option (List ℕ)) (name : List ℕ) (is : named ≡ Some name) where
-  pub order_found : (order : Ordered) → Reads told old new name (λ (o : Ordered). o) (order_from s) (Ok order) → ReadsOrder told old new named (order_in s) (Ok (Some order))
-  order_found order reads = record {
-    file = Some (record { name = name; content = reads.content });
+module _ (s : Setup) (reads : FileReads) (named : Option (List ℕ)) (name : List ℕ) (is : named ≡ Some name) where
+  pub order_found : (order : OrderView) → Reads reads name (λ (o : OrderView). o) (order_from s) (Ok order) → ReadsOrder reads named (order_in s) (Ok (Some order))
+  order_found order given = record {
+    file = Some (record { name = name; content = given.content });
     is_of = sym is;
-    read = reads.read;
-    meets = ap (and_then (λ (o : Ordered). Ok (Some o))) reads.meets;
+    read = given.read;
+    meets = ap (and_then (λ (o : OrderView). Ok (Some o))) given.meets;
   }
 
-  pub order_refused : (status : Status) → Reads told old new name (λ (o : Ordered). o) (order_from s) (Err status) → ReadsOrder told old new named (order_in s) (Err status)
-  order_refused status reads = record {
-    file = Some (record { name = name; content = reads.content });
+  pub order_refused : (status : Status) → Reads reads name (λ (o : OrderView). o) (order_from s) (Err status) → ReadsOrder reads named (order_in s) (Err status)
+  order_refused status given = record {
+    file = Some (record { name = name; content = given.content });
     is_of = sym is;
-    read = reads.read;
-    meets = tells_on status (order_from s (record { name = name; content = reads.content })) (λ (o : Ordered). Ok (Some o)) reads.meets;
+    read = given.read;
+    meets = tells_on status (order_from s (record { name = name; content = given.content })) (λ (o : OrderView). Ok (Some o)) given.meets;
   }

@@ -11,7 +11,7 @@ use Rattle.tk_session.specs.Order.{lines_of, numbers_of}
 use Rattle.tk_session.specs.declared.session_line.SessionLine.{SessionLine}
 use Rattle.tk_load.specs.Faults.Fault.{Bad}
 use Rattle.tk_load.specs.Input.{bad_line}
-use Rattle.tk_load.specs.Reads.{Reads, ReadsOrder, Says, Tells}
+use Rattle.tk_load.specs.Reads.{FileReads, Reads, ReadsOrder, Says, Tells}
 use Rattle.tk_load.specs.SessionInput.{line_kind, line_tested, lines_tested, session_order_from, session_order_in}
 use Rattle.tk_load.specs.declared.status.InputKind.{InputKind}
 use Rattle.tk_load.specs.declared.status.Status.{Status}
@@ -53,19 +53,19 @@ all_pass s name order i ends before =
     sym before ∙ through-none (line_tested s name) tt (drop i order) (drop_of_length-le order (omega (arith, all, ends)))
 
 -- the order of the words, where they name a file of one
-module _ (s : Setup) (logs : LogSet) (told : List ℕ → Option (List ℕ)) (old new : List ℕ → ℕ) (named : Option (List ℕ)) (name : List ℕ) (is : named ≡ Some name) where
-  pub order_found : (order : Numbered) → Reads told old new name (λ (o : Numbered). o) (session_order_from s logs) (Ok order) → ReadsOrder told old new named (session_order_in s logs) (Ok (Some order))
-  order_found order reads = record {
-    file = Some (record { name = name; content = reads.content });
+module _ (s : Setup) (logs : LogSet) (reads : FileReads) (named : Option (List ℕ)) (name : List ℕ) (is : named ≡ Some name) where
+  pub order_found : (order : Numbered) → Reads reads name (λ (o : Numbered). o) (session_order_from s logs) (Ok order) → ReadsOrder reads named (session_order_in s logs) (Ok (Some order))
+  order_found order given = record {
+    file = Some (record { name = name; content = given.content });
     is_of = sym is;
-    read = reads.read;
-    meets = ap (and_then (λ (o : Numbered). Ok (Some o))) reads.meets;
+    read = given.read;
+    meets = ap (and_then (λ (o : Numbered). Ok (Some o))) given.meets;
   }
 
-  pub order_lost : (status : Status) → Reads told old new name (λ (o : Numbered). o) (session_order_from s logs) (Err status) → ReadsOrder told old new named (session_order_in s logs) (Err status)
-  order_lost status reads = record {
-    file = Some (record { name = name; content = reads.content });
+  pub order_lost : (status : Status) → Reads reads name (λ (o : Numbered). o) (session_order_from s logs) (Err status) → ReadsOrder reads named (session_order_in s logs) (Err status)
+  order_lost status given = record {
+    file = Some (record { name = name; content = given.content });
     is_of = sym is;
-    read = reads.read;
-    meets = tells_on status (session_order_from s logs (record { name = name; content = reads.content })) (λ (o : Numbered). Ok (Some o)) reads.meets;
+    read = given.read;
+    meets = tells_on status (session_order_from s logs (record { name = name; content = given.content })) (λ (o : Numbered). Ok (Some o)) given.meets;
   }

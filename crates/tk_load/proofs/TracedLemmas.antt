@@ -1,12 +1,12 @@
 -- What reading a file gave, and the trace that it holds.
-use Rattle.std.proofs.Common.{◌≡◌, ◌≤◌, ℕ, List, Option, Some, Result, Ok, Err, false, nat_lt, if◌then◌else◌, length, refl, ap, subst, ◌∙◌}
+use Rattle.std.proofs.Common.{◌≡◌, ℕ, List, Result, Ok, Err, false, nat_lt, if◌then◌else◌, length, refl, ap, subst, ◌∙◌}
 use Rattle.std.proofs.lemmas.Bool.{le-ltb}
-use Rattle.tk_input.specs.Files.{HasRisen}
 use Rattle.tk_trace.specs.Checked.{Faults}
 use Rattle.tk_trace.specs.declared.trace_fault.TraceFault.{TraceFault}
 use Rattle.tk_load.specs.Faults.{Fault, bad_file}
 use Rattle.tk_load.specs.Input.{bytes_from}
-use Rattle.tk_load.specs.Reads.{Tells}
+use Rattle.tk_load.specs.Reads.{FileReads, Tells}
+use Rattle.tk_load.specs.Told.{IsTold}
 use Rattle.tk_load.specs.Traced.{LoadsTrace, TellsWrong, TracesRead}
 use Rattle.tk_load.specs.declared.status.InputKind.TheVariants.{TooLong}
 use Rattle.tk_load.specs.declared.status.Status.{Status}
@@ -43,11 +43,11 @@ none_told name bytes s.WriteFault right wrong = absurd wrong
 none_told name bytes s.LinkFault right wrong = absurd wrong
 none_told name bytes (s.LinkDiffers mon direction place sent received) right wrong = absurd wrong
 
-pub right_is_read : (told : List ℕ → Option (List ℕ)) (old new : List ℕ → ℕ) (name bytes : List ℕ) (status : Status) → told name ≡ Some bytes → (HasRisen (old name) (new name) → ⊥) → length bytes ≤ 67108864
-    → ((fault : TraceFault) → Faults bytes fault → ⊥) → LoadsTrace told old new name (Err status) → status ≡ s.NoMemory
-right_is_read told old new name bytes status is unfailed short right loads =
-    let content = gave_all (told name) (old name) (new name) bytes loads.content is unfailed loads.read in
-    let whole : nat_lt 67108864 (length bytes) ≡ false = le-ltb 67108864 (length bytes) short in
+pub right_is_read : (reads : FileReads) (name bytes : List ℕ) (status : Status) → IsTold reads name bytes
+    → ((fault : TraceFault) → Faults bytes fault → ⊥) → LoadsTrace reads name (Err status) → status ≡ s.NoMemory
+right_is_read reads name bytes status told right loads =
+    let content = gave_all (reads.told name) (reads.failed name) (reads.failed_then name) bytes loads.content told.content told.unfailed loads.read in
+    let whole : nat_lt 67108864 (length bytes) ≡ false = le-ltb 67108864 (length bytes) told.fits in
     let meant : bytes_from name loads.content ≡ Ok bytes =
     ap (bytes_from name) content ∙ ap (λ long. if long then Err (bad_file name TooLong) else Ok bytes) whole in
     none_told name bytes status right (subst (λ (m : Result (List ℕ) Fault). TracesRead name m (Err status)) meant loads.traces)

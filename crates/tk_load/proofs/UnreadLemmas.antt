@@ -9,7 +9,7 @@ use Rattle.tk_input.specs.Files.{HasRisen}
 use Rattle.tk_input.specs.Judged.{logs_of}
 use Rattle.tk_input.specs.Log.{log_of as changes_of}
 use Rattle.tk_input.specs.Logs.{LogSet}
-use Rattle.tk_input.specs.Order.{Ordered, order_of}
+use Rattle.tk_input.specs.Order.{OrderView, order_of}
 use Rattle.tk_input.specs.Records.{through}
 use Rattle.tk_input.specs.declared.catalog.CatalogFault.{CatalogFault}
 use Rattle.tk_input.specs.declared.catalog.CatalogFault.TheVariants as c
@@ -24,7 +24,7 @@ use Rattle.tk_words.specs.Words.{SourceWords}
 use Rattle.tk_load.specs.Faults.{Fault, after, bad_file, bad_whole, catalog_fault, expand_fault, log_fault, logs_fault, order_fault, setting_fault, telling}
 use Rattle.tk_load.specs.Faults.Fault.{Unread}
 use Rattle.tk_load.specs.Input.{File, ReadWords, bad_line, bytes_from, bytes_in, changes_after, changes_in, count_of, counted, basis_of, ends_with, greatest_monitor, input_of, input_with, joined, limits_in, log_added, log_from, logs_in, names_in, order_from, order_in, order_of_bytes, retune_kind, retune_tested, retunes_tested, settings_in, together, width_in}
-use Rattle.tk_load.specs.Reads.{AreRead, Gave, IsRead, Loads, log_of, words_of}
+use Rattle.tk_load.specs.Reads.{AreRead, FileReads, Gave, IsRead, Loads, log_of, words_of}
 use Rattle.tk_load.specs.Told.{IsCounted, files_of, only}
 use Rattle.tk_window.specs.TickEnds.{Sources, parts_in}
 use Rattle.tk_window.specs.Ticks.{ticked_of}
@@ -134,27 +134,27 @@ module _ (n : List ℕ) where
     | inr next ↦ let ok = next.2 in absurd (cc (ok))
   ]
 
-  module _ (told : List ℕ → Option (List ℕ)) (old new : List ℕ → ℕ) where
+  module _ (reads : FileReads) where
     -- its faults rose
-    risen : (file : File) → IsLost file → IsRead told old new file → HasRisen (old n) (new n)
+    risen : (file : File) → IsLost file → IsRead reads file → HasRisen (reads.failed n) (reads.failed_then n)
     risen file lost read =
-        subst (λ (name : List ℕ). HasRisen (old name) (new name)) lost.0
-        (subst (λ (content : Option (List ℕ)). Gave (told file.name) (old file.name) (new file.name) content) lost.1 read)
+        subst (λ (name : List ℕ). HasRisen (reads.failed name) (reads.failed_then name)) lost.0
+        (subst (λ (content : Option (List ℕ)). Gave (reads.told file.name) (reads.failed file.name) (reads.failed_then file.name) content) lost.1 read)
 
     abbrev Found : List (List ℕ) → Type 0
-    Found names = Contains names n × HasRisen (old n) (new n)
+    Found names = Contains names n × HasRisen (reads.failed n) (reads.failed_then n)
 
     behind : (name : List ℕ) (names : List (List ℕ)) → Found names → Found (name ∷ names)
     behind name names found = let inside = found.0.1 in ((suc found.0.0, omega (arith, inside), found.0.2), found.1)
 
-    here : (file : File) (names : List (List ℕ)) → IsLost file → IsRead told old new file → Found (file.name ∷ names)
+    here : (file : File) (names : List (List ℕ)) → IsLost file → IsRead reads file → Found (file.name ∷ names)
     here file names lost read = ((0, omega arith, lost.0), risen file lost read)
 
-    logs_lost : (width : Option ℕ) (names : List (List ℕ)) (before : Sources) (logs : List (ℕ × File)) → Unreads (through (log_added width names) before logs) → All (λ (log : ℕ × File). IsRead told old new log.1) logs → Found (map (λ log. log.1) (map log_of logs))
+    logs_lost : (width : Option ℕ) (names : List (List ℕ)) (before : Sources) (logs : List (ℕ × File)) → Unreads (through (log_added width names) before logs) → All (λ (log : ℕ × File). IsRead reads log.1) logs → Found (map (λ log. log.1) (map log_of logs))
     unfolding through
     logs_lost width names before [] is read = absurd (cc (is))
     logs_lost width names before (log ∷ logs) is read = elim (either (log_added width names before log) (λ mid. through (log_added width names) mid logs) is) [
-      | inl lost ↦ here log.1 (map (λ (l : ℕ × List ℕ). l.1) (map log_of logs)) (log_lost width names before log lost) (All-head (λ (l : ℕ × File). IsRead told old new l.1) log logs read)
+      | inl lost ↦ here log.1 (map (λ (l : ℕ × List ℕ). l.1) (map log_of logs)) (log_lost width names before log lost) (All-head (λ (l : ℕ × File). IsRead reads l.1) log logs read)
       | inr next ↦ behind log.1.name (map (λ (l : ℕ × List ℕ). l.1) (map log_of logs)) (logs_lost width names next.0 logs next.2 (λ k d within. read (suc k) d (omega arith)))
     ]
 
@@ -170,7 +170,7 @@ module _ (n : List ℕ) where
       | inr next ↦ not_retunes s name next.0 events next.2
     ]
 
-    not_order : (s : Setup) (name : List ℕ) (order : Ordered) → Unreads (after (retunes_tested s name order) (λ done. Ok order)) → ⊥
+    not_order : (s : Setup) (name : List ℕ) (order : OrderView) → Unreads (after (retunes_tested s name order) (λ done. Ok order)) → ⊥
     not_order s name order is = elim (either (retunes_tested s name order) (λ done. Ok order) is) [
       | inl lost ↦ not_retunes s name tt (zip order.events order.lines) lost
       | inr next ↦ let ok = next.2 in cc (ok)
@@ -188,7 +188,7 @@ module _ (n : List ℕ) where
       | inr next ↦ absurd (not_bytes s file.name next.0 next.2)
     ]
 
-    order_lost : (s : Setup) (order : Option File) → Unreads (order_in s order) → IfSome order (IsRead told old new) → Found (only (option_map (λ f. f.name) order))
+    order_lost : (s : Setup) (order : Option File) → Unreads (order_in s order) → IfSome order (IsRead reads) → Found (only (option_map (λ f. f.name) order))
     order_lost s None is read = absurd (cc (is))
     order_lost s (Some file) is read = elim (either (order_from s file) (λ order. Ok (Some order)) is) [
       | inl lost ↦ here file [] (file_lost s file lost) read
@@ -257,7 +257,7 @@ module _ (n : List ℕ) where
       | inr next ↦ let ok = next.2 in cc (ok)
     ]
 
-    module _ (read : ReadWords) (are : AreRead told old new (words_of read) read) where
+    module _ (read : ReadWords) (are : AreRead reads (words_of read) read) where
       parts_lost : (names : List (List ℕ)) (s : Limits) → Unreads (from_settings read names s) → Found (log_files read)
       parts_lost names s is = elim (either (logs_in s.width names read.logs) (from_logs names s) is) [
         | inl lost ↦ logs_lost s.width names [] read.logs lost are.logs
@@ -292,19 +292,19 @@ module _ (n : List ℕ) where
         | inr next ↦ let found = order_then next.0 next.2 in (Contains-append_right (read.objects.name ∷ log_files read) (order_file read) n found.0, found.1)
       ]
 
-    lost_of : (words : SourceWords) (read : ReadWords) → words_of read ≡ words → AreRead told old new words read → Unreads (input_of read) → Found (files_of words)
+    lost_of : (words : SourceWords) (read : ReadWords) → words_of read ≡ words → AreRead reads words read → Unreads (input_of read) → Found (files_of words)
     lost_of words read same are is =
         subst (λ (w : SourceWords). Found (files_of w)) same (input_lost read (record { same = refl; objects = are.objects; logs = are.logs; order = are.order }) is)
 
 -- a file that is told to be unreadable
-pub unread_is_lost : (told : List ℕ → Option (List ℕ)) (old new : List ℕ → ℕ) (words : SourceWords) (status : Status) → Loads told old new words (Err status) → IsCounted words old new status
-unread_is_lost told old new words (s.ReadFault file) loads = lost_of file.items told old new words loads.read loads.are_read.same loads.are_read loads.meets
-unread_is_lost told old new words s.Done loads = tt
-unread_is_lost told old new words s.Usage loads = tt
-unread_is_lost told old new words (s.BadInput file line kind) loads = tt
-unread_is_lost told old new words (s.TooGreat mon obj) loads = tt
-unread_is_lost told old new words s.WriteFault loads = tt
-unread_is_lost told old new words s.NoMemory loads = tt
-unread_is_lost told old new words s.LinkFault loads = tt
-unread_is_lost told old new words (s.LinkDiffers mon direction place sent received) loads = tt
-unread_is_lost told old new words (s.BadTrace file fault) loads = tt
+pub unread_is_lost : (reads : FileReads) (words : SourceWords) (status : Status) → Loads reads words (Err status) → IsCounted reads words status
+unread_is_lost reads words (s.ReadFault file) loads = lost_of file.items reads words loads.read loads.are_read.same loads.are_read loads.meets
+unread_is_lost reads words s.Done loads = tt
+unread_is_lost reads words s.Usage loads = tt
+unread_is_lost reads words (s.BadInput file line kind) loads = tt
+unread_is_lost reads words (s.TooGreat mon obj) loads = tt
+unread_is_lost reads words s.WriteFault loads = tt
+unread_is_lost reads words s.NoMemory loads = tt
+unread_is_lost reads words s.LinkFault loads = tt
+unread_is_lost reads words (s.LinkDiffers mon direction place sent received) loads = tt
+unread_is_lost reads words (s.BadTrace file fault) loads = tt

@@ -3,6 +3,7 @@ use Rattle.std.specs.Prelude.{ℕ, suc, zero, ◌+◌, ◌%◌, min, ◌==◌, n
 use Rattle.std.specs.List.{range_with_len}
 use Rattle.rand_xoshiro.specs.SplitMix64.{mix_u64}
 use Rattle.tk_input.specs.Judged.{Assigned}
+use Rattle.tk_input.specs.Logs.{LogSet}
 use Rattle.tk_words.specs.Words.{GenerateWords}
 use Rattle.tk_load.specs.Faults.{Fault, after, bad_whole}
 use Rattle.tk_load.specs.Input.{joined, settings_in}
@@ -76,10 +77,14 @@ names_text objects = flat_map (λ o. name_of o ++ codes "\n") (range_with_len 1 
 abbrev pub few_updates : ℕ → Result (Unit {0}) Fault
 few_updates updates = if nat_lt 1000000 updates then Err (bad_whole TooMany) else Ok tt
 
+-- the logs of all monitors that some words make, together
+abbrev pub logs_asked : GenerateWords → Result LogSet Fault
+logs_asked words = joined (logs_made words.monitors (made words.monitors words.objects words.updates words.seed)) words.objects
+
 -- the input of a generated run, or the first rule that fails
 abbrev pub generated_of : GenerateWords → Result Input Fault
 generated_of words =
     after (settings_in words.k words.epsilon 1 words.objects words.monitors) (λ settings.
     after (few_updates words.updates) (λ few.
-    after (joined (logs_made words.monitors (made words.monitors words.objects words.updates words.seed)) words.objects) (λ all.
+    after (logs_asked words) (λ all.
     Ok (record { names = names_made words.objects; settings = settings; logs = all; ends = None; order = None }))))

@@ -7,12 +7,13 @@ use Rattle.tk_input.specs.Catalog.{catalog_of}
 use Rattle.tk_input.specs.Judged.{Assigned, logs_of}
 use Rattle.tk_input.specs.Log.{log_of}
 use Rattle.tk_input.specs.Logs.{LogSet}
-use Rattle.tk_input.specs.Order.{Ordered, order_of}
+use Rattle.tk_input.specs.Order.{OrderView, order_of}
 use Rattle.tk_input.specs.Records.{through}
 use Rattle.tk_input.specs.declared.event.Event.{Event}
 use Rattle.tk_input.specs.declared.event.Event.TheVariants.{Raise, Check, Up, Down, Retune}
 use Rattle.tk_load.specs.Faults.{Fault, after, bad_file, bad_whole, catalog_fault, expand_fault, log_fault, logs_fault, order_fault, setting_fault, setting_kind, telling}
 use Rattle.tk_load.specs.Faults.Fault.{Bad, Unread}
+use Rattle.tk_words.specs.Words.{SourceWords}
 use Rattle.tk_window.specs.TickEnds.{Sources, ends_by_monitor, parts_in}
 use Rattle.tk_window.specs.Ticks.{ticked_of}
 use Rattle.tk_window.specs.Window.{Expansion, expanded_of}
@@ -69,6 +70,10 @@ limits_in k epsilon own_weight width objects monitors =
     after (settings_in k epsilon own_weight objects monitors) (λ settings.
     after (width_in width) (λ tested.
     Ok (record { settings = settings; width = tested })))
+
+-- those of some words over these names
+abbrev pub limits_asked : SourceWords → List (List ℕ) → Result Limits Fault
+limits_asked words names = limits_in words.k words.epsilon words.own_weight words.width (length names) (greatest_monitor words.logs)
 
 -- a log that no window goes over, and one that a window of this width does: its changes, and where its ticks end
 abbrev pub log_from : Option ℕ → List (List ℕ) → List ℕ → List ℕ → Result Expansion Fault
@@ -132,20 +137,20 @@ abbrev pub retune_tested : Setup → List ℕ → Unit {0} → Event × ℕ → 
 retune_tested s name done event = bad_line name event.1 (retune_kind s event.0)
 
 -- each retune of an order does
-abbrev pub retunes_tested : Setup → List ℕ → Ordered → Result (Unit {0}) Fault
+abbrev pub retunes_tested : Setup → List ℕ → OrderView → Result (Unit {0}) Fault
 retunes_tested s name order = through (retune_tested s name) tt (zip order.events order.lines)
 
 -- the order of a file
-abbrev pub order_of_bytes : Setup → List ℕ → List ℕ → Result Ordered Fault
+abbrev pub order_of_bytes : Setup → List ℕ → List ℕ → Result OrderView Fault
 order_of_bytes s name bytes =
     after (telling (order_fault name) (order_of bytes)) (λ order.
     after (retunes_tested s name order) (λ done. Ok order))
 
-abbrev pub order_from : Setup → File → Result Ordered Fault
+abbrev pub order_from : Setup → File → Result OrderView Fault
 order_from s file = after (bytes_in file) (order_of_bytes s file.name)
 
 -- the order, where the words name a file of one
-abbrev pub order_in : Setup → Option File → Result (Option Ordered) Fault
+abbrev pub order_in : Setup → Option File → Result (Option OrderView) Fault
 order_in s None = Ok None
 order_in s (Some file) = after (order_from s file) (λ order. Ok (Some order))
 
@@ -160,7 +165,7 @@ basis_of words =
     Ok (record { names = names; settings = limits.settings; logs = all.logs; ends = all.ends })))))
 
 -- the same with an order
-abbrev pub input_with : Basis → Option Ordered → Input
+abbrev pub input_with : Basis → Option OrderView → Input
 input_with basis order = record { names = basis.names; settings = basis.settings; logs = basis.logs; ends = basis.ends; order = order }
 
 -- the input of words whose files are read, or the first rule that fails: what stands in front of the order, the order

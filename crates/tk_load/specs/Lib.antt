@@ -1,6 +1,7 @@
 pub mod Faults
 pub mod Generated
 pub mod Input
+pub mod Laws
 pub mod MultiInput
 pub mod Reads
 pub mod SessionInput

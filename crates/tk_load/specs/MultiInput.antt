@@ -2,7 +2,7 @@
 use Rattle.std.specs.Prelude.{ℕ, ◌≡◌, List, length, map, All, Option, Some, None, IfSome, option_map, Result, Ok}
 use Rattle.tk_input.specs.Logs.{LogSet}
 use Rattle.tk_multi.specs.Alone.{alones_of}
-use Rattle.tk_multi.specs.Order.{MultiOrdered, multi_order_of}
+use Rattle.tk_multi.specs.Order.{MultiOrderView, multi_order_of}
 use Rattle.tk_multi.specs.Queries.{QueryView, queries_of}
 use Rattle.tk_multi.specs.declared.alone.Alone.{Alone}
 use Rattle.tk_multi.specs.declared.fault.MultiFault.{MultiFault}
@@ -12,7 +12,7 @@ use Rattle.tk_words.specs.Words.{MultiWords}
 use Rattle.tk_load.specs.Faults.{Fault, after, bad_whole, catalog_fault, order_fault, setting_kind, telling}
 use Rattle.tk_load.specs.Faults.Fault.{Bad, NoRoom}
 use Rattle.tk_load.specs.Input.{File, bytes_in, joined, logs_in, names_in}
-use Rattle.tk_load.specs.Reads.{IsRead, Meets, log_of}
+use Rattle.tk_load.specs.Reads.{FileReads, IsRead, Meets, log_of}
 use Rattle.tk_load.specs.declared.multi.MultiInput.{MultiInput}
 use Rattle.tk_load.specs.declared.status.InputKind.TheVariants as k
 use Rattle.tk_load.specs.declared.status.Status.{Status}
@@ -29,7 +29,7 @@ pub record MultiGiven : Type 0 where
   pub queries : List QueryView
   pub logs : LogSet
   pub alones : List Alone
-  pub order : Option MultiOrdered
+  pub order : Option MultiOrderView
 
 abbrev pub given_by : MultiInput → MultiGiven
 given_by input = record { queries = input.queries; logs = input.logs; alones = input.alones.items; order = input.order }
@@ -56,13 +56,13 @@ abbrev pub alones_in : List ℕ → List (List ℕ) → LogSet → List QueryVie
 alones_in file names logs queries = telling (multi_fault file) (alones_of names logs queries)
 
 -- the order, where the words name a file of one
-abbrev pub multi_order_from : List ℕ → List ℕ → Result MultiOrdered Fault
+abbrev pub multi_order_from : List ℕ → List ℕ → Result MultiOrderView Fault
 multi_order_from name bytes = telling (order_fault name) (multi_order_of bytes)
 
-abbrev pub multi_order_of_file : File → Result MultiOrdered Fault
+abbrev pub multi_order_of_file : File → Result MultiOrderView Fault
 multi_order_of_file file = after (bytes_in file) (multi_order_from file.name)
 
-abbrev pub multi_order_in : Option File → Result (Option MultiOrdered) Fault
+abbrev pub multi_order_in : Option File → Result (Option MultiOrderView) Fault
 multi_order_in None = Ok None
 multi_order_in (Some file) = after (multi_order_of_file file) (λ order. Ok (Some order))
 
@@ -89,15 +89,15 @@ multi_words_of read = record {
 }
 
 -- each file of the words was read
-pub record AreMultiRead (told : List ℕ → Option (List ℕ)) (old new : List ℕ → ℕ) (words : MultiWords) (read : ReadMulti) : Type 0 where
+pub record AreMultiRead (reads : FileReads) (words : MultiWords) (read : ReadMulti) : Type 0 where
   pub same : multi_words_of read ≡ words
-  pub objects : IsRead told old new read.objects
-  pub queries : IsRead told old new read.queries
-  pub logs : All (λ log. IsRead told old new log.1) read.logs
-  pub order : IfSome read.order (IsRead told old new)
+  pub objects : IsRead reads read.objects
+  pub queries : IsRead reads read.queries
+  pub logs : All (λ log. IsRead reads log.1) read.logs
+  pub order : IfSome read.order (IsRead reads)
 
 -- the files of the words were read, and the answer is their input, or the first rule that fails
-pub record LoadsMulti (told : List ℕ → Option (List ℕ)) (old new : List ℕ → ℕ) (words : MultiWords) (answer : Result MultiInput Status) : Type 0 where
+pub record LoadsMulti (reads : FileReads) (words : MultiWords) (answer : Result MultiInput Status) : Type 0 where
   pub read : ReadMulti
-  pub are_read : AreMultiRead told old new words read
+  pub are_read : AreMultiRead reads words read
   pub meets : Meets given_by (multi_input_of read) answer

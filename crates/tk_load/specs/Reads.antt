@@ -1,6 +1,8 @@
 -- What reading the files of some words gave, and what is then answered.
 use Rattle.std.specs.Prelude.{ℕ, ◌≡◌, ◌≤◌, List, map, Option, Some, None, option_map, IfSome, All, Result, Ok, Err}
+use Rattle.std.specs.Borrow.{Bor}
 use Rattle.tk_input.specs.Files.{HasRisen}
+use Rattle.tk_input.specs.declared.files.Files.{Ghosts as FilesOf}
 use Rattle.tk_words.specs.Words.{SourceWords}
 use Rattle.tk_load.specs.Faults.{Fault}
 use Rattle.tk_load.specs.Faults.Fault.{Bad, Great, Unread}
@@ -9,6 +11,24 @@ use Rattle.tk_load.specs.declared.basis.Basis.{Basis}
 use Rattle.tk_load.specs.declared.input.Input.{Input}
 use Rattle.tk_load.specs.declared.status.Status.{Status}
 use Rattle.tk_load.specs.declared.status.Status.TheVariants as s
+
+-- what some files tell, and how many reads of each name have failed before a call and after it
+pub record FileReads : Type 0 where
+  pub told : List ℕ → Option (List ℕ)
+  pub failed : List ℕ → ℕ
+  pub failed_then : List ℕ → ℕ
+
+-- the same of files that were in one state before the call, and are in another after it
+abbrev pub reads_by : {F : Type 0} → FilesOf F → F → F → FileReads
+reads_by files old new = record { told = files.content old; failed = files.fault_count old; failed_then = files.fault_count new }
+
+-- the failed reads of a name have become more
+abbrev pub HasFailed : FileReads → List ℕ → Type 0
+HasFailed reads name = HasRisen (reads.failed name) (reads.failed_then name)
+
+-- the name of a file, where there is one
+abbrev pub name_in : Option (Bor (List ℕ)) → Option (List ℕ)
+name_in file = option_map (λ s. s.now) file
 
 -- the words themselves
 abbrev pub log_of : ℕ × File → ℕ × List ℕ
@@ -31,15 +51,15 @@ Gave told old new (Some bytes) = IfSome told (λ content. bytes ≡ content)
 Gave told old new None = HasRisen old new
 
 -- the same of a file, by what is told and counted of its name
-abbrev pub IsRead : (List ℕ → Option (List ℕ)) → (List ℕ → ℕ) → (List ℕ → ℕ) → File → Type 0
-IsRead told old new file = Gave (told file.name) (old file.name) (new file.name) file.content
+abbrev pub IsRead : FileReads → File → Type 0
+IsRead reads file = Gave (reads.told file.name) (reads.failed file.name) (reads.failed_then file.name) file.content
 
 -- each file of the words was read
-pub record AreRead (told : List ℕ → Option (List ℕ)) (old new : List ℕ → ℕ) (words : SourceWords) (read : ReadWords) : Type 0 where
+pub record AreRead (reads : FileReads) (words : SourceWords) (read : ReadWords) : Type 0 where
   pub same : words_of read ≡ words
-  pub objects : IsRead told old new read.objects
-  pub logs : All (λ log. IsRead told old new log.1) read.logs
-  pub order : IfSome read.order (IsRead told old new)
+  pub objects : IsRead reads read.objects
+  pub logs : All (λ log. IsRead reads log.1) read.logs
+  pub order : IfSome read.order (IsRead reads)
 
 -- a status tells the fault; want of memory is free
 abbrev pub Tells : {A : Type 0} → Status → Result A Fault → Type 0
@@ -73,43 +93,43 @@ Meets view meant (Ok x) = meant ≡ Ok (view x)
 Meets view meant (Err status) = Tells status meant
 
 -- a file was read, and what it gives is answered
-pub record Reads {A V : Type 0} (told : List ℕ → Option (List ℕ)) (old new : List ℕ → ℕ) (name : List ℕ) (view : A → V) (meant : File → Result V Fault) (answer : Result A Status) : Type 0 where
+pub record Reads {A V : Type 0} (reads : FileReads) (name : List ℕ) (view : A → V) (meant : File → Result V Fault) (answer : Result A Status) : Type 0 where
   pub content : Option (List ℕ)
-  pub read : IsRead told old new (record { name = name; content = content })
+  pub read : IsRead reads (record { name = name; content = content })
   pub meets : Meets view (meant (record { name = name; content = content })) answer
 
 -- the files of the words were read, and the answer is what is meant by them, or the first rule that fails
-pub record LoadsBy {A : Type 0} (meant : ReadWords → Result A Fault) (told : List ℕ → Option (List ℕ)) (old new : List ℕ → ℕ) (words : SourceWords) (answer : Result A Status) : Type 0 where
+pub record LoadsBy {A : Type 0} (meant : ReadWords → Result A Fault) (reads : FileReads) (words : SourceWords) (answer : Result A Status) : Type 0 where
   pub read : ReadWords
-  pub are_read : AreRead told old new words read
+  pub are_read : AreRead reads words read
   pub meets : Meets (λ input. input) (meant read) answer
 
 -- the same of an input
-abbrev pub Loads : (List ℕ → Option (List ℕ)) → (List ℕ → ℕ) → (List ℕ → ℕ) → SourceWords → Result Input Status → Type 0
+abbrev pub Loads : FileReads → SourceWords → Result Input Status → Type 0
 Loads = LoadsBy input_of
 
 -- the words without their order, and the same of what stands in front of one
 abbrev pub without_order : SourceWords → SourceWords
 without_order words = record words { order = None }
 
-abbrev pub LoadsBasis : (List ℕ → Option (List ℕ)) → (List ℕ → ℕ) → (List ℕ → ℕ) → SourceWords → Result Basis Status → Type 0
-LoadsBasis told old new words = LoadsBy basis_of told old new (without_order words)
+abbrev pub LoadsBasis : FileReads → SourceWords → Result Basis Status → Type 0
+LoadsBasis reads words = LoadsBy basis_of reads (without_order words)
 
 -- logs were read one after the other, and what they give is answered
-pub record ReadsLogs {A V : Type 0} (told : List ℕ → Option (List ℕ)) (old new : List ℕ → ℕ) (names : List (ℕ × List ℕ)) (view : A → V) (meant : List (ℕ × File) → Result V Fault) (answer : Result A Status) : Type 0 where
+pub record ReadsLogs {A V : Type 0} (reads : FileReads) (names : List (ℕ × List ℕ)) (view : A → V) (meant : List (ℕ × File) → Result V Fault) (answer : Result A Status) : Type 0 where
   pub logs : List (ℕ × File)
   pub are_of : map log_of logs ≡ names
-  pub read : All (λ log. IsRead told old new log.1) logs
+  pub read : All (λ log. IsRead reads log.1) logs
   pub meets : Meets view (meant logs) answer
 
 -- an order file was read, where the words name one, and what it gives is answered
-pub record ReadsOrder {A : Type 0} (told : List ℕ → Option (List ℕ)) (old new : List ℕ → ℕ) (name : Option (List ℕ)) (meant : Option File → Result (Option A) Fault) (answer : Result (Option A) Status) : Type 0 where
+pub record ReadsOrder {A : Type 0} (reads : FileReads) (name : Option (List ℕ)) (meant : Option File → Result (Option A) Fault) (answer : Result (Option A) Status) : Type 0 where
   pub file : Option File
   pub is_of : option_map (λ f. f.name) file ≡ name
-  pub read : IfSome file (IsRead told old new)
+  pub read : IfSome file (IsRead reads)
   pub meets : Meets (λ order. order) (meant file) answer
 
--- reading changes nothing of what is told of the files, and no count of faults falls
-pub record AreKept (told told_then : List ℕ → Option (List ℕ)) (old new : List ℕ → ℕ) : Type 0 where
-  pub same : (name : List ℕ) → told_then name ≡ told name
-  pub counts : (name : List ℕ) → old name ≤ new name
+-- reading changes nothing of what is told of the files, and no count of failed reads falls
+pub record AreKept {F : Type 0} (files : FilesOf F) (old new : F) : Type 0 where
+  pub same : (name : List ℕ) → files.content new name ≡ files.content old name
+  pub counts : (name : List ℕ) → files.fault_count old name ≤ files.fault_count new name

@@ -9,7 +9,7 @@ use Rattle.tk_session.specs.declared.session_line.SessionLine.TheVariants.{Step,
 use Rattle.tk_words.specs.Words.{SourceWords}
 use Rattle.tk_load.specs.Faults.{Fault, after, bad_file, order_fault, telling}
 use Rattle.tk_load.specs.Input.{File, ReadWords, bad_line, basis_of, bytes_in, retune_kind}
-use Rattle.tk_load.specs.Reads.{LoadsBy}
+use Rattle.tk_load.specs.Reads.{FileReads, LoadsBy}
 use Rattle.tk_load.specs.declared.basis.Basis.{Basis}
 use Rattle.tk_load.specs.declared.sessions.SessionInput.{SessionInput}
 use Rattle.tk_load.specs.declared.status.InputKind.{InputKind}
@@ -67,5 +67,5 @@ session_input_of words =
     Ok (sessions_with basis order)))
 
 -- the files of the words were read, and the answer is their input, or the first rule that fails
-abbrev pub LoadsSessions : (List ℕ → Option (List ℕ)) → (List ℕ → ℕ) → (List ℕ → ℕ) → SourceWords → Result SessionInput Status → Type 0
+abbrev pub LoadsSessions : FileReads → SourceWords → Result SessionInput Status → Type 0
 LoadsSessions = LoadsBy session_input_of

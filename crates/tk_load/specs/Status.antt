@@ -55,15 +55,23 @@ abbrev pub link_text : Direction → List ℕ
 link_text UpLink = codes ": up frame "
 link_text DownLink = codes ": down frame "
 
+-- an object of a monitor whose changes pass the limit
+abbrev pub great_text : ℕ → ℕ → List ℕ
+great_text mon object = codes "monitor " ++ (decimal mon ++ (codes ": object " ++ (decimal object ++ codes ": the changes pass the limit")))
+
+-- the first frame of a link that differs
+abbrev pub differs_text : ℕ → Direction → ℕ → List ℕ
+differs_text mon direction place = codes "monitor " ++ (decimal mon ++ (link_text direction ++ (decimal place ++ codes " differs")))
+
 -- the line on standard error, without its line feed; nothing where the run is done
 abbrev pub fault_text : Status → List ℕ
 fault_text s.Done = []
 fault_text s.Usage = codes "topk: the words are not understood"
 fault_text (s.ReadFault file) = codes "topk: " ++ (file.items ++ codes ": cannot be read")
 fault_text (s.BadInput file line kind) = codes "topk: " ++ (place_text file.items ++ (codes ": " ++ (line_text line ++ kind_text kind)))
-fault_text (s.TooGreat mon obj) = codes "topk: " ++ (codes "monitor " ++ (decimal mon.0 ++ (codes ": object " ++ (decimal obj.0 ++ codes ": the changes pass the limit"))))
+fault_text (s.TooGreat mon obj) = codes "topk: " ++ great_text mon.0 obj.0
 fault_text s.WriteFault = codes "topk: the output cannot be written"
 fault_text s.NoMemory = codes "topk: out of memory"
 fault_text s.LinkFault = codes "topk: a link failed"
-fault_text (s.LinkDiffers mon direction place sent received) = codes "topk: " ++ (codes "monitor " ++ (decimal mon.0 ++ (link_text direction ++ (decimal place ++ codes " differs"))))
+fault_text (s.LinkDiffers mon direction place sent received) = codes "topk: " ++ differs_text mon.0 direction place
 fault_text (s.BadTrace file fault) = codes "topk: " ++ (file.items ++ codes ": not a legal trace")

@@ -1,8 +1,8 @@
 -- The input over files that tell what they hold.
-use Rattle.std.specs.Prelude.{ℕ, ◌≡◌, List, [], ◌∷◌, ◌++◌, map, Option, Some, None, option_map, All, Contains}
-use Rattle.tk_input.specs.Files.{HasRisen}
+use Rattle.std.specs.Prelude.{ℕ, ◌≡◌, ◌≤◌, List, [], ◌∷◌, ◌++◌, length, map, Option, Some, None, option_map, All, Contains}
 use Rattle.tk_words.specs.Words.{SourceWords}
 use Rattle.tk_load.specs.Input.{File, ReadWords}
+use Rattle.tk_load.specs.Reads.{FileReads, HasFailed}
 use Rattle.tk_load.specs.declared.status.Status.{Status}
 use Rattle.tk_load.specs.declared.status.Status.TheVariants as s
 
@@ -32,19 +32,25 @@ abbrev pub files_of : SourceWords → List (List ℕ)
 files_of words = words.objects ∷ (map (λ log. log.1) words.logs ++ only words.order)
 
 -- each file of the words tells what stands under its name, and no read of it failed
-pub record AreTold (told : List ℕ → Option (List ℕ)) (old new : List ℕ → ℕ) (contents : List ℕ → List ℕ) (words : SourceWords) : Type 0 where
-  pub content : All (λ name. told name ≡ Some (contents name)) (files_of words)
-  pub unfailed : All (λ name. HasRisen (old name) (new name) → ⊥) (files_of words)
+pub record AreTold (reads : FileReads) (contents : List ℕ → List ℕ) (words : SourceWords) : Type 0 where
+  pub content : All (λ name. reads.told name ≡ Some (contents name)) (files_of words)
+  pub unfailed : All (λ name. HasFailed reads name → ⊥) (files_of words)
+
+-- a file tells these bytes, at most 64 MiB, and no read of it failed
+pub record IsTold (reads : FileReads) (name bytes : List ℕ) : Type 0 where
+  pub content : reads.told name ≡ Some bytes
+  pub unfailed : HasFailed reads name → ⊥
+  pub fits : length bytes ≤ 67108864
 
 -- a file that is told to be unreadable is one of the words, and its faults rose
-abbrev pub IsCounted : SourceWords → (List ℕ → ℕ) → (List ℕ → ℕ) → Status → Type 0
-IsCounted words old new (s.ReadFault file) = Contains (files_of words) file.items × HasRisen (old file.items) (new file.items)
-IsCounted words old new s.Done = Unit
-IsCounted words old new s.Usage = Unit
-IsCounted words old new (s.BadInput file line kind) = Unit
-IsCounted words old new (s.TooGreat mon obj) = Unit
-IsCounted words old new s.WriteFault = Unit
-IsCounted words old new s.NoMemory = Unit
-IsCounted words old new s.LinkFault = Unit
-IsCounted words old new (s.LinkDiffers mon direction place sent received) = Unit
-IsCounted words old new (s.BadTrace file fault) = Unit
+abbrev pub IsCounted : FileReads → SourceWords → Status → Type 0
+IsCounted reads words (s.ReadFault file) = Contains (files_of words) file.items × HasFailed reads file.items
+IsCounted reads words s.Done = Unit
+IsCounted reads words s.Usage = Unit
+IsCounted reads words (s.BadInput file line kind) = Unit
+IsCounted reads words (s.TooGreat mon obj) = Unit
+IsCounted reads words s.WriteFault = Unit
+IsCounted reads words s.NoMemory = Unit
+IsCounted reads words s.LinkFault = Unit
+IsCounted reads words (s.LinkDiffers mon direction place sent received) = Unit
+IsCounted reads words (s.BadTrace file fault) = Unit

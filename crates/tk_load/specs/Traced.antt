@@ -9,7 +9,7 @@ use Rattle.tk_trace.specs.declared.trace.Trace.{Trace}
 use Rattle.tk_verify.specs.Recorded.{ReachesItsEnd}
 use Rattle.tk_load.specs.Faults.{Fault}
 use Rattle.tk_load.specs.Input.{bytes_from}
-use Rattle.tk_load.specs.Reads.{IsRead, Says}
+use Rattle.tk_load.specs.Reads.{FileReads, IsRead, Says}
 use Rattle.tk_load.specs.declared.status.Status.{Status}
 use Rattle.tk_load.specs.declared.status.Status.TheVariants as s
 
@@ -46,7 +46,7 @@ TracesRead name (Err fault) (Ok trace) = ⊥
 TracesRead name (Err fault) (Err status) = Says status fault
 
 -- a file was read, and the answer is its trace, or the first fault that there is
-pub record LoadsTrace (told : List ℕ → Option (List ℕ)) (old new : List ℕ → ℕ) (name : List ℕ) (answer : Result Trace Status) : Type 0 where
+pub record LoadsTrace (reads : FileReads) (name : List ℕ) (answer : Result Trace Status) : Type 0 where
   pub content : Option (List ℕ)
-  pub read : IsRead told old new (record { name = name; content = content })
+  pub read : IsRead reads (record { name = name; content = content })
   pub traces : TracesRead name (bytes_from name content) answer

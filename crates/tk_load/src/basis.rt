@@ -2,8 +2,8 @@
 
 ghost use Rattle.std.specs.Prelude.{◌≡◌, IfOk, Ok, length};
 ghost use Rattle.tk_input.specs.Catalog.{catalog_from};
-ghost use Rattle.tk_load.specs.Input.{greatest_monitor, limits_in, names_in};
-ghost use Rattle.tk_load.specs.Reads.{AreKept, LoadsBasis, Meets, Reads};
+ghost use Rattle.tk_load.specs.Input.{greatest_monitor, limits_asked, names_in};
+ghost use Rattle.tk_load.specs.Reads.{AreKept, LoadsBasis, Meets, Reads, reads_by};
 ghost use Rattle.tk_load.specs.Whole.{AreAgreed, IsWidth};
 ghost use Rattle.tk_words.specs.Asked.{AreOfMonitors, asked_logs, asked_sources};
 
@@ -37,9 +37,8 @@ fn monitors_of(logs: &[(Mon, &str)]) -> u32
 /// The catalogue of a file.
 pub fn read_names<F: Files>(alloc: Global, files: &mut F, file: &str) -> Result<Catalog, Status>
     ensures named { IfOk result (λ names. catalog_from names ≡ Ok names) }
-    ensures read { Reads (F.content files.old) (F.fault_count files.old) (F.fault_count files.new)
-        file.now (λ names. names) names_in result }
-    ensures kept { AreKept (F.content files.old) (F.content files.new) (F.fault_count files.old) (F.fault_count files.new) }
+    ensures read { Reads (reads_by F.Files files.old files.new) file.now (λ names. names) names_in result }
+    ensures kept { AreKept F.Files files.old files.new }
 {
     match read(alloc, files, file) {
         Ok(bytes) => names_of(alloc, bytes.as_slice(), file),
@@ -51,8 +50,7 @@ fn limits_of(alloc: Global, words: &Sources<'_>, names: &Catalog) -> Result<Limi
     ensures objects { IfOk result (λ l. l.settings.objects ≡ length names.now) }
     ensures monitors { IfOk result (λ l. l.settings.monitors ≡ greatest_monitor (asked_logs words.now.logs.items)) }
     ensures width { IfOk result (λ l. IsWidth l.width) }
-    ensures meets { Meets (λ l. l)
-        (limits_in words.now.k words.now.epsilon words.now.own_weight words.now.width (length names.now) (greatest_monitor (asked_logs words.now.logs.items))) result }
+    ensures meets { Meets (λ l. l) (limits_asked (asked_sources words.now) names.now) result }
 {
     let monitors = u64::from(monitors_of(words.logs.as_slice()));
     let objects = names.len() as u64;
@@ -82,9 +80,8 @@ pub fn load_basis<F: Files>(
     requires { AreOfMonitors words.now.logs.items }
     ensures named { IfOk result (λ basis. catalog_from basis.names ≡ Ok basis.names) }
     ensures agreed { IfOk result (λ basis. AreAgreed basis.names basis.settings basis.logs) }
-    ensures read { LoadsBasis (F.content files.old) (F.fault_count files.old) (F.fault_count files.new)
-        (asked_sources words.now) result }
-    ensures kept { AreKept (F.content files.old) (F.content files.new) (F.fault_count files.old) (F.fault_count files.new) }
+    ensures read { LoadsBasis (reads_by F.Files files.old files.new) (asked_sources words.now) result }
+    ensures kept { AreKept F.Files files.old files.new }
 {
     let names = match read_names(alloc, files, words.objects) {
         Ok(names) => names,

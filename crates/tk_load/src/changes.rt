@@ -2,7 +2,7 @@ ghost use Rattle.std.specs.Prelude.{◌≡◌, ◌+◌, ◌≤◌, IfOk, All, le
 ghost use Rattle.tk_input.specs.Judged.{last_monitor};
 ghost use Rattle.tk_input.specs.Logs.{IsObject};
 ghost use Rattle.tk_load.specs.Input.{changes_after, changes_in, ends_with, greatest_monitor, joined, logs_in, together};
-ghost use Rattle.tk_load.specs.Reads.{AreKept, Meets, Reads, ReadsLogs};
+ghost use Rattle.tk_load.specs.Reads.{AreKept, Meets, Reads, ReadsLogs, reads_by};
 ghost use Rattle.tk_load.specs.Whole.{IsWidth};
 ghost use Rattle.tk_window.specs.Expanded.{expansion_of, sources_of};
 ghost use Rattle.tk_window.specs.TickEnds.{last_source, parts_in};
@@ -36,9 +36,8 @@ fn read_part<F: Files>(
     requires { IsWidth width }
     ensures objects { IfOk result (λ e. AreOver (length names.now) e.part) }
     ensures most { IfOk result (λ e. length e.part ≤ 1000000) }
-    ensures read { Reads (F.content files.old) (F.fault_count files.old) (F.fault_count files.new)
-        file.now expansion_of (changes_in width names.now) result }
-    ensures kept { AreKept (F.content files.old) (F.content files.new) (F.fault_count files.old) (F.fault_count files.new) }
+    ensures read { Reads (reads_by F.Files files.old files.new) file.now expansion_of (changes_in width names.now) result }
+    ensures kept { AreKept F.Files files.old files.new }
 {
     match read(alloc, files, file) {
         Ok(bytes) => log_by(alloc, bytes.as_slice(), names, width, file),
@@ -60,9 +59,9 @@ fn next_part<F: Files>(
     ensures objects { IfOk result (λ e. AreOver (length names.now) e.part) }
     ensures most { IfOk result (λ e. length e.part ≤ 1000000) }
     ensures few { IfOk result (λ e. before + length e.part ≤ 4000000) }
-    ensures read { Reads (F.content files.old) (F.fault_count files.old) (F.fault_count files.new)
+    ensures read { Reads (reads_by F.Files files.old files.new)
         file.now expansion_of (changes_after before width names.now) result }
-    ensures kept { AreKept (F.content files.old) (F.content files.new) (F.fault_count files.old) (F.fault_count files.new) }
+    ensures kept { AreKept F.Files files.old files.new }
 {
     let log = match read_part(alloc, names, width, files, file) {
         Ok(log) => log,
@@ -88,9 +87,9 @@ pub fn parts_of<F: Files>(
     ensures last { IfOk result (λ logs. last_source (sources_of logs.items) ≡ greatest_monitor (asked_logs words.now)) }
     ensures objects { IfOk result (λ logs. All (λ l. AreOver (length names.now) l.1.part) logs.items) }
     ensures lengths { IfOk result (λ logs. All (λ l. length l.1.part ≤ 1000000) logs.items) }
-    ensures read { ReadsLogs (F.content files.old) (F.fault_count files.old) (F.fault_count files.new)
-        (asked_logs words.now) (λ logs. sources_of logs.items) (logs_in width names.now) result }
-    ensures kept { AreKept (F.content files.old) (F.content files.new) (F.fault_count files.old) (F.fault_count files.new) }
+    ensures read { ReadsLogs (reads_by F.Files files.old files.new)
+        (asked_logs words.now) (λ l. sources_of l.items) (logs_in width names.now) result }
+    ensures kept { AreKept F.Files files.old files.new }
 {
     let mut parts = Vec::new(alloc);
     let mut updates = 0;

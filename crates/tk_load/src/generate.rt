@@ -1,6 +1,5 @@
 ghost use Rattle.std.specs.Prelude.{◌≡◌, ◌<◌, ◌≤◌, ◌++◌, IfErr, IfOk, OnOk, codes, decimal, length};
-ghost use Rattle.tk_load.specs.Generated.{generated_of, logs_made, made, names_made, names_text as text_of_names};
-ghost use Rattle.tk_load.specs.Input.{joined};
+ghost use Rattle.tk_load.specs.Generated.{generated_of, logs_asked, names_made, names_text as text_of_names};
 ghost use Rattle.tk_load.specs.Reads.{Meets};
 ghost use Rattle.tk_load.specs.Whole.{AreAgreed};
 ghost use Rattle.tk_load.specs.declared.status.Status.TheVariants.{NoMemory as OutOfMemory};
@@ -65,8 +64,7 @@ fn made_logs(alloc: Global, words: &Generate, settings: &Settings) -> Result<Log
     requires few { words.now.updates ≤ 1000000 }
     ensures objects { IfOk result (λ s. s.objects ≡ settings.now.objects) }
     ensures monitors { IfOk result (λ s. length s.logs ≡ settings.now.monitors) }
-    ensures meets { Meets (λ s. s)
-        (joined (logs_made words.now.monitors (made words.now.monitors words.now.objects words.now.updates words.now.seed)) words.now.objects) result }
+    ensures meets { Meets (λ s. s) (logs_asked (asked_generate words.now)) result }
 {
     let count = words.updates as u32;
     let monitors = settings.monitors();

@@ -1,6 +1,6 @@
 ghost use Rattle.std.specs.Prelude.{◌≡◌, IfOk, Ok};
 ghost use Rattle.tk_input.specs.Catalog.{catalog_from};
-ghost use Rattle.tk_load.specs.Reads.{AreKept, Loads};
+ghost use Rattle.tk_load.specs.Reads.{AreKept, Loads, reads_by};
 ghost use Rattle.tk_load.specs.Whole.{AreAgreed};
 ghost use Rattle.tk_words.specs.Asked.{AreOfMonitors, asked_sources};
 
@@ -29,9 +29,8 @@ pub fn load<F: Files>(alloc: Global, words: &Sources<'_>, files: &mut F) -> Resu
     requires { AreOfMonitors words.now.logs.items }
     ensures named { IfOk result (λ input. catalog_from input.names ≡ Ok input.names) }
     ensures agreed { IfOk result (λ input. AreAgreed input.names input.settings input.logs) }
-    ensures read { Loads (F.content files.old) (F.fault_count files.old) (F.fault_count files.new)
-        (asked_sources words.now) result }
-    ensures kept { AreKept (F.content files.old) (F.content files.new) (F.fault_count files.old) (F.fault_count files.new) }
+    ensures read { Loads (reads_by F.Files files.old files.new) (asked_sources words.now) result }
+    ensures kept { AreKept F.Files files.old files.new }
 {
     let Basis {
         names,

@@ -1,8 +1,8 @@
 //! The input of several queries.
 
-ghost use Rattle.std.specs.Prelude.{◌≡◌, IfOk, All, None, length, option_map};
+ghost use Rattle.std.specs.Prelude.{◌≡◌, IfOk, All, None, length};
 ghost use Rattle.tk_load.specs.MultiInput.{LoadsMulti, all_logs_in, alones_in, multi_order_from, multi_order_in, multi_order_of_file, queries_from, queries_in};
-ghost use Rattle.tk_load.specs.Reads.{AreKept, Meets, Reads, ReadsLogs, ReadsOrder};
+ghost use Rattle.tk_load.specs.Reads.{AreKept, Meets, Reads, ReadsLogs, ReadsOrder, name_in, reads_by};
 ghost use Rattle.tk_multi.specs.Alone.{AreOfOneSize};
 ghost use Rattle.tk_words.specs.Asked.{AreOfMonitors, asked_logs, asked_multi};
 
@@ -44,9 +44,8 @@ fn queries_of(alloc: Global, bytes: &[u8], file: &str) -> Result<Queries, Status
 }
 
 fn read_queries<F: Files>(alloc: Global, files: &mut F, file: &str) -> Result<Queries, Status>
-    ensures read { Reads (F.content files.old) (F.fault_count files.old) (F.fault_count files.new)
-        file.now (λ queries. queries) queries_in result }
-    ensures kept { AreKept (F.content files.old) (F.content files.new) (F.fault_count files.old) (F.fault_count files.new) }
+    ensures read { Reads (reads_by F.Files files.old files.new) file.now (λ queries. queries) queries_in result }
+    ensures kept { AreKept F.Files files.old files.new }
 {
     match read(alloc, files, file) {
         Ok(bytes) => queries_of(alloc, bytes.as_slice(), file),
@@ -62,9 +61,9 @@ fn all_logs<F: Files>(
     files: &mut F,
 ) -> Result<Logs, Status>
     requires monitors { AreOfMonitors words.now }
-    ensures read { ReadsLogs (F.content files.old) (F.fault_count files.old) (F.fault_count files.new)
+    ensures read { ReadsLogs (reads_by F.Files files.old files.new)
         (asked_logs words.now) (λ logs. logs) (all_logs_in names.now) result }
-    ensures kept { AreKept (F.content files.old) (F.content files.new) (F.fault_count files.old) (F.fault_count files.new) }
+    ensures kept { AreKept F.Files files.old files.new }
 {
     let parts = match parts_of(alloc, words, names, None, files) {
         Ok(parts) => parts,
@@ -105,9 +104,8 @@ fn order_of(alloc: Global, bytes: &[u8], file: &str) -> Result<MultiOrder, Statu
 }
 
 fn order_from_file<F: Files>(alloc: Global, files: &mut F, file: &str) -> Result<MultiOrder, Status>
-    ensures read { Reads (F.content files.old) (F.fault_count files.old) (F.fault_count files.new)
-        file.now (λ order. order) multi_order_of_file result }
-    ensures kept { AreKept (F.content files.old) (F.content files.new) (F.fault_count files.old) (F.fault_count files.new) }
+    ensures read { Reads (reads_by F.Files files.old files.new) file.now (λ order. order) multi_order_of_file result }
+    ensures kept { AreKept F.Files files.old files.new }
 {
     match read(alloc, files, file) {
         Ok(bytes) => order_of(alloc, bytes.as_slice(), file),
@@ -121,9 +119,8 @@ fn read_order<F: Files>(
     files: &mut F,
     file: Option<&str>,
 ) -> Result<Option<MultiOrder>, Status>
-    ensures read { ReadsOrder (F.content files.old) (F.fault_count files.old) (F.fault_count files.new)
-        (option_map (λ s. s.now) file.entry) multi_order_in result }
-    ensures kept { AreKept (F.content files.old) (F.content files.new) (F.fault_count files.old) (F.fault_count files.new) }
+    ensures read { ReadsOrder (reads_by F.Files files.old files.new) (name_in file.entry) multi_order_in result }
+    ensures kept { AreKept F.Files files.old files.new }
 {
     let Some(file) = file else {
         return Ok(None);
@@ -144,9 +141,8 @@ pub fn load_multi<F: Files>(
     requires { AreOfMonitors words.now.logs.items }
     ensures count { IfOk result (λ input. length input.alones.items ≡ length input.queries) }
     ensures sizes { IfOk result (λ input. All AreOfOneSize input.alones.items) }
-    ensures read { LoadsMulti (F.content files.old) (F.fault_count files.old) (F.fault_count files.new)
-        (asked_multi words.now) result }
-    ensures kept { AreKept (F.content files.old) (F.content files.new) (F.fault_count files.old) (F.fault_count files.new) }
+    ensures read { LoadsMulti (reads_by F.Files files.old files.new) (asked_multi words.now) result }
+    ensures kept { AreKept F.Files files.old files.new }
 {
     let names = match read_names(alloc, files, words.objects) {
         Ok(names) => names,

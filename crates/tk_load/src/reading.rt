@@ -6,7 +6,7 @@ ghost use Rattle.tk_input.specs.Order.{order_of as order_of_bytes};
 ghost use Rattle.tk_load.specs.Faults.{bad_whole as whole_fault, catalog_fault, log_fault, order_fault, telling};
 ghost use Rattle.tk_load.specs.Faults.Fault.{Bad};
 ghost use Rattle.tk_load.specs.Input.{bytes_in, log_from};
-ghost use Rattle.tk_load.specs.Reads.{AreKept, Meets, Reads, Says};
+ghost use Rattle.tk_load.specs.Reads.{AreKept, Meets, Reads, Says, reads_by};
 ghost use Rattle.tk_load.specs.Whole.{IsWidth};
 ghost use Rattle.tk_window.specs.Expanded.{expansion_of};
 ghost use Rattle.tk_window.specs.Ticks.{AreOver, ticked_of};
@@ -40,9 +40,8 @@ pub fn bad_whole(alloc: Global, kind: InputKind) -> Status
 
 /// The whole content of a file.
 pub fn read<F: Files>(alloc: Global, files: &mut F, file: &str) -> Result<Vec<u8>, Status>
-    ensures read { Reads (F.content files.old) (F.fault_count files.old) (F.fault_count files.new)
-        file.now (λ v. v.items) bytes_in result }
-    ensures kept { AreKept (F.content files.old) (F.content files.new) (F.fault_count files.old) (F.fault_count files.new) }
+    ensures read { Reads (reads_by F.Files files.old files.new) file.now (λ v. v.items) bytes_in result }
+    ensures kept { AreKept F.Files files.old files.new }
 {
     match files.read_all(alloc, file) {
         Ok(bytes) => Ok(bytes),

@@ -1,6 +1,6 @@
-ghost use Rattle.std.specs.Prelude.{◌≡◌, Ok, option_map};
+ghost use Rattle.std.specs.Prelude.{◌≡◌, Ok};
 ghost use Rattle.tk_load.specs.Input.{order_from, order_in, order_of_bytes, retune_kind, retunes_tested};
-ghost use Rattle.tk_load.specs.Reads.{AreKept, Meets, Reads, ReadsOrder};
+ghost use Rattle.tk_load.specs.Reads.{AreKept, Meets, Reads, ReadsOrder, name_in, reads_by};
 
 use crate::reading::{bad_file, order_of, read};
 use crate::settings::kind_of;
@@ -67,9 +67,8 @@ fn order_from_file<F: Files>(
     files: &mut F,
     file: &str,
 ) -> Result<Order, Status>
-    ensures read { Reads (F.content files.old) (F.fault_count files.old) (F.fault_count files.new)
-        file.now (λ order. order) (order_from settings.now) result }
-    ensures kept { AreKept (F.content files.old) (F.content files.new) (F.fault_count files.old) (F.fault_count files.new) }
+    ensures read { Reads (reads_by F.Files files.old files.new) file.now (λ order. order) (order_from settings.now) result }
+    ensures kept { AreKept F.Files files.old files.new }
 {
     match read(alloc, files, file) {
         Ok(bytes) => tested_order(alloc, settings, bytes.as_slice(), file),
@@ -84,9 +83,8 @@ pub fn read_order<F: Files>(
     files: &mut F,
     file: Option<&str>,
 ) -> Result<Option<Order>, Status>
-    ensures read { ReadsOrder (F.content files.old) (F.fault_count files.old) (F.fault_count files.new)
-        (option_map (λ s. s.now) file.entry) (order_in settings.now) result }
-    ensures kept { AreKept (F.content files.old) (F.content files.new) (F.fault_count files.old) (F.fault_count files.new) }
+    ensures read { ReadsOrder (reads_by F.Files files.old files.new) (name_in file.entry) (order_in settings.now) result }
+    ensures kept { AreKept F.Files files.old files.new }
 {
     let Some(file) = file else {
         return Ok(None);

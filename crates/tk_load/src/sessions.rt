@@ -1,9 +1,9 @@
 //! The input of a coordinator that restarts.
 
-ghost use Rattle.std.specs.Prelude.{◌≡◌, ◌≤◌, IfOk, option_map, sum_by};
+ghost use Rattle.std.specs.Prelude.{◌≡◌, ◌≤◌, IfOk, sum_by};
 ghost use Rattle.tk_input.specs.Logs.{IsMonitor, parts_of, updates_of};
 ghost use Rattle.tk_load.specs.Faults.{order_fault, telling};
-ghost use Rattle.tk_load.specs.Reads.{AreKept, Meets, Reads, ReadsOrder};
+ghost use Rattle.tk_load.specs.Reads.{AreKept, Meets, Reads, ReadsOrder, name_in, reads_by};
 ghost use Rattle.tk_load.specs.SessionInput.{LoadsSessions, changes_of, few_changes, line_kind, lines_tested, session_order_by, session_order_from, session_order_in};
 ghost use Rattle.tk_load.specs.Whole.{AreAgreed};
 ghost use Rattle.tk_session.specs.Order.{session_order_of};
@@ -134,9 +134,9 @@ fn order_from_file<F: Files>(
     files: &mut F,
     file: &str,
 ) -> Result<SessionOrder, Status>
-    ensures read { Reads (F.content files.old) (F.fault_count files.old) (F.fault_count files.new)
+    ensures read { Reads (reads_by F.Files files.old files.new)
         file.now (λ order. order) (session_order_from settings.now logs.now) result }
-    ensures kept { AreKept (F.content files.old) (F.content files.new) (F.fault_count files.old) (F.fault_count files.new) }
+    ensures kept { AreKept F.Files files.old files.new }
 {
     match read(alloc, files, file) {
         Ok(bytes) => tested_order(alloc, settings, logs, bytes.as_slice(), file),
@@ -152,9 +152,9 @@ fn read_order<F: Files>(
     files: &mut F,
     file: Option<&str>,
 ) -> Result<Option<SessionOrder>, Status>
-    ensures read { ReadsOrder (F.content files.old) (F.fault_count files.old) (F.fault_count files.new)
-        (option_map (λ s. s.now) file.entry) (session_order_in settings.now logs.now) result }
-    ensures kept { AreKept (F.content files.old) (F.content files.new) (F.fault_count files.old) (F.fault_count files.new) }
+    ensures read { ReadsOrder (reads_by F.Files files.old files.new)
+        (name_in file.entry) (session_order_in settings.now logs.now) result }
+    ensures kept { AreKept F.Files files.old files.new }
 {
     let Some(file) = file else {
         return Ok(None);
@@ -173,9 +173,8 @@ pub fn load_sessions<F: Files>(
 ) -> Result<SessionInput, Status>
     requires { AreOfMonitors words.now.logs.items }
     ensures agreed { IfOk result (λ input. AreAgreed input.names input.settings input.logs) }
-    ensures read { LoadsSessions (F.content files.old) (F.fault_count files.old) (F.fault_count files.new)
-        (asked_sources words.now) result }
-    ensures kept { AreKept (F.content files.old) (F.content files.new) (F.fault_count files.old) (F.fault_count files.new) }
+    ensures read { LoadsSessions (reads_by F.Files files.old files.new) (asked_sources words.now) result }
+    ensures kept { AreKept F.Files files.old files.new }
 {
     let Basis {
         names,

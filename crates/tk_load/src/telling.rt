@@ -1,6 +1,6 @@
 ghost use Rattle.std.specs.Prelude.{◌≡◌, ◌++◌, IfOk, OnOk, codes};
 ghost use Rattle.std.specs.Fmt.{decimal};
-ghost use Rattle.tk_load.specs.Status.{fault_text, kind_text, line_text, link_text, place_text};
+ghost use Rattle.tk_load.specs.Status.{differs_text, fault_text, great_text, kind_text, line_text, link_text, place_text};
 
 use crate::status::{InputKind, Status};
 use itoa::Buffer;
@@ -102,8 +102,7 @@ fn push_object(line: &mut Vec<u8>, object: u32) -> Result<(), AllocError>
 }
 
 fn push_too_great(line: &mut Vec<u8>, mon: Mon, object: u32) -> Result<(), AllocError>
-    ensures { OnOk result (line.new.items ≡ line.old.items
-        ++ (codes "monitor " ++ (decimal mon.0 ++ (codes ": object " ++ (decimal object ++ codes ": the changes pass the limit"))))) }
+    ensures { OnOk result (line.new.items ≡ line.old.items ++ great_text mon.0 object) }
 {
     push_monitor(line, b"monitor ", mon)?;
     push_object(line, object)?;
@@ -134,8 +133,7 @@ fn push_differs(
     direction: Direction,
     place: u64,
 ) -> Result<(), AllocError>
-    ensures { OnOk result (line.new.items ≡ line.old.items
-        ++ (codes "monitor " ++ (decimal mon.0 ++ (link_text direction ++ (decimal place ++ codes " differs"))))) }
+    ensures { OnOk result (line.new.items ≡ line.old.items ++ differs_text mon.0 direction place) }
 {
     push_monitor(line, b"monitor ", mon)?;
     push_link(line, direction)?;
@@ -147,31 +145,27 @@ fn push_differs(
 pub fn fault_line(alloc: Global, status: &Status) -> Result<Vec<u8>, NoMemory>
     ensures { IfOk result (λ line. line.items ≡ fault_text status.now) }
 {
-    let mut line = Vec::new(alloc);
+    let mut text = Vec::new(alloc);
     if let Status::Done = status {
-        return Ok(line);
+        return Ok(text);
     }
-    line.extend_from_slice(b"topk: ")?;
+    text.extend_from_slice(b"topk: ")?;
     match status {
         Status::Done => {}
-        Status::Usage => line.extend_from_slice(b"the words are not understood")?,
-        Status::ReadFault { file } => push_of_file(&mut line, file, b": cannot be read")?,
-        Status::BadInput {
-            file,
-            line: number,
-            kind,
-        } => push_bad_input(&mut line, file, *number, *kind)?,
-        Status::TooGreat { mon, obj } => push_too_great(&mut line, *mon, obj.0)?,
-        Status::WriteFault => line.extend_from_slice(b"the output cannot be written")?,
-        Status::NoMemory => line.extend_from_slice(b"out of memory")?,
-        Status::LinkFault => line.extend_from_slice(b"a link failed")?,
+        Status::Usage => text.extend_from_slice(b"the words are not understood")?,
+        Status::ReadFault { file } => push_of_file(&mut text, file, b": cannot be read")?,
+        Status::BadInput { file, line, kind } => push_bad_input(&mut text, file, *line, *kind)?,
+        Status::TooGreat { mon, obj } => push_too_great(&mut text, *mon, obj.0)?,
+        Status::WriteFault => text.extend_from_slice(b"the output cannot be written")?,
+        Status::NoMemory => text.extend_from_slice(b"out of memory")?,
+        Status::LinkFault => text.extend_from_slice(b"a link failed")?,
         Status::LinkDiffers {
             mon,
             direction,
             place,
             ..
-        } => push_differs(&mut line, *mon, *direction, *place)?,
-        Status::BadTrace { file, .. } => push_of_file(&mut line, file, b": not a legal trace")?,
+        } => push_differs(&mut text, *mon, *direction, *place)?,
+        Status::BadTrace { file, .. } => push_of_file(&mut text, file, b": not a legal trace")?,
     }
-    Ok(line)
+    Ok(text)
 }

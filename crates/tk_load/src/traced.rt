@@ -1,7 +1,7 @@
 //! The trace that a file holds.
 
 ghost use Rattle.std.specs.Prelude.{◌≡◌, ◌⊎◌, ℕ, List, IfOk, length};
-ghost use Rattle.tk_load.specs.Reads.{AreKept};
+ghost use Rattle.tk_load.specs.Reads.{AreKept, reads_by};
 ghost use Rattle.tk_load.specs.Traced.{LoadsTrace, TellsWrong, TracesBytes};
 ghost use Rattle.tk_story.specs.Story.{IsStory};
 ghost use Rattle.tk_trace.specs.Checked.{Faults};
@@ -45,8 +45,8 @@ pub fn load_trace<F: Files>(alloc: Global, file: &str, files: &mut F) -> Result<
     ensures named { IfOk result (λ t. length t.names ≡ t.story.story.settings.objects) }
     ensures legal { IfOk result (λ t. IsStory t.story.story) }
     ensures finished { IfOk result (λ t. ReachesItsEnd t.story.story) }
-    ensures read { LoadsTrace (F.content files.old) (F.fault_count files.old) (F.fault_count files.new) file.now result }
-    ensures kept { AreKept (F.content files.old) (F.content files.new) (F.fault_count files.old) (F.fault_count files.new) }
+    ensures read { LoadsTrace (reads_by F.Files files.old files.new) file.now result }
+    ensures kept { AreKept F.Files files.old files.new }
 {
     match read_file(alloc, files, file) {
         Ok(bytes) => trace_of(alloc, bytes.as_slice(), file),

@@ -17,7 +17,7 @@ use Rattle.tk_border.proofs.LevelLemmas.{least_none, small_level}
 use Rattle.std.proofs.lemmas.List.Elements.{recursion_from_All, All-map}
 use Rattle.std.specs.List.{AllByRecursion as ByRecursion}
 use Rattle.tk_trail.proofs.MappedLemmas.{mapped_one, mapped_same}
-use Rattle.tk_monitor.specs.Board.{Standing, IsBoard, AreFactors, assigned, assigned_level, factors_over, values_in}
+use Rattle.tk_monitor.specs.Board.{BoardView, IsBoard, AreFactors, assigned, assigned_level, factors_over, values_in}
 
 -- one place of a list written
 level_set : (xs : List ℤ) (i o : ℕ) (v : ℤ) (P : ℤ → Type 0) → i < length xs → P v → P (level_at xs o) → P (level_at (set xs i v) o)
@@ -28,7 +28,7 @@ level_set xs i o v P within new old =
     ]
 
 -- value and level of an object change
-pub board_set : (s : Standing) (i : ℕ) (value level : ℤ) → IsBoard s → i < length s.levels → unsigned_abs value ≤ 2 ^ 100 → unsigned_abs (level -ℤ value) ≤ 2 ^ 112 → IsBoard (record s { values = set s.values i value; levels = set s.levels i level })
+pub board_set : (s : BoardView) (i : ℕ) (value level : ℤ) → IsBoard s → i < length s.levels → unsigned_abs value ≤ 2 ^ 100 → unsigned_abs (level -ℤ value) ≤ 2 ^ 112 → IsBoard (record s { values = set s.values i value; levels = set s.levels i level })
 board_set s i value level is within small factor = record {
   shape = length-set s.values i value ∙ is.shape ∙ sym (length-set s.levels i level);
   objects = omega (arith, length-set s.levels i level, is.objects);
@@ -48,7 +48,7 @@ board_set s i value level is within small factor = record {
 }
 
 -- the level of an object alone changes
-pub board_level : (s : Standing) (i : ℕ) (level : ℤ) → IsBoard s → i < length s.levels → unsigned_abs (level -ℤ get_or s.values i (pos 0)) ≤ 2 ^ 112 → IsBoard (record s { levels = set s.levels i level })
+pub board_level : (s : BoardView) (i : ℕ) (level : ℤ) → IsBoard s → i < length s.levels → unsigned_abs (level -ℤ get_or s.values i (pos 0)) ≤ 2 ^ 112 → IsBoard (record s { levels = set s.levels i level })
 board_level s i level is within factor = record {
   shape = is.shape ∙ sym (length-set s.levels i level);
   objects = omega (arith, length-set s.levels i level, is.objects);
@@ -230,7 +230,7 @@ change_from_one changes i c up got =
     omega (arith, ascending_positive (objects_of changes) up i (omega (arith, length-map changes (λ (p : ℕ × ℤ). p.0), got_within changes i c got)), got_object changes i c got)
 
 -- a level is small
-pub board_small : (s : Standing) → IsBoard s → All (λ x. unsigned_abs x < 2 ^ 114) s.levels
+pub board_small : (s : BoardView) → IsBoard s → All (λ x. unsigned_abs x < 2 ^ 114) s.levels
 board_small s is k d within =
     let v = is.values (k + 1) in
     let f = is.factors (k + 1) in
@@ -271,7 +271,7 @@ small_greatest levels set r small is =
     is
 
 -- the factors that stand are within the limits
-pub factors_limits : (s : Standing) (changes : List (ℕ × ℤ)) → IsBoard s → All (λ c. c.0 ≤ length s.levels) changes → AreFactors (length s.levels) (factors_over s.values s.levels changes)
+pub factors_limits : (s : BoardView) (changes : List (ℕ × ℤ)) → IsBoard s → All (λ c. c.0 ≤ length s.levels) changes → AreFactors (length s.levels) (factors_over s.values s.levels changes)
 factors_limits s changes is within = record {
   within = All-map (λ (p : ℕ × ℤ). p.0 ≤ length s.levels) (λ (c : ℕ × ℤ). (c.0, level_at s.levels c.0 -ℤ level_at s.values c.0)) changes within;
   small = All-map (λ (p : ℕ × ℤ). unsigned_abs p.1 ≤ 2 ^ 112) (λ (c : ℕ × ℤ). (c.0, level_at s.levels c.0 -ℤ level_at s.values c.0)) changes (λ k d below. is.factors (get_or changes k d).0);

@@ -19,8 +19,8 @@ use Rattle.tk_trail.proofs.LegalLemmas.{and_both, legal_raised, legal_sent, lega
 use Rattle.tk_trail.proofs.LevelsLemmas.{Same, same-sent, values-same, levels-same, members-same, values-raised, levels-raised, value-raised, value-small, level_at-values_of, share_own, length-levels_of}
 use Rattle.tk_trail.proofs.PlacesLemmas.{places_at-raised, length-places_at}
 use Rattle.tk_trail.proofs.ReadingsLemmas.{assigns_of-raised, seq_of-raised, seq_of-sent, reported-raised, reported-sent, told-raised, told-sent, stopped-raised, stopped-sent}
-use Rattle.tk_monitor.specs.Board.{Standing}
-use Rattle.tk_monitor.specs.Log.{Logged}
+use Rattle.tk_monitor.specs.Board.{BoardView}
+use Rattle.tk_monitor.specs.Trail.{TrailView}
 use Rattle.tk_monitor.specs.Kept.{IsKept, standing_of, phase_of, left_in, next_in, shifted}
 use Rattle.tk_monitor.specs.Monitored.{checked_at}
 use Rattle.tk_monitor.specs.declared.outcome.Checked.TheVariants.{Reported, ToldEnd, Nothing}
@@ -39,23 +39,23 @@ pub phase_made : (seq : ℕ) (reported told stopped : Bool) (trail : List Entry)
 phase_made seq reported told stopped trail a b c d = cc
 
 -- what stays where places and Assigns do
-pub kept_same : (setup : MonitorSetup) (log after : Logged) (board : Standing) (next : List ℕ) (phase now : Phase) → IsKept setup log board next phase → Same setup after.entries log.entries → IsLegal setup after.entries → after.raises ≡ log.raises → now ≡ phase_of after.entries → IsKept setup after board next now
-kept_same setup log after board next phase now kept same legal raises is = record {
+pub kept_same : (setup : MonitorSetup) (was after : TrailView) (board : BoardView) (next : List ℕ) (phase now : Phase) → IsKept setup was board next phase → Same setup after.entries was.entries → IsLegal setup after.entries → after.raises ≡ was.raises → now ≡ phase_of after.entries → IsKept setup after board next now
+kept_same setup was after board next phase now kept same legal raises is = record {
   within = kept.within;
   legal = legal;
   places = kept.places ∙ sym same.places;
-  standing = kept.standing ∙ sym (standing-same setup after.entries log.entries same);
+  standing = kept.standing ∙ sym (standing-same setup after.entries was.entries same);
   phase_is = is;
   room = raises ∙ kept.room;
 }
 
 -- places of the fields
-pub kept_places : (setup : MonitorSetup) (log : Logged) (board : Standing) (next : List ℕ) (phase : Phase) → IsKept setup log board next phase → ArePlaces setup.parts next
-kept_places setup log board next phase kept = subst (ArePlaces setup.parts) (sym kept.places) (legal_places setup kept.within.from log.entries kept.legal.each)
+pub kept_places : (setup : MonitorSetup) (was : TrailView) (board : BoardView) (next : List ℕ) (phase : Phase) → IsKept setup was board next phase → ArePlaces setup.parts next
+kept_places setup was board next phase kept = subst (ArePlaces setup.parts) (sym kept.places) (legal_places setup kept.within.from was.entries kept.legal.each)
 
 -- a change that is next, as the trail sees it
-pub kept_next : (setup : MonitorSetup) (log : Logged) (board : Standing) (next : List ℕ) (phase : Phase) (g : ℕ) (c : ℕ × ℤ) → IsKept setup log board next phase → 1 ≤ g → g ≤ length setup.parts → next_in setup.parts next (g - 1) ≡ Some c → HasNext setup log.entries g
-kept_next setup log board next phase g c kept low high got = record {
+pub kept_next : (setup : MonitorSetup) (was : TrailView) (board : BoardView) (next : List ℕ) (phase : Phase) (g : ℕ) (c : ℕ × ℤ) → IsKept setup was board next phase → 1 ≤ g → g ≤ length setup.parts → next_in setup.parts next (g - 1) ≡ Some c → HasNext setup was.entries g
+kept_next setup was board next phase g c kept low high got = record {
   from_one = low;
   one_of = high;
   not_ended = omega (arith, got_below (get_or setup.parts (g - 1) []) (get_or next (g - 1) 0) c got, ap (λ (places : List ℕ). get_or places (g - 1) 0) kept.places);
@@ -69,12 +69,12 @@ change_object n parts next i c are within got =
     subst (λ (x : ℕ × ℤ). IsObject n x.0) (got_is part p c c got) (are.objects i [] within p c (got_below part p c got))
 
 -- a raise
-pub kept_raised : (setup : MonitorSetup) (log after : Logged) (board : Standing) (next : List ℕ) (phase : Phase) (feeder : Feeder) (c : ℕ × ℤ) → IsKept setup log board next phase → 1 ≤ feeder.0 → feeder.0 ≤ length setup.parts → next_in setup.parts next (feeder.0 - 1) ≡ Some c → after.entries ≡ log.entries ++ Raised feeder ∷ [] → after.raises + 1 ≡ log.raises → IsKept setup after (shifted board c) (set next (feeder.0 - 1) (suc (get_or next (feeder.0 - 1) 0))) phase
-kept_raised setup log after board next phase feeder c kept low high got entries raises =
-    let trail = log.entries in
+pub kept_raised : (setup : MonitorSetup) (was after : TrailView) (board : BoardView) (next : List ℕ) (phase : Phase) (feeder : Feeder) (c : ℕ × ℤ) → IsKept setup was board next phase → 1 ≤ feeder.0 → feeder.0 ≤ length setup.parts → next_in setup.parts next (feeder.0 - 1) ≡ Some c → after.entries ≡ was.entries ++ Raised feeder ∷ [] → after.raises + 1 ≡ was.raises → IsKept setup after (shifted board c) (set next (feeder.0 - 1) (suc (get_or next (feeder.0 - 1) 0))) phase
+kept_raised setup was after board next phase feeder c kept low high got entries raises =
+    let trail = was.entries in
     let longer = trail ++ Raised feeder ∷ [] in
     let i = feeder.0 - 1 in
-    let there = kept_next setup log board next phase feeder.0 c kept low high got in
+    let there = kept_next setup was board next phase feeder.0 c kept low high got in
     let shape : length setup.from ≡ length setup.parts = kept.within.from.shape in
     let object = change_object setup.objects setup.parts next i c kept.within.parts (omega (arith, low, high)) got in
     let here : slice_get (get_or setup.parts i []) (place_of setup trail feeder.0) ≡ Some c = ap (λ (places : List ℕ). slice_get (get_or setup.parts i []) (get_or places i 0)) (sym kept.places) ∙ got in
@@ -87,7 +87,7 @@ kept_raised setup log after board next phase feeder c kept low high got entries 
       within = kept.within;
       legal = subst (IsLegal setup) (sym entries) (legal_raised setup shape trail feeder kept.legal there);
       places = moved ∙ ap (places_at setup) (sym entries);
-      standing = ap (λ (s : Standing). shifted s c) kept.standing ∙ stands ∙ ap (standing_of setup) (sym entries);
+      standing = ap (λ (s : BoardView). shifted s c) kept.standing ∙ stands ∙ ap (standing_of setup) (sym entries);
       phase_is =
           kept.phase_is
           ∙ phase_made (seq_of trail) (is_reported trail) (is_end_told trail) (is_stopped trail) longer (sym (seq_of-raised trail feeder)) (sym (reported-raised trail feeder)) (sym (told-raised trail feeder)) (sym (stopped-raised trail feeder))
@@ -101,45 +101,45 @@ kept_raised setup log after board next phase feeder c kept low high got entries 
     }
 
 -- the size of a value that moves
-pub kept_small : (setup : MonitorSetup) (log : Logged) (board : Standing) (next : List ℕ) (phase : Phase) (feeder : Feeder) (c : ℕ × ℤ) → IsKept setup log board next phase → 1 ≤ feeder.0 → feeder.0 ≤ length setup.parts → next_in setup.parts next (feeder.0 - 1) ≡ Some c → unsigned_abs (level_at board.values c.0 +ℤ c.1) ≤ 2 ^ 100
-kept_small setup log board next phase feeder c kept low high got =
-    let trail = log.entries in
+pub kept_small : (setup : MonitorSetup) (was : TrailView) (board : BoardView) (next : List ℕ) (phase : Phase) (feeder : Feeder) (c : ℕ × ℤ) → IsKept setup was board next phase → 1 ≤ feeder.0 → feeder.0 ≤ length setup.parts → next_in setup.parts next (feeder.0 - 1) ≡ Some c → unsigned_abs (level_at board.values c.0 +ℤ c.1) ≤ 2 ^ 100
+kept_small setup was board next phase feeder c kept low high got =
+    let trail = was.entries in
     let i = feeder.0 - 1 in
-    let there = kept_next setup log board next phase feeder.0 c kept low high got in
+    let there = kept_next setup was board next phase feeder.0 c kept low high got in
     let object = change_object setup.objects setup.parts next i c kept.within.parts (omega (arith, low, high)) got in
     let here : slice_get (get_or setup.parts i []) (place_of setup trail feeder.0) ≡ Some c = ap (λ (places : List ℕ). slice_get (get_or setup.parts i []) (get_or places i 0)) (sym kept.places) ∙ got in
-    let now : level_at board.values c.0 ≡ value_of_object setup trail c.0 = ap (λ (s : Standing). level_at s.values c.0) kept.standing ∙ level_at-values_of setup trail c.0 object.0 object.1 in
+    let now : level_at board.values c.0 ≡ value_of_object setup trail c.0 = ap (λ (s : BoardView). level_at s.values c.0) kept.standing ∙ level_at-values_of setup trail c.0 object.0 object.1 in
     let more : value_of_object setup (trail ++ Raised feeder ∷ []) c.0 ≡ value_of_object setup trail c.0 +ℤ c.1 = value-raised setup trail feeder c kept.within.from.shape there here c.0 ∙ ap (λ (z : ℤ). value_of_object setup trail c.0 +ℤ z) (share_own c) in
     omega (arith, ints, now, more, value-small setup kept.within (trail ++ Raised feeder ∷ []) c.0, kept.within.parts.weights c.0)
 
 -- what the fields say is what the trail says
-pub kept_broken : (setup : MonitorSetup) (trail : List Entry) (board : Standing) → board ≡ standing_of setup trail → nat_lt 0 (length (broken board.levels board.members)) ≡ is_broken setup trail
+pub kept_broken : (setup : MonitorSetup) (trail : List Entry) (board : BoardView) → board ≡ standing_of setup trail → nat_lt 0 (length (broken board.levels board.members)) ≡ is_broken setup trail
 unfolding broken_at
-kept_broken setup trail board is = ap (λ (s : Standing). nat_lt 0 (length (broken s.levels s.members))) is
+kept_broken setup trail board is = ap (λ (s : BoardView). nat_lt 0 (length (broken s.levels s.members))) is
 
-pub kept_slack : (setup : MonitorSetup) (trail : List Entry) (board : Standing) → board ≡ standing_of setup trail → difference (least_member board.levels board.members) (greatest_outside board.levels board.members) ≡ slack_of setup trail
+pub kept_slack : (setup : MonitorSetup) (trail : List Entry) (board : BoardView) → board ≡ standing_of setup trail → difference (least_member board.levels board.members) (greatest_outside board.levels board.members) ≡ slack_of setup trail
 unfolding slack_of
-kept_slack setup trail board is = ap (λ (s : Standing). difference (least_member s.levels s.members) (greatest_outside s.levels s.members)) is
+kept_slack setup trail board is = ap (λ (s : BoardView). difference (least_member s.levels s.members) (greatest_outside s.levels s.members)) is
 
-pub kept_size : (setup : MonitorSetup) (trail : List Entry) (board : Standing) → board ≡ standing_of setup trail → length board.levels ≡ setup.objects
-kept_size setup trail board is = ap (λ (s : Standing). length s.levels) is ∙ length-levels_of setup trail
+pub kept_size : (setup : MonitorSetup) (trail : List Entry) (board : BoardView) → board ≡ standing_of setup trail → length board.levels ≡ setup.objects
+kept_size setup trail board is = ap (λ (s : BoardView). length s.levels) is ∙ length-levels_of setup trail
 
-pub kept_ends : (setup : MonitorSetup) (log : Logged) (board : Standing) (next : List ℕ) (phase : Phase) → IsKept setup log board next phase → (log.raises == 0) ≡ at_ends setup log.entries
+pub kept_ends : (setup : MonitorSetup) (was : TrailView) (board : BoardView) (next : List ℕ) (phase : Phase) → IsKept setup was board next phase → (was.raises == 0) ≡ at_ends setup was.entries
 unfolding at_ends
-kept_ends setup log board next phase kept =
-    let are = legal_places setup kept.within.from log.entries kept.legal.each in
-    ap (λ k. k == 0) (kept.room ∙ ap (left_in setup.parts) kept.places) ∙ sym (ends_left setup.parts (places_at setup log.entries) are.shape are.within)
+kept_ends setup was board next phase kept =
+    let are = legal_places setup kept.within.from was.entries kept.legal.each in
+    ap (λ k. k == 0) (kept.room ∙ ap (left_in setup.parts) kept.places) ∙ sym (ends_left setup.parts (places_at setup was.entries) are.shape are.within)
 
 -- a part without a next change is at its end
-pub kept_ended : (setup : MonitorSetup) (log : Logged) (board : Standing) (next : List ℕ) (phase : Phase) (g : ℕ) → IsKept setup log board next phase → next_in setup.parts next (g - 1) ≡ None → place_of setup log.entries g ≡ part_length setup g
-kept_ended setup log board next phase g kept none =
-    let are = legal_places setup kept.within.from log.entries kept.legal.each in
-    let past : slice_get (get_or setup.parts (g - 1) []) (get_or (places_at setup log.entries) (g - 1) 0) ≡ None = ap (λ (places : List ℕ). slice_get (get_or setup.parts (g - 1) []) (get_or places (g - 1) 0)) (sym kept.places) ∙ none in
-    omega (arith, got_past (get_or setup.parts (g - 1) []) (get_or (places_at setup log.entries) (g - 1) 0) past, are.within (g - 1))
+pub kept_ended : (setup : MonitorSetup) (was : TrailView) (board : BoardView) (next : List ℕ) (phase : Phase) (g : ℕ) → IsKept setup was board next phase → next_in setup.parts next (g - 1) ≡ None → place_of setup was.entries g ≡ part_length setup g
+kept_ended setup was board next phase g kept none =
+    let are = legal_places setup kept.within.from was.entries kept.legal.each in
+    let past : slice_get (get_or setup.parts (g - 1) []) (get_or (places_at setup was.entries) (g - 1) 0) ≡ None = ap (λ (places : List ℕ). slice_get (get_or setup.parts (g - 1) []) (get_or places (g - 1) 0)) (sym kept.places) ∙ none in
+    omega (arith, got_past (get_or setup.parts (g - 1) []) (get_or (places_at setup was.entries) (g - 1) 0) past, are.within (g - 1))
 
--- a log that has the same entries and raises keeps the ties
-pub kept_log : (setup : MonitorSetup) (log after : Logged) (board : Standing) (next : List ℕ) (phase : Phase) → IsKept setup log board next phase → after.entries ≡ log.entries → after.raises ≡ log.raises → IsKept setup after board next phase
-kept_log setup log after board next phase kept entries raises = record {
+-- a trail that has the same entries and raises keeps the ties
+pub kept_trail : (setup : MonitorSetup) (was after : TrailView) (board : BoardView) (next : List ℕ) (phase : Phase) → IsKept setup was board next phase → after.entries ≡ was.entries → after.raises ≡ was.raises → IsKept setup after board next phase
+kept_trail setup was after board next phase kept entries raises = record {
   within = kept.within;
   legal = subst (IsLegal setup) (sym entries) kept.legal;
   places = kept.places ∙ ap (places_at setup) (sym entries);
@@ -182,12 +182,12 @@ unfolding settled_at
 settled_tells setup trail = refl
 
 -- a Report sent where it is due
-pub kept_reported : (setup : MonitorSetup) (log after : Logged) (board : Standing) (next : List ℕ) (phase : Phase) → IsKept setup log board next phase → report_is_due setup log.entries ≡ true → after.entries ≡ log.entries ++ Sent (report_at setup log.entries) ∷ [] → after.raises ≡ log.raises → IsKept setup after board next (record phase { reported = true })
-kept_reported setup log after board next phase kept due entries raises =
-    let trail = log.entries in
+pub kept_reported : (setup : MonitorSetup) (was after : TrailView) (board : BoardView) (next : List ℕ) (phase : Phase) → IsKept setup was board next phase → report_is_due setup was.entries ≡ true → after.entries ≡ was.entries ++ Sent (report_at setup was.entries) ∷ [] → after.raises ≡ was.raises → IsKept setup after board next (record phase { reported = true })
+kept_reported setup was after board next phase kept due entries raises =
+    let trail = was.entries in
     let sent = report_at setup trail in
     let longer = trail ++ Sent sent ∷ [] in
-    kept_same setup log after board next phase (record phase { reported = true }) kept
+    kept_same setup was after board next phase (record phase { reported = true }) kept
     (subst (λ (t : List Entry). Same setup t trail) (sym entries) (same-sent setup trail sent))
     (subst (IsLegal setup) (sym entries) (legal_sent setup kept.within.from.shape trail sent kept.legal (report_when setup trail due)))
     raises
@@ -200,12 +200,12 @@ kept_reported setup log after board next phase kept due entries raises =
     ∙ ap phase_of (sym entries))
 
 -- the end told where it is due
-pub kept_told : (setup : MonitorSetup) (log after : Logged) (board : Standing) (next : List ℕ) (phase : Phase) → IsKept setup log board next phase → report_is_due setup log.entries ≡ false → end_is_due setup log.entries ≡ true → at_ends setup log.entries ≡ true → after.entries ≡ log.entries ++ Sent (settled_at setup log.entries) ∷ [] → after.raises ≡ log.raises → IsKept setup after board next (record phase { told = true })
-kept_told setup log after board next phase kept not_report due ends entries raises =
-    let trail = log.entries in
+pub kept_told : (setup : MonitorSetup) (was after : TrailView) (board : BoardView) (next : List ℕ) (phase : Phase) → IsKept setup was board next phase → report_is_due setup was.entries ≡ false → end_is_due setup was.entries ≡ true → at_ends setup was.entries ≡ true → after.entries ≡ was.entries ++ Sent (settled_at setup was.entries) ∷ [] → after.raises ≡ was.raises → IsKept setup after board next (record phase { told = true })
+kept_told setup was after board next phase kept not_report due ends entries raises =
+    let trail = was.entries in
     let sent = settled_at setup trail in
     let longer = trail ++ Sent sent ∷ [] in
-    kept_same setup log after board next phase (record phase { told = true }) kept
+    kept_same setup was after board next phase (record phase { told = true }) kept
     (subst (λ (t : List Entry). Same setup t trail) (sym entries) (same-sent setup trail sent))
     (subst (IsLegal setup) (sym entries) (legal_sent setup kept.within.from.shape trail sent kept.legal (end_when setup trail not_report due)))
     raises

@@ -1,6 +1,6 @@
 pub mod BoardLemmas
 pub mod KeptLemmas
-pub mod LogLemmas
+pub mod TrailLemmas
 pub mod MessageLemmas
 pub mod PartsLemmas
 pub mod RefusalLemmas

@@ -17,7 +17,7 @@ use Rattle.tk_trail.specs.declared.entry.Entry.TheVariants.{Took}
 use Rattle.tk_trail.proofs.MappedLemmas.{mapped_same}
 use Rattle.tk_trail.proofs.LevelsLemmas.{length-levels_of, level_at-levels_of, level_at-values_of, level-assign}
 use Rattle.tk_monitor.proofs.RefusalLemmas.{all_in, is_in_from_Contains}
-use Rattle.tk_monitor.specs.Board.{Standing, values_in, assigned, assigned_level}
+use Rattle.tk_monitor.specs.Board.{BoardView, values_in, assigned, assigned_level}
 use Rattle.tk_monitor.specs.Kept.{standing_of, report_on, values_frame}
 
 -- the objects of a catalogue are within it
@@ -106,7 +106,7 @@ assigned-standing setup trail seq members changes =
     ∙ assigned_all setup trail seq members changes
 
 -- a Report made of its parts
-pub report_made : (s : Standing) (seq : ℕ) (edge : ℤ) (members failed asked : List ℕ) (values : List (ℕ × ℤ)) → members ≡ s.members → failed ≡ broken s.levels s.members → asked ≡ resolution (length s.levels) members failed → values ≡ values_in s.values asked → edge ≡ border s.levels s.members asked → f.Report seq edge failed values ≡ report_on s seq
+pub report_made : (s : BoardView) (seq : ℕ) (edge : ℤ) (members failed asked : List ℕ) (values : List (ℕ × ℤ)) → members ≡ s.members → failed ≡ broken s.levels s.members → asked ≡ resolution (length s.levels) members failed → values ≡ values_in s.values asked → edge ≡ border s.levels s.members asked → f.Report seq edge failed values ≡ report_on s seq
 unfolding report_on
 report_made s seq edge members failed asked values is_members is_failed is_asked is_values is_edge =
     let all : asked ≡ resolution (length s.levels) s.members (broken s.levels s.members) = is_asked ∙ ap₂ (resolution (length s.levels)) is_members is_failed in

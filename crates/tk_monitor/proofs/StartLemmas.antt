@@ -17,7 +17,7 @@ use Rattle.tk_trail.proofs.LevelsLemmas.{share_none, share_own}
 use Rattle.tk_trail.proofs.MappedLemmas.{mapped_one, mapped_same}
 use Rattle.tk_trail.proofs.PlacesLemmas.{places_at-start}
 use Rattle.tk_trail.proofs.ValuesLemmas.{value_of-set, value_of-small, int_sum-cons}
-use Rattle.tk_monitor.specs.Board.{Standing}
+use Rattle.tk_monitor.specs.Board.{BoardView}
 use Rattle.tk_monitor.specs.Kept.{values_on, shifted, next_in, standing_of}
 use Rattle.tk_monitor.specs.Start.{StandsAt}
 use Rattle.tk_monitor.proofs.KeptLemmas.{change_object}
@@ -30,7 +30,7 @@ level_at-values_on : (n : ℕ) (parts : List (List (ℕ × ℤ))) (next : List �
 unfolding values_on objects
 level_at-values_on n parts next o low high = get_or-map-range_with_len (value_of parts next) 1 n (o - 1) o (pos 0) (omega arith) (omega arith)
 
-pub stands_size : (n : ℕ) (parts : List (List (ℕ × ℤ))) (next : List ℕ) (s : Standing) → StandsAt n parts next s → length s.levels ≡ n
+pub stands_size : (n : ℕ) (parts : List (List (ℕ × ℤ))) (next : List ℕ) (s : BoardView) → StandsAt n parts next s → length s.levels ≡ n
 stands_size n parts next s at = ap (λ (zs : List ℤ). length zs) at.levels ∙ length-values_on n parts next
 
 moved_value : (n : ℕ) (parts : List (List (ℕ × ℤ))) (next : List ℕ) (i : ℕ) (c : ℕ × ℤ) → AreParts n parts → length next ≡ length parts → i < length parts → next_in parts next i ≡ Some c → value_of parts (set next i (suc (get_or next i 0))) c.0 ≡ level_at (values_on n parts next) c.0 +ℤ c.1
@@ -52,7 +52,7 @@ values_step n parts next i c are shape within got =
     (λ q apart. omega (arith, ints, value_of-set parts next i q c within (omega (arith, within, shape)) got, share_none q c apart))
 
 -- one more change of part i
-pub stands_step : (n : ℕ) (parts : List (List (ℕ × ℤ))) (next : List ℕ) (i : ℕ) (c : ℕ × ℤ) (s : Standing) → AreParts n parts → length next ≡ length parts → i < length parts → next_in parts next i ≡ Some c → StandsAt n parts next s → StandsAt n parts (set next i (suc (get_or next i 0))) (shifted s c)
+pub stands_step : (n : ℕ) (parts : List (List (ℕ × ℤ))) (next : List ℕ) (i : ℕ) (c : ℕ × ℤ) (s : BoardView) → AreParts n parts → length next ≡ length parts → i < length parts → next_in parts next i ≡ Some c → StandsAt n parts next s → StandsAt n parts (set next i (suc (get_or next i 0))) (shifted s c)
 stands_step n parts next i c s are shape within got at =
     let moved : set (values_on n parts next) (c.0 - 1) (level_at (values_on n parts next) c.0 +ℤ c.1) ≡ values_on n parts (set next i (suc (get_or next i 0))) =
     sym (values_step n parts next i c are shape within got ∙ ap (λ (z : ℤ). set (values_on n parts next) (c.0 - 1) z) (moved_value n parts next i c are shape within got)) in
@@ -62,7 +62,7 @@ stands_step n parts next i c s are shape within got at =
       members = at.members;
     }
 
-pub stands_small : (n : ℕ) (parts : List (List (ℕ × ℤ))) (next : List ℕ) (i : ℕ) (c : ℕ × ℤ) (s : Standing) → AreParts n parts → length next ≡ length parts → i < length parts → next_in parts next i ≡ Some c → StandsAt n parts next s → unsigned_abs (level_at s.values c.0 +ℤ c.1) ≤ 2 ^ 100
+pub stands_small : (n : ℕ) (parts : List (List (ℕ × ℤ))) (next : List ℕ) (i : ℕ) (c : ℕ × ℤ) (s : BoardView) → AreParts n parts → length next ≡ length parts → i < length parts → next_in parts next i ≡ Some c → StandsAt n parts next s → unsigned_abs (level_at s.values c.0 +ℤ c.1) ≤ 2 ^ 100
 stands_small n parts next i c s are shape within got at =
     omega (
       arith,
@@ -125,7 +125,7 @@ pub start_legal : (setup : MonitorSetup) → IsLegal setup []
 unfolding owed_at
 start_legal setup = record { each = tt; answered = refl }
 
-pub start_standing : (setup : MonitorSetup) (s : Standing) → StandsAt setup.objects setup.parts setup.from s → s ≡ standing_of setup []
+pub start_standing : (setup : MonitorSetup) (s : BoardView) → StandsAt setup.objects setup.parts setup.from s → s ≡ standing_of setup []
 start_standing setup s at =
     let values : s.values ≡ values_of setup [] = at.values ∙ start_values setup in
     let levels : s.levels ≡ levels_of setup [] = at.levels ∙ start_levels setup in

@@ -28,8 +28,8 @@ use Rattle.tk_trail.proofs.LegalLemmas.{if_none, and_both, not_refused, legal_ta
 use Rattle.tk_trail.proofs.LevelsLemmas.{Same, same-took, same-sent, values_at-same, members_of-push}
 use Rattle.tk_trail.proofs.PlacesLemmas.{places_at-took, places_at-sent}
 use Rattle.tk_trail.proofs.ReadingsLemmas.{assigns_of-other, assigns_of-assign, seq_of-sent, seq_of-other, seq_of-assign, reported-sent, reported-assign, reported-collect, reported-stop, told-sent, told-assign, told-collect, told-stop, stopped-sent, stopped-took, stopped-stop}
-use Rattle.tk_monitor.specs.Board.{Standing, assigned, AreFactors}
-use Rattle.tk_monitor.specs.Log.{Logged}
+use Rattle.tk_monitor.specs.Board.{BoardView, assigned, AreFactors}
+use Rattle.tk_monitor.specs.Trail.{TrailView}
 use Rattle.tk_monitor.specs.Kept.{IsKept, standing_of, phase_of, answer_on, values_frame}
 use Rattle.tk_monitor.specs.declared.phase.Phase.{Phase}
 use Rattle.tk_monitor.proofs.KeptLemmas.{kept_same, phase_made, standing-same}
@@ -113,11 +113,11 @@ collect_passes setup trail round asked none =
     }
 
 -- Stop is taken
-pub kept_stop : (setup : MonitorSetup) (log after : Logged) (board : Standing) (next : List ℕ) (phase : Phase) → IsKept setup log board next phase → refusal_of setup log.entries f.Stop ≡ None → after.entries ≡ log.entries ++ Took f.Stop ∷ [] → after.raises ≡ log.raises → IsKept setup after board next (record phase { stopped = true })
-kept_stop setup log after board next phase kept none entries raises =
-    let trail = log.entries in
+pub kept_stop : (setup : MonitorSetup) (was after : TrailView) (board : BoardView) (next : List ℕ) (phase : Phase) → IsKept setup was board next phase → refusal_of setup was.entries f.Stop ≡ None → after.entries ≡ was.entries ++ Took f.Stop ∷ [] → after.raises ≡ was.raises → IsKept setup after board next (record phase { stopped = true })
+kept_stop setup was after board next phase kept none entries raises =
+    let trail = was.entries in
     let longer = trail ++ Took f.Stop ∷ [] in
-    kept_same setup log after board next phase (record phase { stopped = true }) kept
+    kept_same setup was after board next phase (record phase { stopped = true }) kept
     (subst (λ (t : List Entry). Same setup t trail) (sym entries) (same-took setup trail f.Stop (assigns_of-other trail f.Stop refl)))
     (subst (IsLegal setup) (sym entries) (legal_taken setup trail f.Stop kept.legal none))
     raises
@@ -131,9 +131,9 @@ values_tell : (setup : MonitorSetup) (trail : List Entry) (round : ℕ) (asked :
 unfolding values_at
 values_tell setup trail round asked = (refl, refl)
 
-pub kept_collect : (setup : MonitorSetup) (log after : Logged) (board : Standing) (next : List ℕ) (phase : Phase) (round : ℕ) (asked : List ℕ) → IsKept setup log board next phase → refusal_of setup log.entries (f.Collect round asked) ≡ None → after.entries ≡ after_take setup log.entries (f.Collect round asked) → after.raises ≡ log.raises → IsKept setup after board next phase
-kept_collect setup log after board next phase round asked kept none entries raises =
-    let trail = log.entries in
+pub kept_collect : (setup : MonitorSetup) (was after : TrailView) (board : BoardView) (next : List ℕ) (phase : Phase) (round : ℕ) (asked : List ℕ) → IsKept setup was board next phase → refusal_of setup was.entries (f.Collect round asked) ≡ None → after.entries ≡ after_take setup was.entries (f.Collect round asked) → after.raises ≡ was.raises → IsKept setup after board next phase
+kept_collect setup was after board next phase round asked kept none entries raises =
+    let trail = was.entries in
     let frame = f.Collect round asked in
     let taken = trail ++ Took frame ∷ [] in
     let sent = values_at setup taken round asked in
@@ -142,7 +142,7 @@ kept_collect setup log after board next phase round asked kept none entries rais
     let one = same-sent setup taken sent in
     let two = same-took setup trail frame (assigns_of-other trail frame refl) in
     let same : Same setup longer trail = record { places = one.places ∙ two.places; assigns = one.assigns ∙ two.assigns } in
-    kept_same setup log after board next phase phase kept
+    kept_same setup was after board next phase phase kept
     (subst (λ (t : List Entry). Same setup t trail) (sym entries) same)
     (subst (IsLegal setup) (sym entries) (legal_taken setup trail frame kept.legal none))
     raises
@@ -176,9 +176,9 @@ pub answer-standing : (setup : MonitorSetup) (trail : List Entry) → answer_on 
 unfolding settled_at broken_at
 answer-standing setup trail = ap (λ (report : Frame). if is_broken setup trail then report else f.Settled (seq_of trail) (at_ends setup trail) (places_at setup trail)) (report-standing setup trail)
 
-pub kept_assigned : (setup : MonitorSetup) (log after : Logged) (board now : Standing) (next : List ℕ) (phase : Phase) (seq : ℕ) (members : List ℕ) (changes : List (ℕ × ℤ)) (broken ended : Bool) → IsKept setup log board next phase → refusal_of setup log.entries (f.Assign seq members changes) ≡ None → now ≡ record board { levels = assigned board.values board.levels changes; members = members } → broken ≡ is_broken setup (log.entries ++ Took (f.Assign seq members changes) ∷ []) → ended ≡ at_ends setup (log.entries ++ Took (f.Assign seq members changes) ∷ []) → after.entries ≡ after_take setup log.entries (f.Assign seq members changes) → after.raises ≡ log.raises → IsKept setup after now next (record phase { seq = seq; reported = broken; told = not broken && ended })
-kept_assigned setup log after board now next phase seq members changes broken ended kept none is is_broken_now is_ended entries raises =
-    let trail = log.entries in
+pub kept_assigned : (setup : MonitorSetup) (was after : TrailView) (board now : BoardView) (next : List ℕ) (phase : Phase) (seq : ℕ) (members : List ℕ) (changes : List (ℕ × ℤ)) (broken ended : Bool) → IsKept setup was board next phase → refusal_of setup was.entries (f.Assign seq members changes) ≡ None → now ≡ record board { levels = assigned board.values board.levels changes; members = members } → broken ≡ is_broken setup (was.entries ++ Took (f.Assign seq members changes) ∷ []) → ended ≡ at_ends setup (was.entries ++ Took (f.Assign seq members changes) ∷ []) → after.entries ≡ after_take setup was.entries (f.Assign seq members changes) → after.raises ≡ was.raises → IsKept setup after now next (record phase { seq = seq; reported = broken; told = not broken && ended })
+kept_assigned setup was after board now next phase seq members changes broken ended kept none is is_broken_now is_ended entries raises =
+    let trail = was.entries in
     let frame = f.Assign seq members changes in
     let passes = assign_passes setup trail seq members changes none in
     let taken = trail ++ Took frame ∷ [] in
@@ -187,7 +187,7 @@ kept_assigned setup log after board now next phase seq members changes broken en
     let tell = answer_tells setup taken (is_broken setup taken) in
     let one = same-sent setup taken sent in
     let stands : now ≡ standing_of setup longer =
-    is ∙ ap (λ (s : Standing). record s { levels = assigned s.values s.levels changes; members = members }) kept.standing ∙ standing_assigned setup trail seq members changes ∙ sym (standing-same setup longer taken one) in
+    is ∙ ap (λ (s : BoardView). record s { levels = assigned s.values s.levels changes; members = members }) kept.standing ∙ standing_assigned setup trail seq members changes ∙ sym (standing-same setup longer taken one) in
     record {
       within = kept.within;
       legal = subst (IsLegal setup) (sym entries) (legal_taken setup trail frame kept.legal none);
@@ -213,17 +213,17 @@ shown_made setup trail objects seq members told stopped frame size a b c d =
     ap (λ (shown : Shown). refusal_over shown frame) same
 
 -- the Values that answer a Collect just taken
-pub values_answer : (setup : MonitorSetup) (trail : List Entry) (board : Standing) (seq round : ℕ) (asked : List ℕ) → board ≡ standing_of setup trail → seq ≡ seq_of trail → IsAscending asked → All (λ o. o ≤ setup.objects) asked → values_frame board seq round asked ≡ values_at setup (trail ++ Took (f.Collect round asked) ∷ []) round asked
+pub values_answer : (setup : MonitorSetup) (trail : List Entry) (board : BoardView) (seq round : ℕ) (asked : List ℕ) → board ≡ standing_of setup trail → seq ≡ seq_of trail → IsAscending asked → All (λ o. o ≤ setup.objects) asked → values_frame board seq round asked ≡ values_at setup (trail ++ Took (f.Collect round asked) ∷ []) round asked
 values_answer setup trail board seq round asked is is_seq up within =
     let frame = f.Collect round asked in
-    ap₂ (λ (s : Standing) (n : ℕ). values_frame s n round asked) is is_seq
+    ap₂ (λ (s : BoardView) (n : ℕ). values_frame s n round asked) is is_seq
     ∙ values-standing setup trail round asked (λ k d below. omega (arith, get_or_default asked k d 0 below, ascending_positive asked up k below)) within
     ∙ sym (values_at-same setup (trail ++ Took frame ∷ []) trail (same-took setup trail frame (assigns_of-other trail frame refl)) round asked)
 
 -- the answer to an Assign just taken
-pub answer_made : (setup : MonitorSetup) (taken : List Entry) (board : Standing) (seq : ℕ) (next : List ℕ) (ended : Bool) → board ≡ standing_of setup taken → seq ≡ seq_of taken → next ≡ places_at setup taken → ended ≡ at_ends setup taken → answer_on board seq next ended ≡ answer_at setup taken
+pub answer_made : (setup : MonitorSetup) (taken : List Entry) (board : BoardView) (seq : ℕ) (next : List ℕ) (ended : Bool) → board ≡ standing_of setup taken → seq ≡ seq_of taken → next ≡ places_at setup taken → ended ≡ at_ends setup taken → answer_on board seq next ended ≡ answer_at setup taken
 answer_made setup taken board seq next ended a b c d =
-    ap (λ (s : Standing). answer_on s seq next ended) a
+    ap (λ (s : BoardView). answer_on s seq next ended) a
     ∙ ap (λ (n : ℕ). answer_on (standing_of setup taken) n next ended) b
     ∙ ap (λ (places : List ℕ). answer_on (standing_of setup taken) (seq_of taken) places ended) c
     ∙ ap (λ (last : Bool). answer_on (standing_of setup taken) (seq_of taken) (places_at setup taken) last) d

@@ -6,13 +6,13 @@ use Rattle.tk_base.specs.Pairs.{value_at}
 use Rattle.tk_border.specs.Levels.{level_at}
 
 -- the value and the level of each object, and the members
-pub record Standing : Type 0 where
+pub record BoardView : Type 0 where
   pub values : List ℤ
   pub levels : List ℤ
   pub members : List ℕ
 
 -- values, factors and members are within the limits
-pub record IsBoard (s : Standing) : Type 0 where
+pub record IsBoard (s : BoardView) : Type 0 where
   pub shape : length s.values ≡ length s.levels
   pub objects : length s.levels ≤ 65536
   pub values : (o : ℕ) → unsigned_abs (level_at s.values o) ≤ 2 ^ 100

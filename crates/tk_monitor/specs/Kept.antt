@@ -10,12 +10,12 @@ use Rattle.tk_trail.specs.Setup.{MonitorSetup, IsSetup}
 use Rattle.tk_trail.specs.Readings.{places_at, values_of, levels_of, members_at, seq_of, is_reported, is_end_told, is_stopped}
 use Rattle.tk_trail.specs.Legal.{IsLegal}
 use Rattle.tk_trail.specs.declared.entry.Entry.{Entry}
-use Rattle.tk_monitor.specs.Board.{Standing, values_in}
-use Rattle.tk_monitor.specs.Log.{Logged}
+use Rattle.tk_monitor.specs.Board.{BoardView, values_in}
+use Rattle.tk_monitor.specs.Trail.{TrailView}
 use Rattle.tk_monitor.specs.declared.phase.Phase.{Phase}
 
 -- what a trail gives for the board, and for the phase
-abbrev pub standing_of : MonitorSetup → List Entry → Standing
+abbrev pub standing_of : MonitorSetup → List Entry → BoardView
 standing_of setup trail = record { values = values_of setup trail; levels = levels_of setup trail; members = members_at trail }
 
 abbrev pub phase_of : List Entry → Phase
@@ -26,13 +26,13 @@ abbrev pub left_in : List (List (ℕ × ℤ)) → List ℕ → ℕ
 left_in parts next = sum_by (λ p. length p.0 - p.1) (zip parts next)
 
 -- the fields are what the trail gives, which is legal, and there is room for the raises that are left
-pub record IsKept (setup : MonitorSetup) (log : Logged) (board : Standing) (next : List ℕ) (phase : Phase) : Type 0 where
+pub record IsKept (setup : MonitorSetup) (was : TrailView) (board : BoardView) (next : List ℕ) (phase : Phase) : Type 0 where
   pub within : IsSetup setup
-  pub legal : IsLegal setup log.entries
-  pub places : next ≡ places_at setup log.entries
-  pub standing : board ≡ standing_of setup log.entries
-  pub phase_is : phase ≡ phase_of log.entries
-  pub room : log.raises ≡ left_in setup.parts next
+  pub legal : IsLegal setup was.entries
+  pub places : next ≡ places_at setup was.entries
+  pub standing : board ≡ standing_of setup was.entries
+  pub phase_is : phase ≡ phase_of was.entries
+  pub room : was.raises ≡ left_in setup.parts next
 
 -- the next change of part i
 abbrev pub next_in : List (List (ℕ × ℤ)) → List ℕ → ℕ → Option (ℕ × ℤ)
@@ -43,23 +43,23 @@ unfoldable pub values_on : ℕ → List (List (ℕ × ℤ)) → List ℕ → Lis
 values_on n parts next = map (value_of parts next) (objects n)
 
 -- the board once a change counts
-abbrev pub shifted : Standing → ℕ × ℤ → Standing
+abbrev pub shifted : BoardView → ℕ × ℤ → BoardView
 shifted s c = record s {
   values = slice_set s.values (c.0 - 1) (level_at s.values c.0 +ℤ c.1);
   levels = slice_set s.levels (c.0 - 1) (level_at s.levels c.0 +ℤ c.1);
 }
 
 -- the frames that a board and some places give
-unfoldable pub report_on : Standing → ℕ → Frame
+unfoldable pub report_on : BoardView → ℕ → Frame
 report_on s seq =
     let failed = broken s.levels s.members in
     let asked = resolution (length s.levels) s.members failed in
     f.Report seq (border s.levels s.members asked) failed (values_in s.values asked)
 
-abbrev pub values_frame : Standing → ℕ → ℕ → List ℕ → Frame
+abbrev pub values_frame : BoardView → ℕ → ℕ → List ℕ → Frame
 values_frame s seq round asked = f.Values round seq (border s.levels s.members asked) (values_in s.values asked)
 
 -- the answer to an Assign, of the board once it is taken
-abbrev pub answer_on : Standing → ℕ → List ℕ → Bool → Frame
+abbrev pub answer_on : BoardView → ℕ → List ℕ → Bool → Frame
 answer_on s seq next ended =
     if nat_lt 0 (length (broken s.levels s.members)) then report_on s seq else f.Settled seq ended next

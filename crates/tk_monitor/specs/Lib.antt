@@ -1,6 +1,6 @@
 pub mod Board
 pub mod Kept
-pub mod Log
+pub mod Trail
 pub mod Monitored
 pub mod Refusals
 pub mod Start

@@ -20,9 +20,9 @@ pub(crate) struct Board {
 
 impl Model for Board {
     ghost use Rattle.std.specs.Prelude.{◌≡◌, ◌<◌, length};
-    ghost use Rattle.tk_monitor.specs.Board.{Standing, IsBoard};
+    ghost use Rattle.tk_monitor.specs.Board.{BoardView, IsBoard};
 
-    ghost Value = { Standing };
+    ghost Value = { BoardView };
 
     ghost view = { λ b. record {
       values = b.values.items;
@@ -103,9 +103,8 @@ impl Board {
         } }
     {
         let value = self.value(o) + by;
-        let level = self.level(o) + by;
         self.values[(o.0 - 1) as usize] = value;
-        self.rank.set(o, level);
+        self.rank.shift(o, by);
     }
 
     fn set_factor(&mut self, o: Obj, factor: i128)
@@ -146,7 +145,7 @@ impl Board {
     {
         // A field is read for what every board keeps.
         let _ = &self.members;
-        let mut list = Vec::new(alloc);
+        let mut list = Vec::with_capacity(alloc, changes.len())?;
         for i in 0..changes.len() {
             let (o, _) = changes.at(i);
             list.push((o, self.factor(o)))?;
@@ -159,7 +158,7 @@ impl Board {
         requires { All (λ o. o ≤ length self.now.levels) asked.now }
         ensures { IfOk result (λ p. p ≡ values_in self.now.values asked.now) }
     {
-        let mut list = Vec::new(alloc);
+        let mut list = Vec::with_capacity(alloc, asked.len())?;
         for i in 0..asked.len() {
             let o = asked.at(i);
             list.push((o, self.value(o)))?;

@@ -8,7 +8,6 @@
 
 mod answers;
 mod board;
-mod log;
 mod messages;
 mod monitor;
 mod outcome;
@@ -16,6 +15,7 @@ mod parts;
 mod phase;
 mod refusals;
 mod start;
+mod trail;
 
 pub use monitor::Monitor;
 pub use outcome::{Checked, Raised};

@@ -10,10 +10,10 @@ mod make;
 mod take;
 
 use crate::board::Board;
-use crate::log::Log;
 use crate::outcome::Raised;
 use crate::parts::next_change;
 use crate::phase::Phase;
+use crate::trail::Trail;
 use std::marker::Model;
 use tk_base::{Feeder, Mon, NoMemory, Obj, Places, Settings};
 use tk_frames::Frame;
@@ -29,7 +29,7 @@ pub struct Monitor {
     from: Places,
     next: Vec<u32>,
     board: Board,
-    log: Log,
+    trail: Trail,
     phase: Phase,
 }
 
@@ -42,13 +42,13 @@ impl Model for Monitor {
     ghost view = { λ m. record {
       settings = m.settings;
       setup = record { number = m.number.0; objects = m.settings.objects; parts = m.parts.items; from = m.from };
-      trail = m.log.entries;
+      trail = m.trail.entries;
     } };
 
     ghost invariant = { λ m.
         IsKept
         (record { number = m.number.0; objects = m.settings.objects; parts = m.parts.items; from = m.from })
-        m.log
+        m.trail
         m.board
         m.next.items
         m.phase };
@@ -68,7 +68,7 @@ impl Monitor {
             Some(change) => {
                 self.next[i] += 1;
                 self.board.shift(change.obj, change.by);
-                self.log.raised(f);
+                self.trail.raised(f);
                 Raised::Done {
                     broken: self.board.is_broken(),
                 }
@@ -103,7 +103,7 @@ impl Monitor {
     pub fn places(&self) -> Result<Places, NoMemory>
         ensures { IfOk result (λ p. p ≡ places_at self.now.setup self.now.trail) }
     {
-        let list = Vec::from_slice(self.log.alloc(), self.next.as_slice())?;
+        let list = Vec::from_slice(self.trail.alloc(), self.next.as_slice())?;
         Ok(Places::new(list))
     }
 
@@ -118,7 +118,7 @@ impl Monitor {
     pub fn ended(&self) -> bool
         ensures { result ≡ at_ends self.now.setup self.now.trail }
     {
-        self.log.raises() == 0
+        self.trail.raises() == 0
     }
 
     /// Whether Stop was taken.
@@ -148,14 +148,14 @@ impl Monitor {
         ensures value { result.now ≡ self.now.trail }
         ensures legal { IsLegal self.now.setup self.now.trail }
     {
-        self.log.entries()
+        self.trail.entries()
     }
 
     /// The number of frames sent, of every kind.
     pub fn sent(&self) -> usize
         ensures { result ≡ length (sent_by self.now.trail) }
     {
-        self.log.sent_len()
+        self.trail.sent_len()
     }
 
     /// The frame sent at a place from 0, in constant time.
@@ -163,6 +163,6 @@ impl Monitor {
         requires { i < length (sent_by self.now.trail) }
         ensures { slice_get (sent_by self.now.trail) i ≡ Some result.now }
     {
-        self.log.sent_at(i)
+        self.trail.sent_at(i)
     }
 }

@@ -7,14 +7,14 @@ use Rattle.tk_story.specs.Story.{IsStory}
 use Rattle.tk_drain.specs.Drive.{Drives, IsFinishing}
 use Rattle.tk_drain.specs.Resting.{RunsFrom}
 use Rattle.tk_multi.specs.Multi.{begun}
-use Rattle.tk_multi.specs.Order.{MultiOrdered}
+use Rattle.tk_multi.specs.Order.{MultiOrderView}
 use Rattle.tk_multi.specs.Projection.{projected}
 use Rattle.tk_multi.specs.Queries.{entry_at}
 use Rattle.tk_multi.specs.declared.alone.Alone.{Alone}
 use Rattle.tk_multi.specs.declared.event.MultiEvent.{MultiEvent}
 
 -- the events of an order, where there is one
-abbrev pub events_in : Option MultiOrdered → List MultiEvent
+abbrev pub events_in : Option MultiOrderView → List MultiEvent
 events_in None = []
 events_in (Some order) = order.events
 

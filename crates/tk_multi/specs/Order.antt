@@ -39,32 +39,32 @@ event_in (verb ∷ first ∷ second ∷ []) = event_of_two verb first second
 event_in (verb ∷ first ∷ second ∷ more ∷ rest) = None
 
 -- events, and the number of the line of each
-pub record MultiOrdered : Type 0 where
+pub record MultiOrderView : Type 0 where
   pub events : List MultiEvent
   pub lines : List ℕ
 
 -- no event
-abbrev pub nothing_ordered : MultiOrdered
+abbrev pub nothing_ordered : MultiOrderView
 nothing_ordered = record { events = []; lines = [] }
 
 -- one more event, of line n
-abbrev pub with_event : MultiOrdered → ℕ → MultiEvent → MultiOrdered
+abbrev pub with_event : MultiOrderView → ℕ → MultiEvent → MultiOrderView
 with_event before n event = record { events = before.events ++ event ∷ []; lines = before.lines ++ n ∷ [] }
 
 -- the order before with the event of line n, or the fault of that line
-abbrev pub event_taken : MultiOrdered → ℕ → Option MultiEvent → Result MultiOrdered OrderFault
+abbrev pub event_taken : MultiOrderView → ℕ → Option MultiEvent → Result MultiOrderView OrderFault
 event_taken before n None = Err (BadOrder n)
 event_taken before n (Some event) = Ok (with_event before n event)
 
 -- the order before with a line, or its fault
-abbrev pub line_added : MultiOrdered → (ℕ × List ℕ) → Result MultiOrdered OrderFault
+abbrev pub line_added : MultiOrderView → (ℕ × List ℕ) → Result MultiOrderView OrderFault
 line_added before line = event_taken before line.0 (event_in (words line.1))
 
 -- the events of an order file with their lines, or its first line that is none
-abbrev pub multi_order_of : List ℕ → Result MultiOrdered OrderFault
+abbrev pub multi_order_of : List ℕ → Result MultiOrderView OrderFault
 multi_order_of bytes = through line_added nothing_ordered (filled (numbered 1 (lines bytes)))
 
 -- a fault is the one that is meant, but for want of memory
-abbrev pub IsFault : OrderFault → Result MultiOrdered OrderFault → Type 0
+abbrev pub IsFault : OrderFault → Result MultiOrderView OrderFault → Type 0
 IsFault (BadOrder n) meant = meant ≡ Err (BadOrder n)
 IsFault NoMemory meant = Unit

@@ -20,9 +20,9 @@ pub struct MultiOrder {
 
 impl Model for MultiOrder {
     ghost use Rattle.std.specs.Prelude.{◌≡◌, length};
-    ghost use Rattle.tk_multi.specs.Order.{MultiOrdered};
+    ghost use Rattle.tk_multi.specs.Order.{MultiOrderView};
 
-    ghost Value = { MultiOrdered };
+    ghost Value = { MultiOrderView };
 
     ghost view = { λ o. record { events = o.events.items; lines = o.lines.items } };
 

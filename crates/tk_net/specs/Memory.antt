@@ -11,7 +11,7 @@ use Rattle.tk_wire.specs.declared.net.NetFault.TheVariants.{Failed, NoMemory}
 use Rattle.tk_net.specs.Counting.{no_counts, new_net}
 
 -- the numbers of the calls that fail, and the place of the byte that is turned
-pub record Planned : Type 0 where
+pub record PlanView : Type 0 where
   pub fails : List ℕ
   pub flip : Option ℕ
 

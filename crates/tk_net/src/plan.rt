@@ -13,9 +13,9 @@ pub(crate) struct Plan {
 }
 
 impl Model for Plan {
-    ghost use Rattle.tk_net.specs.Memory.{Planned};
+    ghost use Rattle.tk_net.specs.Memory.{PlanView};
 
-    ghost Value = { Planned };
+    ghost Value = { PlanView };
 
     ghost view = { λ p. record { fails = p.fails.items; flip = p.flip } };
 }

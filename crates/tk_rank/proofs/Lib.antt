@@ -1,3 +1,4 @@
+mod ExchangeLemmas
 mod GreatestLemmas
 mod NodeLemmas
 mod PartLemmas

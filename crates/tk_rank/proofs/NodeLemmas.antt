@@ -12,7 +12,7 @@ use Rattle.tk_rank.proofs.GreatestLemmas.{greatest-one, standing-append}
 
 -- ---- parts
 
-power_doubles : (h : ℕ) → 2 ^ suc h ≡ 2 ^ h + 2 ^ h
+pub power_doubles : (h : ℕ) → 2 ^ suc h ≡ 2 ^ h + 2 ^ h
 power_doubles h = pow-succ' 2 h ∙ omega arith
 
 -- more than one leaf is twice a power of two

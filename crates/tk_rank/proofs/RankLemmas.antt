@@ -1,9 +1,9 @@
 -- What the two sides tell of the levels and the members.
-use Rattle.std.proofs.Common.{◌≡◌, ℕ, ◌+◌, ◌<◌, ◌≤◌, ℤ, pos, ◌-ℤ◌, Bool, true, false, not, ◌||◌, ◌&&◌, cond, ltb, leb, List, [], ◌∷◌, length, set, length-set, map, filter, Option, Some, None, refl, sym, ap, ap₂, ◌∙◌, subst, arith, inl, inr}
+use Rattle.std.proofs.Common.{◌≡◌, ℕ, suc, ◌+◌, ◌-◌, ◌<◌, ◌≤◌, ℤ, pos, ◌-ℤ◌, Bool, true, false, not, ◌||◌, ◌&&◌, cond, ltb, leb, List, [], ◌∷◌, length, get_or, set, length-set, map, filter, Option, Some, None, refl, sym, ap, ap₂, ◌∙◌, subst, arith, inl, inr}
 use Rattle.std.proofs.lemmas.List.{length-map}
 use Rattle.std.specs.Prelude.{IsSome, ◌^◌, unsigned_abs}
 use Rattle.std.specs.Int.{int_min, int_max}
-use Rattle.std.specs.List.{fold, filter_map, cons_option, All}
+use Rattle.std.specs.List.{fold, filter_map, cons_option, range_with_len, All}
 use Rattle.std.specs.Option.{option_map}
 use Rattle.std.specs.Ordering.{int_cmp, is_lt}
 use Rattle.std.proofs.lemmas.Bool.{cases_lt}
@@ -16,9 +16,10 @@ use Rattle.tk_base.proofs.AscendingLemmas.{ascending_positive}
 use Rattle.tk_base.specs.Objects.{objects, is_in}
 use Rattle.tk_border.specs.Levels.{level_at, lowered, raised, least_of, greatest_of, least_member, outside, greatest_outside, above, AreMembers, AreObjects, AreSmall}
 use Rattle.tk_border.proofs.LevelLemmas.{least_some, small_least, outsiders_ascend}
-use Rattle.tk_border.proofs.RisingLemmas.{Rises, rises, rises-filter, rises-objects, same_rising, filter_is_in, is_in-filter, is_in-objects, is_in-low}
-use Rattle.tk_rank.specs.Tree.{leaf_at, standing, is_over}
-use Rattle.tk_rank.specs.Sides.{outsider_leaf, AreSides, IsKept}
+use Rattle.tk_border.proofs.RisingLemmas.{Rises, rises, rises-filter, rises-objects, same_rising, is_in-filter, is_in-objects, is_in-low}
+use Rattle.tk_rank.proofs.SidesLemmas.{levels_read}
+use Rattle.tk_rank.specs.Tree.{leaf_at, standing, is_over, HasRoom, TreeView}
+use Rattle.tk_rank.specs.Sides.{outsider_leaf, levels_of, AreMemberLeaves, AreOutsiderLeaves, AreSides, IsKept}
 
 -- ---- a filter with a map
 
@@ -54,12 +55,35 @@ mapped_twice levels (o ∷ members) = ap (λ rest. (pos 0 -ℤ level_at levels o
 wider : (members : List ℕ) (m n : ℕ) → m ≤ n → All (λ o. o ≤ m) members → All (λ o. o ≤ n) members
 wider members m n le short k d within = let low = short k d within in omega arith
 
-pub members_stand : (levels : List ℤ) (members : List ℕ) (room : ℕ) (m o : List (Option ℤ)) → IsKept levels members room m o → greatest_of (standing m (objects (length m))) ≡ option_map (λ y. pos 0 -ℤ y) (least_member levels members)
-members_stand levels members room m o kept =
-    let n = length m in
-    let up = rises members kept.ranked.ascends in
-    ap greatest_of (chosen (leaf_at m) (is_in members) (λ q. pos 0 -ℤ level_at levels q) 0 (objects n) (rises-objects n) kept.sides.member
-    ∙ ap (map (λ q. pos 0 -ℤ level_at levels q)) (filter_is_in members n up (wider members (length levels) n kept.sides.member_room kept.ranked.members.in_range))
+-- the places of some objects, in order, give these objects
+along : (g f : ℕ → ℤ) (xs : List ℕ) (a : ℕ) → ((i : ℕ) → i < length xs → f (a + i) ≡ g (get_or xs i 0)) → map f (range_with_len a (length xs)) ≡ map g xs
+along g f [] a same = refl
+along g f (x ∷ xs) a same =
+    ap₂ (λ y rest. y ∷ rest) (ap f (omega arith) ∙ same 0 (omega arith))
+    (along g f xs (a + 1) (λ i within. ap f (omega arith) ∙ same (suc i) (omega arith)))
+
+all_along : (g f : ℕ → ℤ) (xs : List ℕ) → ((i : ℕ) → i < length xs → f (1 + i) ≡ g (get_or xs i 0)) → map f (objects (length xs)) ≡ map g xs
+unfolding objects
+all_along g f xs same = along g f xs 1 same
+
+first_test : (n size o : ℕ) → n ≤ size → ((ltb 0 o && leb o size) && ltb (o - 1) n) ≡ (ltb 0 o && leb o n)
+first_test n size o le = grind (arith, nat_tests)
+
+-- the first leaves of a wider tree
+first_objects : (n size : ℕ) → n ≤ size → filter (λ o. ltb (o - 1) n) (objects size) ≡ objects n
+first_objects n size le =
+    let q = λ (o : ℕ). ltb (o - 1) n in
+    same_rising 0 0 (filter q (objects size)) (objects n) (rises-filter q 0 (objects size) (rises-objects size)) (rises-objects n)
+    (λ o. is_in-filter q (objects size) o ∙ ap (λ t. t && q o) (is_in-objects size o) ∙ first_test n size o le ∙ sym (is_in-objects n o))
+
+pub members_stand : (levels : List ℤ) (members : List ℕ) (m : List (Option ℤ)) → AreMemberLeaves levels members m → greatest_of (standing m (objects (length m))) ≡ option_map (λ y. pos 0 -ℤ y) (least_member levels members)
+members_stand levels members m s =
+    let size = length m in
+    let n = length members in
+    let f = λ (o : ℕ). (pos 0 -ℤ level_at levels (get_or members (o - 1) 0)) in
+    ap greatest_of (chosen (leaf_at m) (λ o. ltb (o - 1) n) f 0 (objects size) (rises-objects size) (λ o some. s.leaf (o - 1))
+    ∙ ap (map f) (first_objects n size s.room)
+    ∙ all_along (λ o. pos 0 -ℤ level_at levels o) f members (λ i within. ap (λ k. pos 0 -ℤ level_at levels (get_or members k 0)) (omega arith))
     ∙ mapped_twice levels members)
     ∙ greatest-turned (map (level_at levels) members)
 
@@ -120,12 +144,12 @@ outsiders_same members n size le =
     same_rising 0 0 (filter q (objects size)) (filter r (objects n)) (rises-filter q 0 (objects size) (rises-objects size)) (rises-filter r 0 (objects n) (rises-objects n))
     (λ o. is_in-filter q (objects size) o ∙ outsiders_kept members n size o le ∙ sym (is_in-filter r (objects n) o))
 
-pub outsiders_stand : (levels : List ℤ) (members : List ℕ) (room : ℕ) (m o : List (Option ℤ)) → IsKept levels members room m o → greatest_of (standing o (objects (length o))) ≡ greatest_outside levels members
+pub outsiders_stand : (levels : List ℤ) (members : List ℕ) (room : ℕ) (m : TreeView) (o : List (Option ℤ)) → IsKept levels members room m o → greatest_of (standing o (objects (length o))) ≡ greatest_outside levels members
 outsiders_stand levels members room m o kept =
     let size = length o in
     let n = length levels in
-    ap greatest_of (chosen (leaf_at o) (λ q. not (is_in members q || ltb n q)) (level_at levels) 0 (objects size) (rises-objects size) (λ q some. kept.sides.outsider q some ∙ outsider_is levels (is_in members) q)
-    ∙ ap (map (level_at levels)) (outsiders_same members n size kept.sides.outsider_room))
+    ap greatest_of (chosen (leaf_at o) (λ q. not (is_in members q || ltb n q)) (level_at levels) 0 (objects size) (rises-objects size) (λ q some. kept.sides.outsiders.leaf q some ∙ outsider_is levels (is_in members) q)
+    ∙ ap (map (level_at levels)) (outsiders_same members n size kept.sides.outsiders.room))
 
 -- outside a set that holds the members
 held_test : (m r b : Bool) → (m ≡ true → r ≡ true) → ((b && not m) && not r) ≡ (b && not r)
@@ -152,13 +176,13 @@ outside_same members r n size le held =
     ∙ held_test (is_in members o) (is_in r o) (is_in (objects n) o) (held o)
     ∙ sym (is_in-filter s (objects n) o))
 
-pub outside_stand : (levels : List ℤ) (members r : List ℕ) (room : ℕ) (m o : List (Option ℤ)) → IsKept levels members room m o → ((q : ℕ) → is_in members q ≡ true → is_in r q ≡ true) → greatest_of (standing o (outside (length o) r)) ≡ greatest_outside levels r
+pub outside_stand : (levels : List ℤ) (members r : List ℕ) (room : ℕ) (m : TreeView) (o : List (Option ℤ)) → IsKept levels members room m o → ((q : ℕ) → is_in members q ≡ true → is_in r q ≡ true) → greatest_of (standing o (outside (length o) r)) ≡ greatest_outside levels r
 outside_stand levels members r room m o kept held =
     let size = length o in
     let n = length levels in
     let s = λ (q : ℕ). not (is_in r q) in
-    ap greatest_of (chosen (leaf_at o) (λ q. not (is_in members q || ltb n q)) (level_at levels) 0 (outside size r) (rises-filter s 0 (objects size) (rises-objects size)) (λ q some. kept.sides.outsider q some ∙ outsider_is levels (is_in members) q)
-    ∙ ap (map (level_at levels)) (outside_same members r n size kept.sides.outsider_room held))
+    ap greatest_of (chosen (leaf_at o) (λ q. not (is_in members q || ltb n q)) (level_at levels) 0 (outside size r) (rises-filter s 0 (objects size) (rises-objects size)) (λ q some. kept.sides.outsiders.leaf q some ∙ outsider_is levels (is_in members) q)
+    ∙ ap (map (level_at levels)) (outside_same members r n size kept.sides.outsiders.room held))
 
 -- ---- the outsiders above a level
 
@@ -170,16 +194,16 @@ and_assoc : (a b c : Bool) → (a && (b && c)) ≡ ((a && b) && c)
 and_assoc true b c = refl
 and_assoc false b c = refl
 
-above_one : (levels : List ℤ) (p : ℕ → Bool) (m o : List (Option ℤ)) (x : ℤ) (q : ℕ) → AreSides levels p m o → (is_in (objects (length o)) q && is_over x (leaf_at o q)) ≡ ((is_in (objects (length o)) q && not (p q || ltb (length levels) q)) && is_lt (int_cmp x (level_at levels q)))
-above_one levels p m o x q sides = elim (cases_lt 0 q) [
+above_one : (levels : List ℤ) (p : ℕ → Bool) (o : List (Option ℤ)) (x : ℤ) (q : ℕ) → AreOutsiderLeaves levels p o → (is_in (objects (length o)) q && is_over x (leaf_at o q)) ≡ ((is_in (objects (length o)) q && not (p q || ltb (length levels) q)) && is_lt (int_cmp x (level_at levels q)))
+above_one levels p o x q sides = elim (cases_lt 0 q) [
   | inl some ↦
-      ap (λ leaf. is_in (objects (length o)) q && is_over x leaf) (sides.outsider q some ∙ outsider_is levels p q)
+      ap (λ leaf. is_in (objects (length o)) q && is_over x leaf) (sides.leaf q some ∙ outsider_is levels p q)
       ∙ ap (λ t. is_in (objects (length o)) q && t) (over_test (not (p q || ltb (length levels) q)) x (level_at levels q))
       ∙ and_assoc (is_in (objects (length o)) q) (not (p q || ltb (length levels) q)) (is_lt (int_cmp x (level_at levels q)))
   | inr none ↦ let out : is_in (objects (length o)) q ≡ false = is_in-low 0 (objects (length o)) q (rises-objects (length o)) none in rw out refl
 ]
 
-pub above_stand : (levels : List ℤ) (members : List ℕ) (room : ℕ) (m o : List (Option ℤ)) (x : ℤ) → IsKept levels members room m o → filter (λ q. is_over x (leaf_at o q)) (objects (length o)) ≡ above levels members x
+pub above_stand : (levels : List ℤ) (members : List ℕ) (room : ℕ) (m : TreeView) (o : List (Option ℤ)) (x : ℤ) → IsKept levels members room m o → filter (λ q. is_over x (leaf_at o q)) (objects (length o)) ≡ above levels members x
 above_stand levels members room m o x kept =
     let size = length o in
     let n = length levels in
@@ -189,8 +213,8 @@ above_stand levels members room m o x kept =
     same_rising 0 0 (filter w (objects size)) (filter v (filter r (objects n))) (rises-filter w 0 (objects size) (rises-objects size)) (rises-filter v 0 (filter r (objects n)) (rises-filter r 0 (objects n) (rises-objects n)))
     (λ q.
     is_in-filter w (objects size) q
-    ∙ above_one levels (is_in members) m o x q kept.sides
-    ∙ ap (λ t. t && v q) (outsiders_kept members n size q kept.sides.outsider_room)
+    ∙ above_one levels (is_in members) o x q kept.sides.outsiders
+    ∙ ap (λ t. t && v q) (outsiders_kept members n size q kept.sides.outsiders.room)
     ∙ ap (λ t. t && v q) (sym (is_in-filter r (objects n) q))
     ∙ sym (is_in-filter v (filter r (objects n)) q))
 
@@ -214,8 +238,8 @@ from_one members up k d within = subst (λ x. 0 < x) (get_or_default members k 0
 
 -- ---- what is kept
 
-pub kept_set : (levels : List ℤ) (members : List ℕ) (capacity : ℕ) (m o : List (Option ℤ)) (i : ℕ) (x : ℤ) (m' o' : List (Option ℤ)) → unsigned_abs x < 2 ^ 114 → IsKept levels members capacity m o → AreSides (set levels i x) (is_in members) m' o' → IsKept (set levels i x) members capacity m' o'
-kept_set levels members capacity m o i x m' o' small kept sides =
+kept_set : (levels : List ℤ) (members : List ℕ) (capacity : ℕ) (m : TreeView) (o : List (Option ℤ)) (i : ℕ) (x : ℤ) (m' : TreeView) (o' : List (Option ℤ)) → unsigned_abs x < 2 ^ 114 → m'.room ≡ m.room → IsKept levels members capacity m o → AreSides (set levels i x) members m'.leaves o' → IsKept (set levels i x) members capacity m' o'
+kept_set levels members capacity m o i x m' o' small room kept sides =
     let same = length-set levels i x in
     record {
       ranked = record {
@@ -227,27 +251,39 @@ kept_set levels members capacity m o i x m' o' small kept sides =
           in_range = wider members (length levels) (length (set levels i x)) (omega arith) kept.ranked.members.in_range;
         };
       };
-      room = omega (arith, same, kept.room);
+      list_room = omega (arith, same, kept.list_room);
+      tree_room = subst (λ n. HasRoom n m'.room) (sym same) (subst (HasRoom (length levels)) (sym room) kept.tree_room);
       sides = sides;
     }
 
-pub kept_members : (levels : List ℤ) (members : List ℕ) (capacity : ℕ) (m o : List (Option ℤ)) → AreObjects levels → AreSmall levels → AreMembers (length levels) members → IsAscending members → length levels ≤ capacity → AreSides levels (is_in members) m o → IsKept levels members capacity m o
-kept_members levels members capacity m o objects small are up room sides = record {
-  ranked = record { objects = objects; small = small; ascends = up; members = are };
-  room = room;
-  sides = sides;
-}
+-- the same of what is read off the leaves
+pub read_set : (n : ℕ) (levels : List ℤ) (members : List ℕ) (capacity : ℕ) (m : TreeView) (o : List (Option ℤ)) (i : ℕ) (x : ℤ) (m' : TreeView) (o' : List (Option ℤ)) → length levels ≡ n → unsigned_abs x < 2 ^ 114 → m'.room ≡ m.room → IsKept levels members capacity m o → AreSides (set levels i x) members m'.leaves o' → (levels_of n members m'.leaves o' ≡ set levels i x) × IsKept (levels_of n members m'.leaves o') members capacity m' o'
+read_set n levels members capacity m o i x m' o' long small room kept sides =
+    let read = levels_read (set levels i x) members m'.leaves o' n (length-set levels i x ∙ long) sides in
+    (read, subst (λ l. IsKept l members capacity m' o') (sym read) (kept_set levels members capacity m o i x m' o' small room kept sides))
+
+pub read_members : (n : ℕ) (levels : List ℤ) (members : List ℕ) (capacity : ℕ) (m : TreeView) (o : List (Option ℤ)) → length levels ≡ n → AreObjects levels → AreSmall levels → AreMembers (length levels) members → IsAscending members → length levels ≤ capacity → HasRoom (length levels) m.room → AreSides levels members m.leaves o → (levels_of n members m.leaves o ≡ levels) × IsKept (levels_of n members m.leaves o) members capacity m o
+read_members n levels members capacity m o long objects small are up list_room tree_room sides =
+    let read = levels_read levels members m.leaves o n long sides in (
+      read,
+      subst (λ l. IsKept l members capacity m o) (sym read) (record {
+        ranked = record { objects = objects; small = small; ascends = up; members = are };
+        list_room = list_room;
+        tree_room = tree_room;
+        sides = sides;
+      }),
+    )
 
 -- the least member, where its tree has it with the sign turned
-pub least_from_root : (levels : List ℤ) (members : List ℕ) (room : ℕ) (m o : List (Option ℤ)) (root : Option ℤ) (r : ℤ) → IsKept levels members room m o → root ≡ greatest_of (standing m (objects (length m))) → root ≡ Some r → (least_member levels members ≡ Some (pos 0 -ℤ r)) × (unsigned_abs r < 2 ^ 114)
+pub least_from_root : (levels : List ℤ) (members : List ℕ) (room : ℕ) (m : TreeView) (o : List (Option ℤ)) (root : Option ℤ) (r : ℤ) → IsKept levels members room m o → root ≡ greatest_of (standing m.leaves (objects (length m.leaves))) → root ≡ Some r → (least_member levels members ≡ Some (pos 0 -ℤ r)) × (unsigned_abs r < 2 ^ 114)
 least_from_root levels members room m o root r kept stands is =
     let (x, least) = least_there levels members (length levels) kept.ranked.members in
-    let turned : Some r ≡ Some (pos 0 -ℤ x) = sym is ∙ stands ∙ members_stand levels members room m o kept ∙ ap (option_map (λ y. pos 0 -ℤ y)) least in
+    let turned : Some r ≡ Some (pos 0 -ℤ x) = sym is ∙ stands ∙ members_stand levels members m.leaves kept.sides.members ∙ ap (option_map (λ y. pos 0 -ℤ y)) least in
     let same : r ≡ pos 0 -ℤ x = cc in
     let small = small_least levels members x kept.ranked.small least in
     (least ∙ ap Some (omega (arith, ints)), omega (arith, ints))
 
-pub root_there : (levels : List ℤ) (members : List ℕ) (room : ℕ) (m o : List (Option ℤ)) (root : Option ℤ) → IsKept levels members room m o → root ≡ greatest_of (standing m (objects (length m))) → IsSome root
+pub root_there : (levels : List ℤ) (members : List ℕ) (room : ℕ) (m : TreeView) (o : List (Option ℤ)) (root : Option ℤ) → IsKept levels members room m o → root ≡ greatest_of (standing m.leaves (objects (length m.leaves))) → IsSome root
 root_there levels members room m o root kept stands =
     let (x, least) = least_there levels members (length levels) kept.ranked.members in
-    subst IsSome (sym (stands ∙ members_stand levels members room m o kept ∙ ap (option_map (λ y. pos 0 -ℤ y)) least)) refl
+    subst IsSome (sym (stands ∙ members_stand levels members m.leaves kept.sides.members ∙ ap (option_map (λ y. pos 0 -ℤ y)) least)) refl

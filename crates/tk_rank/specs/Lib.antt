@@ -1,5 +1,5 @@
 pub mod Node
-pub mod Ranked
+pub mod Rank
 pub mod Sides
 pub mod Tree
 pub use Rattle.tk_base.specs.Objects

@@ -1,31 +1,59 @@
 -- The members and the outsiders in two trees. No public clause cites this file.
-use Rattle.std.specs.Prelude.{◌≡◌, ◌==◌, ℕ, ◌<◌, ◌≤◌, ℤ, pos, ◌-ℤ◌, Bool, ◌||◌, nat_lt, if◌then◌else◌, List, length, Option, Some, None}
+use Rattle.std.specs.Prelude.{◌≡◌, ◌==◌, ℕ, ◌+◌, ◌^◌, ◌<◌, ◌≤◌, ℤ, pos, ◌-ℤ◌, Bool, ◌||◌, nat_lt, if◌then◌else◌, unsigned_abs, List, [], ◌∷◌, length, map, slice_index_or, Option, Some, None, IfSome}
+use Rattle.std.specs.List.{range_with_len}
 use Rattle.tk_base.specs.Objects.{is_in}
 use Rattle.tk_border.specs.Levels.{level_at}
-use Rattle.tk_rank.specs.Ranked.{IsRanked}
-use Rattle.tk_rank.specs.Tree.{leaf_at}
+use Rattle.tk_rank.specs.Rank.{IsRanked}
+use Rattle.tk_rank.specs.Tree.{leaf_at, HasRoom, TreeView}
 
--- what an object has in the tree of the members: its level with the sign turned, so that the least is the greatest
-abbrev pub member_leaf : List ℤ → (ℕ → Bool) → ℕ → Option ℤ
-member_leaf levels is_member o = if is_member o then Some (pos 0 -ℤ level_at levels o) else None
+-- what stands at a place in the tree of the members: a level with the sign turned, so that the least is the greatest
+abbrev pub member_leaf : List ℤ → List ℕ → ℕ → Option ℤ
+member_leaf levels members place =
+    if nat_lt place (length members) then Some (pos 0 -ℤ level_at levels (slice_index_or members place 0)) else None
 
 -- what an object has in the tree of the outsiders
 abbrev pub outsider_leaf : List ℤ → (ℕ → Bool) → ℕ → Option ℤ
 outsider_leaf levels is_member o = if is_member o || nat_lt (length levels) o then None else Some (level_at levels o)
 
--- one tree has the members by a test, the other has the outsiders
-pub record AreSides (levels : List ℤ) (is_member : ℕ → Bool) (members outsiders : List (Option ℤ)) : Type 0 where
-  pub member_room : length levels ≤ length members
-  pub outsider_room : length levels ≤ length outsiders
-  pub member : (o : ℕ) → 0 < o → leaf_at members o ≡ member_leaf levels is_member o
-  pub outsider : (o : ℕ) → 0 < o → leaf_at outsiders o ≡ outsider_leaf levels is_member o
+-- what an object has in the tree of the members, at its place among them
+abbrev pub leaf_of : List ℕ → List (Option ℤ) → ℕ → Option ℤ
+leaf_of [] leaves o = None
+leaf_of (q ∷ members) [] o = None
+leaf_of (q ∷ members) (leaf ∷ leaves) o = if q == o then leaf else leaf_of members leaves o
 
--- a test with another answer for one object
-abbrev pub with_answer : ℕ → Bool → (ℕ → Bool) → ℕ → Bool
-with_answer o answer test q = if q == o then answer else test q
+-- the level of an object by what it has in the tree of the members and in that of the outsiders
+abbrev pub read_level : Option ℤ → Option ℤ → ℤ
+read_level member (Some level) = level
+read_level (Some turned) None = pos 0 -ℤ turned
+read_level None None = pos 0
 
--- what holds of the fields of a rank, the list of whose members has so much room
-pub record IsKept (levels : List ℤ) (members : List ℕ) (capacity : ℕ) (member_leaves outsider_leaves : List (Option ℤ)) : Type 0 where
+-- the levels of so many objects, read off the leaves
+abbrev pub levels_of : ℕ → List ℕ → List (Option ℤ) → List (Option ℤ) → List ℤ
+levels_of count members member_leaves outsider_leaves =
+    map (λ i. read_level (leaf_of members member_leaves (i + 1)) (slice_index_or outsider_leaves i None)) (range_with_len 0 count)
+
+-- a tree has the members, in their order
+pub record AreMemberLeaves (levels : List ℤ) (members : List ℕ) (leaves : List (Option ℤ)) : Type 0 where
+  pub room : length members ≤ length leaves
+  pub leaf : (place : ℕ) → slice_index_or leaves place None ≡ member_leaf levels members place
+
+-- a tree has the outsiders, those that no test makes members
+pub record AreOutsiderLeaves (levels : List ℤ) (is_member : ℕ → Bool) (leaves : List (Option ℤ)) : Type 0 where
+  pub room : length levels ≤ length leaves
+  pub leaf : (o : ℕ) → 0 < o → leaf_at leaves o ≡ outsider_leaf levels is_member o
+
+-- one tree has the members, the other the outsiders
+pub record AreSides (levels : List ℤ) (list : List ℕ) (member_leaves outsider_leaves : List (Option ℤ)) : Type 0 where
+  pub members : AreMemberLeaves levels list member_leaves
+  pub outsiders : AreOutsiderLeaves levels (is_in list) outsider_leaves
+
+-- each number is below 2^114 in size
+abbrev pub AreSmallLeaves : List (Option ℤ) → Type 0
+AreSmallLeaves leaves = (place : ℕ) → IfSome (slice_index_or leaves place None) (λ x. unsigned_abs x < 2 ^ 114)
+
+-- what holds of the fields of a rank, with the room of its list of members and the tree over their places
+pub record IsKept (levels : List ℤ) (members : List ℕ) (room : ℕ) (tree : TreeView) (outsiders : List (Option ℤ)) : Type 0 where
   pub ranked : IsRanked (record { levels = levels; members = members })
-  pub room : length levels ≤ capacity
-  pub sides : AreSides levels (is_in members) member_leaves outsider_leaves
+  pub list_room : length levels ≤ room
+  pub tree_room : HasRoom (length levels) tree.room
+  pub sides : AreSides levels members tree.leaves outsiders

@@ -1,5 +1,5 @@
 -- A tournament tree of numbers, some of its leaves empty. No public clause cites this file.
-use Rattle.std.specs.Prelude.{◌≡◌, ℕ, ◌+◌, ◌-◌, ◌*◌, ◌/◌, ◌<◌, ◌≤◌, ℤ, Bool, false, List, length, drop, Option, Some, None, slice_index_or, filter, not}
+use Rattle.std.specs.Prelude.{◌≡◌, ℕ, ◌+◌, ◌-◌, ◌*◌, ◌/◌, ◌<◌, ◌≤◌, max, ℤ, Bool, false, List, length, drop, Option, Some, None, slice_index_or, filter, not}
 use Rattle.std.specs.Int.{int_max, IsPowerOfTwo}
 use Rattle.std.specs.List.{filter_map}
 use Rattle.std.specs.Ordering.{int_cmp, is_lt}
@@ -26,6 +26,15 @@ width_of nodes = length nodes / 2
 
 abbrev pub leaves_of : List (Option ℤ) → List (Option ℤ)
 leaves_of nodes = drop (width_of nodes) nodes
+
+-- a tree as its leaves, and how many nodes it has room for
+pub record TreeView : Type 0 where
+  pub leaves : List (Option ℤ)
+  pub room : ℕ
+
+-- so much room is enough for so many leaves, rounded up to a power of two
+abbrev pub HasRoom : ℕ → ℕ → Type 0
+HasRoom leaves room = (width : ℕ) → IsPowerOfTwo width → width / 2 < max 1 leaves → width + width ≤ room
 
 -- an inner node has the greater number of its two children
 abbrev pub IsMended : List (Option ℤ) → ℕ → Type 0

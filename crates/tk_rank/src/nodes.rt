@@ -1,10 +1,10 @@
 // The nodes of a tree: node 1 is the root, the children of j are 2 j and 2 j + 1, the last half are the leaves.
-ghost use Rattle.std.specs.Prelude.{◌≡◌, ◌≢◌, ℕ, ◌+◌, ◌-◌, ◌^◌, ◌<◌, ◌≤◌, ◌++◌, ℤ, Bool, true, false, not, List, length, filter, IfOk, slice_set, Option, Some, None};
+ghost use Rattle.std.specs.Prelude.{◌≡◌, ◌≢◌, ℕ, ◌+◌, ◌-◌, ◌^◌, ◌<◌, ◌≤◌, ◌++◌, ℤ, Bool, true, false, not, List, length, filter, IfOk, slice_index_or, slice_set, vec_capacity, Option, Some, None};
 ghost use Rattle.std.specs.List.{range_with_len};
 ghost use Rattle.tk_base.specs.Ascending.{numbers_of};
 ghost use Rattle.tk_base.specs.Objects.{is_in};
 ghost use Rattle.tk_border.specs.Levels.{greatest_of, IsPassed};
-ghost use Rattle.tk_rank.specs.Tree.{is_over as is_over_of, leaf_at, leaves_of, others_in, standing, those_over, width_of, IsPart, IsTree};
+ghost use Rattle.tk_rank.specs.Tree.{is_over as is_over_of, leaf_at, leaves_of, others_in, standing, those_over, width_of, HasRoom, IsPart, IsTree};
 
 use crate::node::Node;
 use tk_base::{NoMemory, Obj, ObjSet};
@@ -65,6 +65,22 @@ fn right(nodes: &[Node], part: Part) -> Part
         width,
         node: 2 * part.node + 1,
         first: part.first + width as u32,
+    }
+}
+
+/// Writes a tree of empty leaves, at least so many, in the place of what was there.
+pub(crate) fn empty(nodes: &mut Vec<Node>, leaves: usize)
+    requires few { leaves ≤ 65536 }
+    requires room { HasRoom leaves (vec_capacity nodes.old) }
+    ensures tree { IsTree nodes.new.items }
+    ensures enough { leaves ≤ length (leaves_of nodes.new.items) }
+    ensures empty { (i : ℕ) → slice_index_or (leaves_of nodes.new.items) i None ≡ None }
+    ensures room { vec_capacity nodes.new ≡ vec_capacity nodes.old }
+{
+    let width = leaves.next_power_of_two();
+    nodes.clear();
+    for _ in 0..2 * width {
+        nodes.push_reserved(Node::none());
     }
 }
 

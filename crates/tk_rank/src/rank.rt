@@ -1,18 +1,21 @@
-ghost use Rattle.std.specs.Prelude.{◌≡◌, ℕ, ◌+◌, ◌-◌, ◌^◌, ◌<◌, ◌≤◌, ℤ, pos, ◌≤ℤ◌, unsigned_abs, IsTrue, length, All, IfOk, Some, slice_set};
+ghost use Rattle.std.specs.Prelude.{◌≡◌, ℕ, ◌+◌, ◌-◌, ◌^◌, ◌<◌, ◌≤◌, ℤ, pos, ◌+ℤ◌, ◌≤ℤ◌, unsigned_abs, IsTrue, length, All, IfOk, Some, slice_set};
 ghost use Rattle.tk_base.specs.Objects.{is_in};
 ghost use Rattle.tk_border.specs.Levels.{level_at, least_member, greatest_outside, above, border, own_border, holds, AreMembers, AreObjects, AreSmall};
-ghost use Rattle.tk_rank.specs.Ranked.{IsRanked};
+ghost use Rattle.tk_rank.specs.Rank.{IsRanked};
 
-use crate::sides::{exchange, holds_all, list_members, relevel, seat};
+use crate::node::Node;
+use crate::sides::{
+    are_listed, holds_all, list_members, read_member, release, relevel, seat, seat_of, take,
+};
 use crate::tree::Tree;
 use std::alloc::Global;
 use std::marker::Model;
 use tk_base::{NoMemory, Obj, ObjSet};
 
-/// The levels of all objects at one node, and which of them are members.
+/// The levels of all objects at one node, and which of them are members. A level stands at a leaf alone.
 #[derive(Debug, Drop)]
 pub struct Rank {
-    levels: Vec<i128>,
+    count: usize,
     list: Vec<Obj>,
     members: Tree,
     outsiders: Tree,
@@ -21,17 +24,19 @@ pub struct Rank {
 impl Model for Rank {
     ghost use Rattle.std.specs.Prelude.{vec_capacity};
     ghost use Rattle.tk_base.specs.Ascending.{numbers_of};
-    ghost use Rattle.tk_rank.specs.Ranked.{Ranked};
-    ghost use Rattle.tk_rank.specs.Sides.{IsKept};
+    ghost use Rattle.tk_rank.specs.Rank.{RankView};
+    ghost use Rattle.tk_rank.specs.Sides.{levels_of, IsKept};
 
-    ghost Value = { Ranked };
+    ghost Value = { RankView };
 
     ghost view = { λ r. record {
-      levels = r.levels.items;
+      levels = levels_of r.count (numbers_of r.list.items) r.members.leaves r.outsiders.leaves;
       members = numbers_of r.list.items;
     } };
 
-    ghost invariant = { λ r. IsKept r.levels.items (numbers_of r.list.items) (vec_capacity r.list) r.members r.outsiders };
+    ghost invariant = { λ r.
+        IsKept (levels_of r.count (numbers_of r.list.items) r.members.leaves r.outsiders.leaves)
+        (numbers_of r.list.items) (vec_capacity r.list) r.members r.outsiders.leaves };
 }
 
 impl Rank {
@@ -42,15 +47,16 @@ impl Rank {
         requires members { AreMembers (length levels.now) members.now }
         ensures { IfOk result (λ r. r ≡ record { levels = levels.now; members = members.now }) }
     {
-        let own = Vec::from_slice(alloc, levels)?;
+        // Their number is read for its clause, that they ascend.
+        let _ = members.len();
         let mut list = Vec::with_capacity(alloc, levels.len())?;
-        let mut member_tree = Tree::new(alloc, levels.len())?;
-        let mut outsider_tree = Tree::new(alloc, levels.len())?;
-        seat(levels, &member_tree, &mut outsider_tree);
-        exchange(levels, &[], members, &mut member_tree, &mut outsider_tree);
+        let mut member_tree = Tree::with_room(alloc, levels.len())?;
+        let mut outsider_tree = Tree::with_room(alloc, levels.len())?;
+        seat(levels, &mut outsider_tree);
         list_members(&mut list, members);
+        take(members, &mut member_tree, &mut outsider_tree);
         Ok(Rank {
-            levels: own,
+            count: levels.len(),
             list,
             members: member_tree,
             outsiders: outsider_tree,
@@ -62,43 +68,74 @@ impl Rank {
         ensures value { result ≡ length self.now.levels }
         ensures limits { IsRanked self.now }
     {
-        self.levels.len()
+        self.count
     }
 
-    /// The level of an object.
+    /// The level of an object, read at its leaf among the outsiders, else at that of its place among the members.
     pub fn level(&self, o: Obj) -> i128
         requires from_one { 0 < o.0 }
         requires within { o.0 ≤ length self.now.levels }
         ensures value { result ≡ level_at self.now.levels o.0 }
         ensures size { unsigned_abs result < 2 ^ 114 }
     {
-        self.levels[(o.0 - 1) as usize]
+        match self.outsiders.leaf(seat_of(o)) {
+            Some(level) => level,
+            None => read_member(o, self.list.as_slice(), &self.members),
+        }
     }
 
-    /// Gives an object another level, in logarithmic time.
+    /// Gives an object another level, in logarithmic time: one tree is written.
     pub fn set(&mut self, o: Obj, level: i128)
         requires from_one { 0 < o.0 }
         requires within { o.0 ≤ length self.old.levels }
         requires size { unsigned_abs level < 2 ^ 114 }
         ensures { self.new ≡ record self.old { levels = slice_set self.old.levels (o.0 - 1) level } }
     {
-        self.levels[(o.0 - 1) as usize] = level;
-        relevel(o, level, &mut self.members, &mut self.outsiders);
+        relevel(
+            o,
+            level,
+            self.list.as_slice(),
+            &mut self.members,
+            &mut self.outsiders,
+        );
     }
 
-    /// Takes other members, in the time of both sets times a logarithm.
+    /// Moves the level of an object, in logarithmic time: one tree is written.
+    pub fn shift(&mut self, o: Obj, by: i128)
+        requires from_one { 0 < o.0 }
+        requires within { o.0 ≤ length self.old.levels }
+        requires size { unsigned_abs (level_at self.old.levels o.0 +ℤ by) < 2 ^ 114 }
+        ensures { self.new
+            ≡ record self.old { levels = slice_set self.old.levels (o.0 - 1) (level_at self.old.levels o.0 +ℤ by) } }
+    {
+        match self.outsiders.leaf(seat_of(o)) {
+            Some(level) => self.outsiders.set(seat_of(o), Node::of(level + by)),
+            None => {
+                let level = self.level(o);
+                self.set(o, level + by);
+            }
+        }
+    }
+
+    /// Takes other members, in the time of both sets times a logarithm; the same ones cost a look at each.
     pub fn set_members(&mut self, members: &ObjSet)
         requires { AreMembers (length self.old.levels) members.now }
         ensures { self.new ≡ record self.old { members = members.now } }
     {
-        exchange(
-            self.levels.as_slice(),
-            self.list.as_slice(),
-            members,
-            &mut self.members,
-            &mut self.outsiders,
-        );
+        if !are_listed(self.list.as_slice(), members) {
+            self.exchange(members);
+        }
+    }
+
+    fn exchange(&mut self, members: &ObjSet)
+        requires { AreMembers (length self.old.levels) members.now }
+        ensures { self.new ≡ record self.old { members = members.now } }
+    {
+        // Their number is read for its clause, that they ascend.
+        let _ = members.len();
+        release(self.list.as_slice(), &self.members, &mut self.outsiders);
         list_members(&mut self.list, members);
+        take(members, &mut self.members, &mut self.outsiders);
     }
 
     /// The least level of a member, read at a root.

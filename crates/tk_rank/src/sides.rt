@@ -1,91 +1,131 @@
 // The members in one tree and the outsiders in another.
-ghost use Rattle.std.specs.Prelude.{◌≡◌, ℕ, ◌+◌, ◌-◌, ◌^◌, ◌<◌, ◌≤◌, ◌==◌, ℤ, unsigned_abs, Bool, if◌then◌else◌, List, [], length, All, slice_set, vec_capacity, None};
+ghost use Rattle.std.specs.Prelude.{◌≡◌, ◌-◌, ◌^◌, ◌<◌, ◌≤◌, ℤ, pos, true, false, unsigned_abs, IfNone, IfSome, List, [], length, All, Some, None, slice_index, slice_index_or, slice_set, vec_capacity};
 ghost use Rattle.tk_base.specs.Ascending.{IsAscending, numbers_of};
 ghost use Rattle.tk_base.specs.Objects.{is_in};
-ghost use Rattle.tk_border.specs.Levels.{holds, AreMembers, AreObjects, AreSmall};
-ghost use Rattle.tk_rank.specs.Sides.{AreSides, with_answer};
-ghost use Rattle.tk_rank.specs.Tree.{leaf_at};
+ghost use Rattle.tk_border.specs.Levels.{holds, level_at, AreObjects, AreSmall};
+ghost use Rattle.tk_rank.specs.Sides.{AreMemberLeaves, AreOutsiderLeaves, AreSides, AreSmallLeaves};
+ghost use Rattle.tk_rank.specs.Tree.{leaf_at, HasRoom};
 
 use crate::node::Node;
 use crate::tree::Tree;
 use tk_base::{Obj, ObjSet};
 
+/// The place of an object in the tree of the outsiders.
+pub(crate) fn seat_of(o: Obj) -> usize
+    requires { 0 < o.0 }
+    ensures { result ≡ o.0 - 1 }
+{
+    o.0 as usize - 1
+}
+
 /// Makes every object an outsider.
-pub(crate) fn seat(levels: &[i128], members: &Tree, outsiders: &mut Tree)
+pub(crate) fn seat(levels: &[i128], outsiders: &mut Tree)
     requires objects { AreObjects levels.now }
     requires sizes { AreSmall levels.now }
-    requires member_room { length levels.now ≤ length members.now }
-    requires outsider_room { length levels.now ≤ length outsiders.old }
-    requires no_member { (o : ℕ) → leaf_at members.now o ≡ None }
-    requires no_outsider { (o : ℕ) → leaf_at outsiders.old o ≡ None }
-    ensures { AreSides levels.now (is_in []) members.now outsiders.new }
+    requires room { HasRoom (length levels.now) outsiders.old.room }
+    ensures { AreOutsiderLeaves levels.now (is_in []) outsiders.new.leaves }
 {
-    let _ = members;
+    outsiders.clear(levels.len());
     for i in 0..levels.len() {
-        outsiders.set(Obj(i as u32 + 1), Node::of(levels[i]));
+        outsiders.set(i, Node::of(levels[i]));
     }
 }
 
-/// Makes an object a member or an outsider.
-fn place(levels: &[i128], o: Obj, is_member: bool, members: &mut Tree, outsiders: &mut Tree)
-    requires from_one { 0 < o.0 }
-    requires within { o.0 ≤ length levels.now }
-    requires sizes { AreSmall levels.now }
-    requires member_room { length levels.now ≤ length members.old }
-    requires outsider_room { length levels.now ≤ length outsiders.old }
-    ensures { (p : ℕ → Bool) → AreSides levels.now p members.old outsiders.old
-        → AreSides levels.now (with_answer o.0 is_member p) members.new outsiders.new }
+/// The number at a place where there is one.
+fn number_in(tree: &Tree, place: usize) -> i128
+    requires within { place < length tree.now.leaves }
+    requires small { AreSmallLeaves tree.now.leaves }
+    ensures value { (x : ℤ) → slice_index_or tree.now.leaves place None ≡ Some x → result ≡ x }
+    ensures size { unsigned_abs result < 2 ^ 114 }
 {
-    let level = levels[(o.0 - 1) as usize];
-    if is_member {
-        members.set(o, Node::of(-level));
-        outsiders.set(o, Node::none());
-    } else {
-        members.set(o, Node::none());
-        outsiders.set(o, Node::of(level));
+    match tree.leaf(place) {
+        Some(number) => number,
+        None => 0,
+    }
+}
+
+/// The place of a member, in logarithmic time.
+fn place_of(list: &[Obj], o: Obj) -> Option<usize>
+    requires { IsAscending (numbers_of list.now) }
+    ensures within { IfSome result (λ i. i < length list.now) }
+    ensures found { IfSome result (λ i. slice_index (numbers_of list.now) i ≡ o.0) }
+    ensures none { IfNone result (is_in (numbers_of list.now) o.0 ≡ false) }
+{
+    let place = list.partition_point(|member| member.0 < o.0);
+    if place < list.len() && list[place].0 == o.0 {
+        return Some(place);
+    }
+    None
+}
+
+/// The level of a member, whose leaf has it with the sign turned.
+pub(crate) fn read_member(o: Obj, list: &[Obj], members: &Tree) -> i128
+    requires ascends { IsAscending (numbers_of list.now) }
+    requires room { length list.now ≤ length members.now.leaves }
+    requires small { AreSmallLeaves members.now.leaves }
+    ensures value { (levels : List ℤ) → AreMemberLeaves levels (numbers_of list.now) members.now.leaves
+        → is_in (numbers_of list.now) o.0 ≡ true → result ≡ level_at levels o.0 }
+    ensures size { unsigned_abs result < 2 ^ 114 }
+{
+    match place_of(list, o) {
+        Some(place) => -number_in(members, place),
+        None => 0,
     }
 }
 
 /// Gives an object another level on its side.
-pub(crate) fn relevel(o: Obj, level: i128, members: &mut Tree, outsiders: &mut Tree)
+pub(crate) fn relevel(o: Obj, level: i128, list: &[Obj], members: &mut Tree, outsiders: &mut Tree)
     requires from_one { 0 < o.0 }
-    requires of_members { o.0 ≤ length members.old }
-    requires of_outsiders { o.0 ≤ length outsiders.old }
+    requires within { o.0 ≤ length outsiders.old.leaves }
+    requires ascends { IsAscending (numbers_of list.now) }
+    requires room { length list.now ≤ length members.old.leaves }
     requires size { unsigned_abs level < 2 ^ 114 }
-    ensures { (levels : List ℤ) (p : ℕ → Bool) → o.0 ≤ length levels → AreSides levels p members.old outsiders.old
-        → AreSides (slice_set levels (o.0 - 1) level) p members.new outsiders.new }
+    ensures sides { (levels : List ℤ) → o.0 ≤ length levels
+        → AreSides levels (numbers_of list.now) members.old.leaves outsiders.old.leaves
+        → AreSides (slice_set levels (o.0 - 1) level) (numbers_of list.now) members.new.leaves outsiders.new.leaves }
+    ensures room { members.new.room ≡ members.old.room }
 {
     // Most objects are outsiders: their tree alone is read then.
-    if outsiders.leaf(o).is_some() {
-        outsiders.set(o, Node::of(level));
-    } else {
-        members.set(o, Node::of(-level));
+    if outsiders.leaf(seat_of(o)).is_some() {
+        outsiders.set(seat_of(o), Node::of(level));
+    } else if let Some(place) = place_of(list, o) {
+        members.set(place, Node::of(-level));
     }
 }
 
-/// Takes new members for the old ones.
-pub(crate) fn exchange(
-    levels: &[i128],
-    old: &[Obj],
-    new: &ObjSet,
-    members: &mut Tree,
-    outsiders: &mut Tree,
-)
-    requires objects { AreObjects levels.now }
-    requires sizes { AreSmall levels.now }
-    requires old { All (λ o. o ≤ length levels.now) (numbers_of old.now) }
-    requires old_from_one { All (λ o. 0 < o) (numbers_of old.now) }
-    requires new { All (λ o. o ≤ length levels.now) new.now }
-    requires sides { AreSides levels.now (is_in (numbers_of old.now)) members.old outsiders.old }
-    ensures sides { AreSides levels.now (is_in new.now) members.new outsiders.new }
-    ensures ascends { IsAscending new.now }
+/// Makes the members outsiders.
+pub(crate) fn release(list: &[Obj], members: &Tree, outsiders: &mut Tree)
+    requires ascends { IsAscending (numbers_of list.now) }
+    requires within { All (λ o. o ≤ length outsiders.old.leaves) (numbers_of list.now) }
+    requires room { length list.now ≤ length members.now.leaves }
+    requires small { AreSmallLeaves members.now.leaves }
+    ensures { (levels : List ℤ) → All (λ o. o ≤ length levels) (numbers_of list.now)
+        → AreSides levels (numbers_of list.now) members.now.leaves outsiders.old.leaves
+        → AreOutsiderLeaves levels (is_in []) outsiders.new.leaves }
 {
-    for i in 0..old.len() {
-        let o = old[i];
-        place(levels, o, new.has(o), members, outsiders);
+    for place in 0..list.len() {
+        let level = -number_in(members, place);
+        outsiders.set(seat_of(list[place]), Node::of(level));
     }
-    for i in 0..new.len() {
-        place(levels, new.at(i), true, members, outsiders);
+}
+
+/// Makes some outsiders the members, where there are none.
+pub(crate) fn take(new: &ObjSet, members: &mut Tree, outsiders: &mut Tree)
+    requires few { length new.now ≤ 65536 }
+    requires room { HasRoom (length new.now) members.old.room }
+    requires within { All (λ o. o ≤ length outsiders.old.leaves) new.now }
+    requires small { AreSmallLeaves outsiders.old.leaves }
+    ensures sides { (levels : List ℤ) → All (λ o. o ≤ length levels) new.now
+        → AreOutsiderLeaves levels (is_in []) outsiders.old.leaves
+        → AreSides levels new.now members.new.leaves outsiders.new.leaves }
+    ensures ascends { IsAscending new.now }
+    ensures room { members.new.room ≡ members.old.room }
+{
+    members.clear(new.len());
+    for place in 0..new.len() {
+        let seat = seat_of(new.at(place));
+        members.set(place, Node::of(-number_in(outsiders, seat)));
+        outsiders.set(seat, Node::none());
     }
 }
 
@@ -99,6 +139,21 @@ pub(crate) fn list_members(list: &mut Vec<Obj>, members: &ObjSet)
     for i in 0..members.len() {
         list.push_reserved(members.at(i));
     }
+}
+
+/// Whether these members are listed.
+pub(crate) fn are_listed(list: &[Obj], members: &ObjSet) -> bool
+    ensures { result ≡ true → numbers_of list.now ≡ members.now }
+{
+    if list.len() != members.len() {
+        return false;
+    }
+    for index in 0..list.len() {
+        if list[index].0 != members.at(index).0 {
+            return false;
+        }
+    }
+    true
 }
 
 /// Whether a set holds all of some members.

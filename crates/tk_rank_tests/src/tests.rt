@@ -51,6 +51,46 @@ fn equal_levels(rt: HostRuntime) -> Result<(), Fail> {
     Ok(())
 }
 
+/// Takes other members of four, and tells the least member's level and the greatest outsider's.
+fn with_members<R: Abort>(rt: &R, rank: &mut Rank, members: &ObjSet) -> (i128, Option<i128>) {
+    assert!(rt; are_members(4, members));
+    assert!(rt; rank.len() == 4);
+    rank.set_members(members);
+    (rank.least_member(), rank.greatest_outsider())
+}
+
+#[test]
+fn members_become_more_and_fewer(rt: HostRuntime) -> Result<(), Fail> {
+    let all = set(rt.alloc(), &[1, 2, 3, 4])?;
+    let three = set(rt.alloc(), &[1, 3, 4])?;
+    let one = set(rt.alloc(), &[3])?;
+    let mut rank = four(&rt, rt.alloc())?;
+    assert_eq!(rt; with_members(&rt, &mut rank, &three), (1, Some(4)));
+    assert_eq!(rt; with_members(&rt, &mut rank, &all), (1, None));
+    assert_eq!(rt; with_members(&rt, &mut rank, &one), (9, Some(5)));
+    Ok(())
+}
+
+/// Shifts a level of four, and tells it, the least member's level and the greatest outsider's.
+fn shifted<R: Abort>(rt: &R, rank: &mut Rank, o: Obj, by: i128) -> (i128, i128, Option<i128>) {
+    assert!(rt; rank.len() == 4);
+    assert!(rt; 0 < o.0 && o.0 <= 4);
+    let level = rank.level(o);
+    assert!(rt; -1_000 < level && level < 1_000);
+    assert!(rt; -1_000 < by && by < 1_000);
+    rank.shift(o, by);
+    (rank.level(o), rank.least_member(), rank.greatest_outsider())
+}
+
+#[test]
+fn a_member_and_an_outsider_shift(rt: HostRuntime) -> Result<(), Fail> {
+    let mut rank = four(&rt, rt.alloc())?;
+    assert_eq!(rt; shifted(&rt, &mut rank, Obj(3), -6), (3, 4, Some(3)));
+    assert_eq!(rt; shifted(&rt, &mut rank, Obj(2), -7), (-3, -3, Some(3)));
+    assert_eq!(rt; shifted(&rt, &mut rank, Obj(2), 9), (6, 5, Some(3)));
+    Ok(())
+}
+
 const OBJECTS: u32 = 12;
 
 fn draw(seed: &mut u32) -> u32 {

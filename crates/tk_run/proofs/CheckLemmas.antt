@@ -6,11 +6,13 @@ use Rattle.tk_words.specs.Words.{Asked, words_of}
 use Rattle.tk_words.specs.Words.Asked.{Checks}
 use Rattle.tk_load.specs.Faults.{Fault}
 use Rattle.tk_load.specs.Input.{bytes_from}
+use Rattle.tk_load.specs.Reads.{FileReads}
 use Rattle.tk_load.specs.Traced.{LoadsTrace, TracesRead}
 use Rattle.tk_load.specs.declared.input.Input.{Input}
 use Rattle.tk_load.specs.declared.status.Status.{Status}
 use Rattle.tk_load.specs.declared.status.Status.TheVariants as s
 use Rattle.tk_run.specs.Ends.{Ends, EndsAsked, EndsWords, IsDone, IsToldBy, IsTracedOf, check_text, served}
+use Rattle.tk_run.specs.Surroundings.{Surroundings}
 use Rattle.tk_run.proofs.EndsLemmas.{not_refused}
 
 -- the status of a file that gives no trace is a fault of it
@@ -43,8 +45,8 @@ of_file name (Err fault) s.LinkFault is = absurd is
 of_file name (Ok bytes) (s.LinkDiffers mon direction place sent received) is = absurd is
 of_file name (Err fault) (s.LinkDiffers mon direction place sent received) is = absurd is
 
-pub untraced_is : (told : List ℕ → Option (List ℕ)) (old new : List ℕ → ℕ) (name : List ℕ) (status : Status) → LoadsTrace told old new name (Err status) → IsOfFile status
-untraced_is told old new name status loads = of_file name (bytes_from name loads.content) status loads.traces
+pub untraced_is : (reads : FileReads) (name : List ℕ) (status : Status) → LoadsTrace reads name (Err status) → IsOfFile status
+untraced_is reads name status loads = of_file name (bytes_from name loads.content) status loads.traces
 
 pub not_done : (status : Status) → IsOfFile status → status ≡ s.Done → ⊥
 not_done status of is = subst IsOfFile is of
@@ -53,7 +55,7 @@ pub not_written : (status : Status) → IsOfFile status → status ≡ s.WriteFa
 not_written status of is = subst IsOfFile is of
 
 -- nothing is written of it
-pub untraced : {I S : Type 0} (gives : Result I Status → Type 0) (IsOf : I → S → Type 0) (text : I → S → List ℕ) (before : Option (List ℕ)) (status : Status) → IsOfFile status → gives (Err status) → Ends gives IsOf text before before status
+pub untraced : {I S : Type 0} (gives : Result I Status → Type 0) (IsOf : I → S → Type 0) (text : I → S → List ℕ) (before : Option (List ℕ)) (status : Status) → IsOfFile status → gives (Err status) → Ends gives IsOf text (record { before = before; after = before }) status
 untraced gives IsOf text before (s.ReadFault file) of given = (given, refl)
 untraced gives IsOf text before (s.BadInput file line kind) of given = (given, refl)
 untraced gives IsOf text before (s.TooGreat mon obj) of given = (given, refl)
@@ -67,9 +69,9 @@ untraced gives IsOf text before (s.LinkDiffers mon direction place sent received
 
 -- ---- the trace of a finished run
 
-module _ (words : List (List ℕ)) (file : List ℕ) (told : List ℕ → Option (List ℕ)) (old new : List ℕ → ℕ) (before after : Option (List ℕ)) (understood : words_of words ≡ Some (Checks file)) where
-  module _ (reads : (status : Status) → LoadsTrace told old new file (Err status) → status ≡ s.NoMemory) where
-    ended : (status : Status) → (status ≡ s.WriteFault → ⊥) → Ends (LoadsTrace told old new file) IsToldBy check_text before after status → IsDone status
+module _ (words : List (List ℕ)) (file : List ℕ) (met : Surroundings) (understood : words_of words ≡ Some (Checks file)) where
+  module _ (reads : (status : Status) → LoadsTrace met.reads file (Err status) → status ≡ s.NoMemory) where
+    ended : (status : Status) → (status ≡ s.WriteFault → ⊥) → Ends (LoadsTrace met.reads file) IsToldBy check_text met.output status → IsDone status
     ended (s.ReadFault name) written ends = let is = reads (s.ReadFault name) ends.0 in absurd (cc (is))
     ended (s.BadInput name line kind) written ends = let is = reads (s.BadInput name line kind) ends.0 in absurd (cc (is))
     ended (s.TooGreat mon obj) written ends = let is = reads (s.TooGreat mon obj) ends.0 in absurd (cc (is))
@@ -81,11 +83,11 @@ module _ (words : List (List ℕ)) (file : List ℕ) (told : List ℕ → Option
     ended s.LinkFault written ends = absurd ends
     ended (s.LinkDiffers mon direction place sent received) written ends = absurd ends
 
-    pub trace_is_checked : (status : Status) → (status ≡ s.WriteFault → ⊥) → EndsWords words told old new before after status → IsDone status
+    pub trace_is_checked : (status : Status) → (status ≡ s.WriteFault → ⊥) → EndsWords words met status → IsDone status
     trace_is_checked status written (inl refused) = not_refused words (Checks file) status (ap served understood) refused.0
     trace_is_checked status written (inr ends) =
         let same : ends.asked ≡ Checks file = let found = ends.understood in cc (found, understood) in
-        ended status written (subst (λ (a : Asked). EndsAsked a told old new before after status) same ends.ends)
+        ended status written (subst (λ (a : Asked). EndsAsked a met status) same ends.ends)
 
 -- the story of an input begins before all changes
 pub begins : (input : Input) (kept : KeptStory) → IsTracedOf input kept → kept.story.from ≡ beginnings kept.story.logs

@@ -7,6 +7,7 @@ use Rattle.tk_load.specs.declared.status.Status.{Status}
 use Rattle.tk_load.specs.declared.status.Status.TheVariants as s
 use Rattle.tk_words.specs.Words.{Asked, words_of}
 use Rattle.tk_run.specs.Ends.{Ends, HasRun, IsCutShort, IsDone, IsRefused, served}
+use Rattle.tk_run.specs.Surroundings.{Output}
 
 -- a status that tells a fault of the input is not that of a run, nor of its output
 pub not_done : {V : Type 0} (status : Status) (meant : Result V Fault) → Tells status meant → status ≡ s.Done → ⊥
@@ -17,7 +18,7 @@ not_written status meant tells is = subst (λ (status : Status). Tells status me
 
 module _ {I S : Type 0} (gives : Result I Status → Type 0) (IsOf : I → S → Type 0) (text : I → S → List ℕ) where
   -- where there is no input, nothing is written
-  pub refused : {V : Type 0} (old : Option (List ℕ)) (status : Status) (meant : Result V Fault) → Tells status meant → gives (Err status) → Ends gives IsOf text old old status
+  pub refused : {V : Type 0} (old : Option (List ℕ)) (status : Status) (meant : Result V Fault) → Tells status meant → gives (Err status) → Ends gives IsOf text (record { before = old; after = old }) status
   refused old (s.ReadFault file) meant tells given = (given, refl)
   refused old (s.BadInput file line kind) meant tells given = (given, refl)
   refused old (s.TooGreat mon obj) meant tells given = (given, refl)
@@ -29,12 +30,12 @@ module _ {I S : Type 0} (gives : Result I Status → Type 0) (IsOf : I → S →
   refused old (s.LinkDiffers mon direction place sent received) meant tells given = absurd tells
   refused old (s.BadTrace file fault) meant tells given = absurd tells
 
-  module _ (old new : Option (List ℕ)) (input : I) (given : gives (Ok input)) (made : S) (story : IsOf input made) (bytes : List ℕ) (same : bytes ≡ text input made) where
-    pub has_run : Grows old new bytes → HasRun gives IsOf text old new made
-    has_run grows = record { input = input; given = given; story = story; written = subst (λ (b : List ℕ). Grows old new b) same grows }
+  module _ (output : Output) (input : I) (given : gives (Ok input)) (made : S) (story : IsOf input made) (bytes : List ℕ) (same : bytes ≡ text input made) where
+    pub has_run : Grows output.before output.after bytes → HasRun gives IsOf text output made
+    has_run grows = record { input = input; given = given; story = story; written = subst (λ (b : List ℕ). Grows output.before output.after b) same grows }
 
-    pub cut_short : GrowsByFront old new bytes → IsCutShort gives IsOf text old new
-    cut_short grows = record { input = input; given = given; made = made; story = story; written = subst (λ (b : List ℕ). GrowsByFront old new b) same grows }
+    pub cut_short : GrowsByFront output.before output.after bytes → IsCutShort gives IsOf text output
+    cut_short grows = record { input = input; given = given; made = made; story = story; written = subst (λ (b : List ℕ). GrowsByFront output.before output.after b) same grows }
 
 -- words that are served are not refused
 pub not_refused : (words : List (List ℕ)) (asked : Asked) (status : Status) → served (words_of words) ≡ Some asked → IsRefused words status → IsDone status

@@ -1,10 +1,10 @@
 -- The story of an input, and how a run of it ends.
-use Rattle.std.specs.Prelude.{ℕ, ◌≡◌, ◌⊎◌, ◌++◌, List, [], codes, map, Option, Some, None, Result, Ok, Err}
+use Rattle.std.specs.Prelude.{ℕ, ◌≡◌, ◌⊎◌, ◌++◌, List, [], codes, Option, Some, None, Result, Ok, Err}
 use Rattle.tk_input.specs.Logs.{beginnings}
-use Rattle.tk_input.specs.Order.{Ordered}
+use Rattle.tk_input.specs.Order.{OrderView}
 use Rattle.tk_input.specs.Sink.{Grows, GrowsByFront}
 use Rattle.tk_input.specs.declared.event.Event.{Event}
-use Rattle.tk_words.specs.Words.{Asked, words_of}
+use Rattle.tk_words.specs.Words.{Asked, GenerateWords, words_of}
 use Rattle.tk_words.specs.Words.Asked.{Checks, Generates, Lives, Queries, Replays, Restarts, Traces}
 use Rattle.tk_load.specs.Generated.{generated_of}
 use Rattle.tk_load.specs.MultiInput.{LoadsMulti}
@@ -26,11 +26,13 @@ use Rattle.tk_trace.specs.Spelling.{IsRecorded, trace_of}
 use Rattle.tk_trace.specs.declared.trace.Trace.{Trace}
 use Rattle.tk_run.specs.Multi.{AreAnswersOf, multi_text}
 use Rattle.tk_run.specs.Sessions.{AreStoriesOf, sessions_text}
+use Rattle.tk_run.specs.Surroundings.{IsUnwritten, Output, Surroundings}
+use Rattle.tk_run.specs.declared.outcome.Outcome.{Outcome}
 
 -- ---- the story of an input
 
 -- the events of an order, where there is one
-abbrev pub events_in : Option Ordered → List Event
+abbrev pub events_in : Option OrderView → List Event
 events_in None = []
 events_in (Some order) = order.events
 
@@ -84,33 +86,33 @@ check_text trace kept = yes_text trace.names kept.story
 -- ---- how a run ends, by what gives its input, what was made of it, and what the text of that is
 
 -- a run that is done: there is an input, what was made is of the input, and its text was written, where that is told
-pub record HasRun {I S : Type 0} (gives : Result I Status → Type 0) (IsOf : I → S → Type 0) (text : I → S → List ℕ) (before after : Option (List ℕ)) (made : S) : Type 0 where
+pub record HasRun {I S : Type 0} (gives : Result I Status → Type 0) (IsOf : I → S → Type 0) (text : I → S → List ℕ) (output : Output) (made : S) : Type 0 where
   pub input : I
   pub given : gives (Ok input)
   pub story : IsOf input made
-  pub written : Grows before after (text input made)
+  pub written : Grows output.before output.after (text input made)
 
 -- a run that was cut short in writing: a front of the text of what was made of the input was written
-pub record IsCutShort {I S : Type 0} (gives : Result I Status → Type 0) (IsOf : I → S → Type 0) (text : I → S → List ℕ) (before after : Option (List ℕ)) : Type 0 where
+pub record IsCutShort {I S : Type 0} (gives : Result I Status → Type 0) (IsOf : I → S → Type 0) (text : I → S → List ℕ) (output : Output) : Type 0 where
   pub input : I
   pub given : gives (Ok input)
   pub made : S
   pub story : IsOf input made
-  pub written : GrowsByFront before after (text input made)
+  pub written : GrowsByFront output.before output.after (text input made)
 
 -- what a status tells: of a run that is done see above; where there is no input it is the fault that there is, and
 -- nothing was written; where writing failed the run was cut short; want of memory is free, but nothing else was written
-abbrev pub Ends : {I S : Type 0} → (Result I Status → Type 0) → (I → S → Type 0) → (I → S → List ℕ) → Option (List ℕ) → Option (List ℕ) → Status → Type 0
-Ends gives IsOf text before after s.Done = Unit
-Ends gives IsOf text before after s.Usage = ⊥
-Ends gives IsOf text before after (s.ReadFault file) = gives (Err (s.ReadFault file)) × (after ≡ before)
-Ends gives IsOf text before after (s.BadInput file line kind) = gives (Err (s.BadInput file line kind)) × (after ≡ before)
-Ends gives IsOf text before after (s.TooGreat mon obj) = gives (Err (s.TooGreat mon obj)) × (after ≡ before)
-Ends gives IsOf text before after s.WriteFault = IsCutShort gives IsOf text before after
-Ends gives IsOf text before after s.NoMemory = (after ≡ before) ⊎ IsCutShort gives IsOf text before after
-Ends gives IsOf text before after s.LinkFault = ⊥
-Ends gives IsOf text before after (s.LinkDiffers mon direction place sent received) = ⊥
-Ends gives IsOf text before after (s.BadTrace file fault) = gives (Err (s.BadTrace file fault)) × (after ≡ before)
+abbrev pub Ends : {I S : Type 0} → (Result I Status → Type 0) → (I → S → Type 0) → (I → S → List ℕ) → Output → Status → Type 0
+Ends gives IsOf text output s.Done = Unit
+Ends gives IsOf text output s.Usage = ⊥
+Ends gives IsOf text output (s.ReadFault file) = gives (Err (s.ReadFault file)) × IsUnwritten output
+Ends gives IsOf text output (s.BadInput file line kind) = gives (Err (s.BadInput file line kind)) × IsUnwritten output
+Ends gives IsOf text output (s.TooGreat mon obj) = gives (Err (s.TooGreat mon obj)) × IsUnwritten output
+Ends gives IsOf text output s.WriteFault = IsCutShort gives IsOf text output
+Ends gives IsOf text output s.NoMemory = IsUnwritten output ⊎ IsCutShort gives IsOf text output
+Ends gives IsOf text output s.LinkFault = ⊥
+Ends gives IsOf text output (s.LinkDiffers mon direction place sent received) = ⊥
+Ends gives IsOf text output (s.BadTrace file fault) = gives (Err (s.BadTrace file fault)) × IsUnwritten output
 
 -- ---- of the words of a command
 
@@ -126,48 +128,55 @@ served (Some (Traces words)) = Some (Traces words)
 served (Some (Checks file)) = Some (Checks file)
 
 -- one story was made, of which this holds
-pub record IsOne (Holds : KeptStory → Type 0) (story : Option KeptStory) (stories : List KeptStory) : Type 0 where
+pub record IsOne (Holds : KeptStory → Type 0) (outcome : Outcome) : Type 0 where
   pub kept : KeptStory
-  pub is : story ≡ Some kept
-  pub alone : stories ≡ []
+  pub is : outcome.story ≡ Some kept
+  pub alone : outcome.stories.items ≡ []
   pub holds : Holds kept
 
 -- several stories were made, of which this holds
-pub record AreSeveral (Holds : List KeptStory → Type 0) (story : Option KeptStory) (stories : List KeptStory) : Type 0 where
-  pub none : story ≡ None
-  pub holds : Holds stories
+pub record AreSeveral (Holds : List KeptStory → Type 0) (outcome : Outcome) : Type 0 where
+  pub none : outcome.story ≡ None
+  pub holds : Holds outcome.stories.items
 
--- what has run for what words ask: a generated run reads no file, and a live run is not served
-abbrev pub RunsAsked : Asked → (List ℕ → Option (List ℕ)) → (List ℕ → ℕ) → (List ℕ → ℕ) → Option (List ℕ) → Option (List ℕ) → Option KeptStory → List KeptStory → Type 0
-RunsAsked (Replays words) told old new before after = IsOne (HasRun (Loads told old new words.sources) IsStoryOf replay_text before after)
-RunsAsked (Generates words) told old new before after = IsOne (HasRun (Meets (λ input. input) (generated_of words)) IsStoryOf summary_text before after)
-RunsAsked (Lives words) told old new before after = λ story stories. ⊥
-RunsAsked (Queries words) told old new before after = AreSeveral (HasRun (LoadsMulti told old new words) AreAnswersOf multi_text before after)
-RunsAsked (Restarts words) told old new before after = AreSeveral (HasRun (LoadsSessions told old new words) AreStoriesOf sessions_text before after)
-RunsAsked (Traces words) told old new before after = IsOne (HasRun (Loads told old new words.sources) IsTracedOf trace_text before after)
-RunsAsked (Checks file) told old new before after = IsOne (HasRun (LoadsTrace told old new file) IsToldBy check_text before after)
+-- a generated run, which reads no file: what has run for its words, and how they have ended
+abbrev pub RunsGenerated : GenerateWords → Output → Outcome → Type 0
+RunsGenerated words output = IsOne (HasRun (Meets (λ input. input) (generated_of words)) IsStoryOf summary_text output)
+
+abbrev pub EndsGenerated : GenerateWords → Output → Status → Type 0
+EndsGenerated words output = Ends (Meets (λ input. input) (generated_of words)) IsStoryOf summary_text output
+
+-- what has run for what words ask; a live run is not served
+abbrev pub RunsAsked : Asked → Surroundings → Outcome → Type 0
+RunsAsked (Replays words) met = IsOne (HasRun (Loads met.reads words.sources) IsStoryOf replay_text met.output)
+RunsAsked (Generates words) met = RunsGenerated words met.output
+RunsAsked (Lives words) met = λ outcome. ⊥
+RunsAsked (Queries words) met = AreSeveral (HasRun (LoadsMulti met.reads words) AreAnswersOf multi_text met.output)
+RunsAsked (Restarts words) met = AreSeveral (HasRun (LoadsSessions met.reads words) AreStoriesOf sessions_text met.output)
+RunsAsked (Traces words) met = IsOne (HasRun (Loads met.reads words.sources) IsTracedOf trace_text met.output)
+RunsAsked (Checks file) met = IsOne (HasRun (LoadsTrace met.reads file) IsToldBy check_text met.output)
 
 -- how what words ask for has ended; of a trace that was cut short a front of that of the story was written
-abbrev pub EndsAsked : Asked → (List ℕ → Option (List ℕ)) → (List ℕ → ℕ) → (List ℕ → ℕ) → Option (List ℕ) → Option (List ℕ) → Status → Type 0
-EndsAsked (Replays words) told old new before after = Ends (Loads told old new words.sources) IsStoryOf replay_text before after
-EndsAsked (Generates words) told old new before after = Ends (Meets (λ input. input) (generated_of words)) IsStoryOf summary_text before after
-EndsAsked (Lives words) told old new before after = λ status. ⊥
-EndsAsked (Queries words) told old new before after = Ends (LoadsMulti told old new words) AreAnswersOf multi_text before after
-EndsAsked (Restarts words) told old new before after = Ends (LoadsSessions told old new words) AreStoriesOf sessions_text before after
-EndsAsked (Traces words) told old new before after = Ends (Loads told old new words.sources) IsStoryOf trace_text before after
-EndsAsked (Checks file) told old new before after = Ends (LoadsTrace told old new file) IsToldBy check_text before after
+abbrev pub EndsAsked : Asked → Surroundings → Status → Type 0
+EndsAsked (Replays words) met = Ends (Loads met.reads words.sources) IsStoryOf replay_text met.output
+EndsAsked (Generates words) met = EndsGenerated words met.output
+EndsAsked (Lives words) met = λ status. ⊥
+EndsAsked (Queries words) met = Ends (LoadsMulti met.reads words) AreAnswersOf multi_text met.output
+EndsAsked (Restarts words) met = Ends (LoadsSessions met.reads words) AreStoriesOf sessions_text met.output
+EndsAsked (Traces words) met = Ends (Loads met.reads words.sources) IsStoryOf trace_text met.output
+EndsAsked (Checks file) met = Ends (LoadsTrace met.reads file) IsToldBy check_text met.output
 
 -- the words are understood, and what they ask for has run
-pub record RunsWords (words : List (List ℕ)) (told : List ℕ → Option (List ℕ)) (old new : List ℕ → ℕ) (before after : Option (List ℕ)) (story : Option KeptStory) (stories : List KeptStory) : Type 0 where
+pub record RunsWords (words : List (List ℕ)) (met : Surroundings) (outcome : Outcome) : Type 0 where
   pub asked : Asked
   pub understood : served (words_of words) ≡ Some asked
-  pub ran : RunsAsked asked told old new before after story stories
+  pub ran : RunsAsked asked met outcome
 
 -- the words are understood, and what they ask for has ended so
-pub record EndsUnderstood (words : List (List ℕ)) (told : List ℕ → Option (List ℕ)) (old new : List ℕ → ℕ) (before after : Option (List ℕ)) (status : Status) : Type 0 where
+pub record EndsUnderstood (words : List (List ℕ)) (met : Surroundings) (status : Status) : Type 0 where
   pub asked : Asked
   pub understood : served (words_of words) ≡ Some asked
-  pub ends : EndsAsked asked told old new before after status
+  pub ends : EndsAsked asked met status
 
 -- the words are not understood, or no memory was found for them
 abbrev pub IsRefused : List (List ℕ) → Status → Type 0
@@ -183,8 +192,8 @@ IsRefused words (s.LinkDiffers mon direction place sent received) = ⊥
 IsRefused words (s.BadTrace file fault) = ⊥
 
 -- how words end
-abbrev pub EndsWords : List (List ℕ) → (List ℕ → Option (List ℕ)) → (List ℕ → ℕ) → (List ℕ → ℕ) → Option (List ℕ) → Option (List ℕ) → Status → Type 0
-EndsWords words told old new before after status = (IsRefused words status × (after ≡ before)) ⊎ EndsUnderstood words told old new before after status
+abbrev pub EndsWords : List (List ℕ) → Surroundings → Status → Type 0
+EndsWords words met status = (IsRefused words status × IsUnwritten met.output) ⊎ EndsUnderstood words met status
 
 -- a run is done, or no memory was found
 abbrev pub IsDone : Status → Type 0

@@ -7,3 +7,7 @@ use Rattle.tk_run.specs.declared.outcome.Outcome.{Outcome}
 pub record IsWithout (outcome : Outcome) : Type 0 where
   pub story : outcome.story ≡ None
   pub stories : outcome.stories.items ≡ []
+
+-- this holds of a run that is done
+abbrev pub IfDone : Outcome → (Outcome → Type 0) → Type 0
+IfDone outcome Holds = outcome.status ≡ Done → Holds outcome

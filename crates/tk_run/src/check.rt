@@ -6,7 +6,8 @@ ghost use Rattle.tk_input.specs.Sink.{Grows, GrowsByFront};
 ghost use Rattle.tk_load.specs.declared.status.Status.TheVariants.{Done, WriteFault as NotWritten};
 ghost use Rattle.tk_run.specs.Ends.{EndsAsked, RunsAsked, yes_text};
 ghost use Rattle.tk_run.specs.Headline.{IsSound};
-ghost use Rattle.tk_run.specs.Outcome.{IsWithout};
+ghost use Rattle.tk_run.specs.Outcome.{IfDone, IsWithout};
+ghost use Rattle.tk_run.specs.Surroundings.{met_by};
 ghost use Rattle.tk_words.specs.Words.Asked.{Checks};
 
 use crate::headline::a_finished_run_is_sound;
@@ -42,12 +43,9 @@ pub fn serve_check<F: Files, O: Sink>(
     files: &mut F,
     out: &mut O,
 ) -> Outcome
-    ensures ran { result.status ≡ Done → RunsAsked (Checks file.now)
-        (F.content files.old) (F.fault_count files.old) (F.fault_count files.new)
-        (O.written out.old) (O.written out.new) result.story result.stories.items }
+    ensures ran { IfDone result (RunsAsked (Checks file.now) (met_by F.Files O.Sink files.old files.new out.old out.new)) }
     ensures sound { IfSome result.story (λ s. IsSound s.story) }
-    ensures ends { EndsAsked (Checks file.now) (F.content files.old) (F.fault_count files.old)
-        (F.fault_count files.new) (O.written out.old) (O.written out.new) result.status }
+    ensures ends { EndsAsked (Checks file.now) (met_by F.Files O.Sink files.old files.new out.old out.new) result.status }
     ensures without { (result.status ≡ Done → ⊥) → IsWithout result }
     ensures unwritten { result.status ≡ NotWritten → HasRisen (O.fault_count out.old) (O.fault_count out.new) }
 {

@@ -1,11 +1,10 @@
 ghost use Rattle.std.specs.Prelude.{◌≡◌, IfSome};
 ghost use Rattle.tk_input.specs.Files.{HasRisen};
-ghost use Rattle.tk_load.specs.Generated.{generated_of};
-ghost use Rattle.tk_load.specs.Reads.{Meets};
 ghost use Rattle.tk_load.specs.declared.status.Status.TheVariants.{Done, WriteFault as NotWritten};
-ghost use Rattle.tk_run.specs.Ends.{Ends, HasRun, IsOne, IsStoryOf, summary_text};
-ghost use Rattle.tk_run.specs.Outcome.{IsWithout};
+ghost use Rattle.tk_run.specs.Ends.{EndsGenerated, RunsGenerated};
+ghost use Rattle.tk_run.specs.Outcome.{IfDone, IsWithout};
 ghost use Rattle.tk_run.specs.Headline.{IsSound};
+ghost use Rattle.tk_run.specs.Surroundings.{output_by};
 ghost use Rattle.tk_words.specs.Asked.{asked_generate};
 
 use crate::outcome::Outcome;
@@ -18,11 +17,9 @@ use tk_words::{Carriage, Generate};
 
 /// Serves `gen`. Nothing is written before the story is over.
 pub fn serve<O: Sink>(alloc: Global, words: &Generate, out: &mut O) -> Outcome
-    ensures ran { let gives = Meets (λ input. input) (generated_of (asked_generate words.now)) in
-        result.status ≡ Done → IsOne (HasRun gives IsStoryOf summary_text (O.written out.old) (O.written out.new)) result.story result.stories.items }
+    ensures ran { IfDone result (RunsGenerated (asked_generate words.now) (output_by O.Sink out.old out.new)) }
     ensures sound { IfSome result.story (λ s. IsSound s.story) }
-    ensures ends { let gives = Meets (λ input. input) (generated_of (asked_generate words.now)) in
-        Ends gives IsStoryOf summary_text (O.written out.old) (O.written out.new) result.status }
+    ensures ends { EndsGenerated (asked_generate words.now) (output_by O.Sink out.old out.new) result.status }
     ensures without { (result.status ≡ Done → ⊥) → IsWithout result }
     ensures unwritten { result.status ≡ NotWritten → HasRisen (O.fault_count out.old) (O.fault_count out.new) }
 {

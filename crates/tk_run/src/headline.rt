@@ -1,21 +1,15 @@
 // What holds of every finished run, and of every input. Each function is there for its clause alone.
-ghost use Rattle.std.specs.Prelude.{◌≡◌, ◌≤◌, ℕ, List, Ok, Option, Some, length};
-ghost use Rattle.tk_input.specs.Files.{HasRisen};
-ghost use Rattle.tk_load.specs.Input.{input_of};
-ghost use Rattle.tk_load.specs.Told.{AreTold, read_by};
+ghost use Rattle.std.specs.Prelude.{◌≡◌, List};
 ghost use Rattle.tk_load.specs.declared.input.Input.{Input};
 ghost use Rattle.tk_load.specs.declared.sessions.SessionInput.{SessionInput};
-ghost use Rattle.tk_load.specs.declared.status.Status.{Status};
-ghost use Rattle.tk_load.specs.declared.status.Status.TheVariants.{WriteFault as NotWritten};
-ghost use Rattle.tk_run.specs.Ends.{EndsWords, IsDone, IsStoryOf, IsTracedOf, trace_text};
-ghost use Rattle.tk_story.specs.Kept.{KeptStory};
+ghost use Rattle.tk_run.specs.Ends.{IsStoryOf};
 ghost use Rattle.tk_run.specs.Headline.{IsSound, IsSoundSoFar};
+ghost use Rattle.tk_run.specs.Laws.{InputIsRun, WrittenTraceIsChecked};
 ghost use Rattle.tk_run.specs.Sessions.{AreSound, AreStoriesOf};
+ghost use Rattle.tk_story.specs.Kept.{KeptStory};
 ghost use Rattle.tk_story.specs.Moments.{IsOver};
 ghost use Rattle.tk_story.specs.Story.{IsStory, StoryView};
 ghost use Rattle.tk_verify.specs.Recorded.{ReachesItsEnd};
-ghost use Rattle.tk_words.specs.Words.{ReplayWords, words_of};
-ghost use Rattle.tk_words.specs.Words.Asked.{Checks, Replays};
 
 use tk_journal::{
     a_start_is_set_up, publications_are_numbered, publications_never_go_back, stop_ends_the_journal,
@@ -67,21 +61,13 @@ pub fn an_input_has_one_story()
 /// Where the words of a replay and the contents of its files give an input, no read of these files fails and the output
 /// is written, the run is done, or no memory was found.
 pub fn an_input_is_run()
-    ensures { (words : List (List ℕ)) (asked : ReplayWords) (told : List ℕ → Option (List ℕ)) (old new : List ℕ → ℕ)
-        (before after : Option (List ℕ)) (contents : List ℕ → List ℕ) (input : Input) (status : Status)
-        → words_of words ≡ Some (Replays asked) → AreTold told old new contents asked.sources
-        → input_of (read_by contents asked.sources) ≡ Ok input
-        → (status ≡ NotWritten → ⊥) → EndsWords words told old new before after status → IsDone status }
+    ensures { InputIsRun }
 {}
 
 /// Where a file tells the trace of an input's story, as `trace` writes it and at most 64 MiB, no read of it fails and the
 /// output is written, its check is done, or no memory was found.
 pub fn a_written_trace_is_checked()
-    ensures { (words : List (List ℕ)) (file : List ℕ) (told : List ℕ → Option (List ℕ)) (old new : List ℕ → ℕ)
-        (before after : Option (List ℕ)) (input : Input) (kept : KeptStory) (status : Status)
-        → words_of words ≡ Some (Checks file) → told file ≡ Some (trace_text input kept) → (HasRisen (old file) (new file) → ⊥)
-        → length (trace_text input kept) ≤ 67108864 → IsTracedOf input kept → IsSound kept.story
-        → (status ≡ NotWritten → ⊥) → EndsWords words told old new before after status → IsDone status }
+    ensures { WrittenTraceIsChecked }
 {
     a_right_trace_is_read();
     nothing_is_wrong_with_a_finished_run();

@@ -5,7 +5,8 @@ ghost use Rattle.tk_input.specs.Sink.{Grows, GrowsByFront};
 ghost use Rattle.tk_load.specs.declared.status.Status.TheVariants.{Done, WriteFault as NotWritten};
 ghost use Rattle.tk_run.specs.Ends.{EndsAsked, RunsAsked};
 ghost use Rattle.tk_run.specs.Multi.{queries_text, query_title};
-ghost use Rattle.tk_run.specs.Outcome.{IsWithout};
+ghost use Rattle.tk_run.specs.Outcome.{IfDone, IsWithout};
+ghost use Rattle.tk_run.specs.Surroundings.{met_by};
 ghost use Rattle.tk_words.specs.Asked.{AreOfMonitors, asked_multi};
 ghost use Rattle.tk_words.specs.Words.Asked.{Queries as Asks};
 
@@ -63,11 +64,10 @@ pub fn serve_queries<F: Files, O: Sink>(
     out: &mut O,
 ) -> Outcome
     requires monitors { AreOfMonitors words.now.logs.items }
-    ensures ran { result.status ≡ Done → RunsAsked (Asks (asked_multi words.now))
-        (F.content files.old) (F.fault_count files.old) (F.fault_count files.new)
-        (O.written out.old) (O.written out.new) result.story result.stories.items }
-    ensures ends { EndsAsked (Asks (asked_multi words.now)) (F.content files.old) (F.fault_count files.old)
-        (F.fault_count files.new) (O.written out.old) (O.written out.new) result.status }
+    ensures ran { IfDone result (RunsAsked (Asks (asked_multi words.now))
+        (met_by F.Files O.Sink files.old files.new out.old out.new)) }
+    ensures ends { EndsAsked (Asks (asked_multi words.now))
+        (met_by F.Files O.Sink files.old files.new out.old out.new) result.status }
     ensures without { (result.status ≡ Done → ⊥) → IsWithout result }
     ensures unwritten { result.status ≡ NotWritten → HasRisen (O.fault_count out.old) (O.fault_count out.new) }
 {

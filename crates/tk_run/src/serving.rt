@@ -3,7 +3,8 @@ ghost use Rattle.tk_input.specs.Files.{HasRisen};
 ghost use Rattle.tk_load.specs.declared.status.Status.TheVariants.{Done, WriteFault as NotWritten};
 ghost use Rattle.tk_run.specs.Ends.{EndsWords, RunsWords};
 ghost use Rattle.tk_run.specs.Headline.{IsSound};
-ghost use Rattle.tk_run.specs.Outcome.{IsWithout};
+ghost use Rattle.tk_run.specs.Outcome.{IfDone, IsWithout};
+ghost use Rattle.tk_run.specs.Surroundings.{met_by};
 
 use crate::check::serve_check;
 use crate::generated::serve as generate;
@@ -25,14 +26,14 @@ pub fn run<F: Files, O: Sink>(
     out: &mut O,
 ) -> Outcome
     // what is done is the story, or the stories, of what the words ask for, and what was written is its text
-    ensures ran { result.status ≡ Done → RunsWords (map string_bytes words.now) (F.content files.old) (F.fault_count files.old)
-        (F.fault_count files.new) (O.written out.old) (O.written out.new) result.story result.stories.items }
+    ensures ran { IfDone result (RunsWords (map string_bytes words.now)
+        (met_by F.Files O.Sink files.old files.new out.old out.new)) }
     // for a story all of the headline holds; nothing else that ends has any
     ensures sound { IfSome result.story (λ s. IsSound s.story) }
     ensures without { (result.status ≡ Done → ⊥) → IsWithout result }
     // any other status tells the fault that there is
     ensures ends { EndsWords (map string_bytes words.now)
-        (F.content files.old) (F.fault_count files.old) (F.fault_count files.new) (O.written out.old) (O.written out.new) result.status }
+        (met_by F.Files O.Sink files.old files.new out.old out.new) result.status }
     ensures unwritten { result.status ≡ NotWritten → HasRisen (O.fault_count out.old) (O.fault_count out.new) }
 {
     match read(alloc, words) {

@@ -6,8 +6,9 @@ ghost use Rattle.tk_input.specs.Sink.{Grows, GrowsByFront};
 ghost use Rattle.tk_load.specs.Whole.{AreAgreed};
 ghost use Rattle.tk_load.specs.declared.status.Status.TheVariants.{Done, WriteFault as NotWritten};
 ghost use Rattle.tk_run.specs.Ends.{EndsAsked, RunsAsked};
-ghost use Rattle.tk_run.specs.Outcome.{IsWithout};
+ghost use Rattle.tk_run.specs.Outcome.{IfDone, IsWithout};
 ghost use Rattle.tk_run.specs.Sessions.{AreStoriesOf, lines_in, session_title, stories_text};
+ghost use Rattle.tk_run.specs.Surroundings.{met_by};
 ghost use Rattle.tk_session.specs.Chain.{IsChainOf};
 ghost use Rattle.tk_words.specs.Asked.{AreOfMonitors, asked_sources};
 ghost use Rattle.tk_words.specs.Words.Asked.{Restarts};
@@ -106,12 +107,11 @@ pub fn serve_sessions<F: Files, O: Sink>(
     out: &mut O,
 ) -> Outcome
     requires { AreOfMonitors words.now.logs.items }
-    ensures ran { result.status ≡ Done → RunsAsked (Restarts (asked_sources words.now))
-        (F.content files.old) (F.fault_count files.old) (F.fault_count files.new)
-        (O.written out.old) (O.written out.new) result.story result.stories.items }
+    ensures ran { IfDone result (RunsAsked (Restarts (asked_sources words.now))
+        (met_by F.Files O.Sink files.old files.new out.old out.new)) }
     ensures several { result.story ≡ None }
-    ensures ends { EndsAsked (Restarts (asked_sources words.now)) (F.content files.old) (F.fault_count files.old)
-        (F.fault_count files.new) (O.written out.old) (O.written out.new) result.status }
+    ensures ends { EndsAsked (Restarts (asked_sources words.now))
+        (met_by F.Files O.Sink files.old files.new out.old out.new) result.status }
     ensures without { (result.status ≡ Done → ⊥) → IsWithout result }
     ensures unwritten { result.status ≡ NotWritten → HasRisen (O.fault_count out.old) (O.fault_count out.new) }
 {

@@ -5,7 +5,8 @@ ghost use Rattle.tk_input.specs.Files.{HasRisen};
 ghost use Rattle.tk_load.specs.declared.status.Status.TheVariants.{Done, WriteFault as NotWritten};
 ghost use Rattle.tk_run.specs.Ends.{EndsAsked, RunsAsked};
 ghost use Rattle.tk_run.specs.Headline.{IsSound};
-ghost use Rattle.tk_run.specs.Outcome.{IsWithout};
+ghost use Rattle.tk_run.specs.Outcome.{IfDone, IsWithout};
+ghost use Rattle.tk_run.specs.Surroundings.{met_by};
 ghost use Rattle.tk_words.specs.Asked.{AreOfMonitors, IsCarriage, asked_replay};
 ghost use Rattle.tk_words.specs.Words.Asked.{Traces};
 
@@ -27,12 +28,11 @@ pub fn serve_trace<F: Files, O: Sink>(
 ) -> Outcome
     requires monitors { AreOfMonitors words.now.sources.logs.items }
     requires carriage { IsCarriage words.now.carriage }
-    ensures ran { result.status ≡ Done → RunsAsked (Traces (asked_replay words.now))
-        (F.content files.old) (F.fault_count files.old) (F.fault_count files.new)
-        (O.written out.old) (O.written out.new) result.story result.stories.items }
+    ensures ran { IfDone result (RunsAsked (Traces (asked_replay words.now))
+        (met_by F.Files O.Sink files.old files.new out.old out.new)) }
     ensures sound { IfSome result.story (λ s. IsSound s.story) }
-    ensures ends { EndsAsked (Traces (asked_replay words.now)) (F.content files.old) (F.fault_count files.old)
-        (F.fault_count files.new) (O.written out.old) (O.written out.new) result.status }
+    ensures ends { EndsAsked (Traces (asked_replay words.now))
+        (met_by F.Files O.Sink files.old files.new out.old out.new) result.status }
     ensures without { (result.status ≡ Done → ⊥) → IsWithout result }
     ensures unwritten { result.status ≡ NotWritten → HasRisen (O.fault_count out.old) (O.fault_count out.new) }
 {

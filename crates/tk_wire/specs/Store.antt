@@ -6,7 +6,7 @@ use Rattle.tk_wire.specs.declared.wire.Took.{Took}
 use Rattle.tk_wire.specs.declared.wire.Took.TheVariants as t
 
 -- bytes in their order, and how many more have room behind them
-pub record Stored : Type 0 where
+pub record StoreView : Type 0 where
   pub held : List ℕ
   pub room : ℕ
 

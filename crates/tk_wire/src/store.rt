@@ -20,9 +20,9 @@ pub struct Store {
 
 impl Model for Store {
     ghost use Rattle.std.specs.Prelude.{◌≤◌, ◌-◌, slice_range, vec_len};
-    ghost use Rattle.tk_wire.specs.Store.{Stored};
+    ghost use Rattle.tk_wire.specs.Store.{StoreView};
 
-    ghost Value = { Stored };
+    ghost Value = { StoreView };
 
     ghost view = { λ s. record { held = slice_range s.bytes.items s.start s.end; room = vec_len s.bytes - s.end } };
 

@@ -3,7 +3,7 @@ use Rattle.std.specs.Prelude.{ℕ, ◌+◌, ◌^◌, ◌<◌, ◌≤◌, List}
 use Rattle.tk_input.specs.declared.event.Event.{Event}
 
 -- the events, for how many raises room is kept, and for how many events besides
-pub record Noted : Type 0 where
+pub record DiaryView : Type 0 where
   pub events : List Event
   pub raises : ℕ
   pub spare : ℕ

@@ -17,9 +17,9 @@ pub struct Diary {
 impl Model for Diary {
     ghost use Rattle.std.specs.Prelude.{length};
     ghost use Rattle.std.specs.Vec.{vec_capacity};
-    ghost use Rattle.tk_world.specs.Diary.{HasRoom, Noted};
+    ghost use Rattle.tk_world.specs.Diary.{DiaryView, HasRoom};
 
-    ghost Value = { Noted };
+    ghost Value = { DiaryView };
 
     ghost view = { λ d. record {
       events = d.events.items;

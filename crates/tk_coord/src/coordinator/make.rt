@@ -9,11 +9,11 @@ use crate::board::Board;
 use crate::coordinator::Coordinator;
 use crate::entries::{first_assigns, first_objects};
 use crate::journal::Journal;
-use crate::link::new_links;
 use crate::opening::table_assigns;
+use crate::peer::new_peers;
+use crate::phase::Phase;
 use crate::reports::no_reports;
 use crate::round::Round;
-use crate::standing::Standing;
 use crate::state::State;
 use crate::turns::Turns;
 use std::alloc::Global;
@@ -71,14 +71,14 @@ impl Coordinator {
         let board = Board::new(alloc, settings.objects(), members, table)?;
         let state = State {
             board,
-            links: new_links(alloc, monitors)?,
+            peers: new_peers(alloc, monitors)?,
             round: Round::none(alloc),
             gathered: no_reports(alloc, monitors)?,
         };
         Ok(Coordinator {
             settings,
             state,
-            standing: Standing::new(settings),
+            phase: Phase::new(settings),
             journal: kept,
             turns: Turns::new(alloc),
         })

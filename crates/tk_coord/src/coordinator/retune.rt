@@ -11,7 +11,7 @@ ghost use Rattle.tk_coord.specs.Steps.{IsRetuned, retuned_to};
 
 use crate::coordinator::Coordinator;
 use crate::outcomes::open_wide;
-use crate::standing::Standing;
+use crate::phase::Phase;
 use crate::step::{Outcome, retune_turn};
 use tk_base::{NoMemory, SettingFault, Settings};
 use tk_journal::{KeptEpsilon, Noted, RetuneRefusal};
@@ -36,7 +36,7 @@ impl Coordinator {
         ensures { IfOk result (OpensOver self.now.settings self.now.journal) }
     {
         let grounds = self.grounds(self.rounds()?);
-        open_wide(grounds.alloc, grounds.standing, grounds.rounds)
+        open_wide(grounds.alloc, grounds.phase, grounds.rounds)
     }
 
     /// The settings that a retune brings, or the first test that it does not pass.
@@ -44,7 +44,7 @@ impl Coordinator {
         ensures ok { IfOk result (IsRetuned self.now.settings self.now.journal k epsilon) }
         ensures refused { IfErr result (λ e. retune_refusal_of self.now.settings self.now.journal k epsilon ≡ Some e) }
     {
-        if self.standing.stopped {
+        if self.phase.stopped {
             return Err(RetuneRefusal::AfterStop);
         }
         if self.state.round.waiting {
@@ -81,7 +81,7 @@ impl Coordinator {
         let Outcome {
             entries,
             reply,
-            standing,
+            phase,
         } = outcome;
         let more = entries.len() + 1;
         let (Ok(()), Ok(())) = (self.journal.reserve(more), self.turns.reserve()) else {
@@ -90,7 +90,7 @@ impl Coordinator {
         self.journal.push(Noted::Tuned(next.k(), kept));
         self.journal.append(entries);
         self.state.reply(reply);
-        self.standing = Standing { next, ..standing };
+        self.phase = Phase { next, ..phase };
         let calm = self.state.is_calm();
         self.turns.push(retune_turn(calm));
         Ok(())

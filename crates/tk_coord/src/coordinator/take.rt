@@ -12,6 +12,7 @@ ghost use Rattle.tk_journal.specs.declared.noted.Noted.{Noted};
 ghost use Rattle.tk_journal.specs.declared.noted.Noted.TheVariants.{Got};
 ghost use Rattle.tk_journal.specs.declared.refusal.CoordRefusal.TheVariants.{NoMemory as NoRoom};
 ghost use Rattle.tk_coord.specs.Checks.{IsKnown, known_in};
+ghost use Rattle.tk_coord.specs.Closing.{Closes, has_news_at, said_in};
 ghost use Rattle.tk_coord.specs.Coordinator.{IsJournal, IsRefusal};
 ghost use Rattle.tk_coord.specs.Grounds.{IsAnswered};
 ghost use Rattle.tk_coord.specs.Refusals.{shown_in};
@@ -23,13 +24,12 @@ use crate::answer::Progress;
 use crate::checks::Known;
 use crate::coordinator::Coordinator;
 use crate::dealing::passes;
-use crate::link::waits_for_no_other;
 use crate::outcomes::{end_round, end_short, nothing, open_full, open_wide};
+use crate::peer::waits_for_no_other;
+use crate::phase::Phase;
 use crate::publishing::{Answers, is_other, others_settled, publishing};
 use crate::refusals::{Shown, refusal_of, shown_of};
-use crate::standing::Standing;
-use crate::step::{Outcome, Reply, Step, Told, short_kind};
-use std::mem;
+use crate::step::{Outcome, Reply, Statement, Step, short_kind};
 use tk_alloc::Reported;
 use tk_base::{Mon, NoMemory};
 use tk_frames::{Frame, KeptFrame};
@@ -100,10 +100,10 @@ impl Coordinator {
             unreachable!()
         };
         if self.is_stale(mon, *seq) {
-            return Ok(self.quiet(Told::Nothing, TurnKind::Stale));
+            return Ok(self.quiet(Statement::Nothing, TurnKind::Stale));
         }
         if self.state.round.waiting {
-            return Ok(self.quiet(Told::Report, TurnKind::Note));
+            return Ok(self.quiet(Statement::Report, TurnKind::Note));
         }
         let report = Reported {
             mon,
@@ -119,17 +119,17 @@ impl Coordinator {
         ensures { IfOk result (IsStep self.now.settings self.now.journal report.mon frame.now) }
     {
         let grounds = self.grounds(self.rounds()?);
-        if passes(&grounds.standing.settings, grounds.board, &report) {
+        if passes(&grounds.phase.settings, grounds.board, &report) {
             let outcome = end_short(grounds, &report)?;
             let kind = short_kind(&outcome.reply);
-            return Ok(outcome.step(Told::Report, kind, false));
+            return Ok(outcome.step(Statement::Report, kind, false));
         }
         if self.is_tired() {
-            let outcome = open_wide(grounds.alloc, grounds.standing, grounds.rounds)?;
-            return Ok(outcome.step(Told::Report, TurnKind::Wide, true));
+            let outcome = open_wide(grounds.alloc, grounds.phase, grounds.rounds)?;
+            return Ok(outcome.step(Statement::Report, TurnKind::Wide, true));
         }
         let outcome = open_full(grounds, report)?;
-        Ok(outcome.step(Told::Report, TurnKind::Full, true))
+        Ok(outcome.step(Statement::Report, TurnKind::Full, true))
     }
 
     fn on_settled(&self, mon: Mon, frame: &Frame) -> Result<Step, NoMemory>
@@ -141,37 +141,44 @@ impl Coordinator {
         let Frame::Settled { seq, last, places } = frame else {
             unreachable!()
         };
-        let links = self.state.links.as_slice();
+        let peers = self.state.peers.as_slice();
         if self.is_stale(mon, *seq) {
-            return Ok(self.quiet(Told::Nothing, TurnKind::Stale));
+            return Ok(self.quiet(Statement::Nothing, TurnKind::Stale));
         }
         let place = mon.0 as usize - 1;
         let progress = Progress::of(places, *last)?;
-        if self.state.round.waiting || !others_settled(links, place) {
-            return Ok(self.quiet(Told::Settled(progress), TurnKind::Note));
+        if self.state.round.waiting || !others_settled(peers, place) {
+            return Ok(self.quiet(Statement::Settled(progress), TurnKind::Note));
         }
         let answers = Answers {
-            links,
+            peers,
             place,
             here: &progress,
         };
+        let outcome = self.closes(answers)?;
+        Ok(outcome.step(Statement::Settled(progress), TurnKind::Note, false))
+    }
+
+    /// What ends a turn in which every monitor has settled.
+    fn closes(&self, answers: Answers) -> Result<Outcome, NoMemory>
+        ensures { IfOk result (Closes self.now.settings self.now.journal (said_in answers.entry)) }
+    {
         let (entries, stopped) = publishing(
             self.journal.alloc(),
             answers,
-            &self.standing.settings,
+            &self.phase.settings,
             self.state.board.members(),
             self.has_news(),
             self.journal.published() as u64 + 1,
         )?;
-        let outcome = Outcome {
+        Ok(Outcome {
             entries,
             reply: Reply::Nothing,
-            standing: Standing {
+            phase: Phase {
                 stopped,
-                ..self.standing
+                ..self.phase
             },
-        };
-        Ok(outcome.step(Told::Settled(progress), TurnKind::Note, false))
+        })
     }
 
     fn on_values(&mut self, mon: Mon, frame: &Frame) -> Result<Step, NoMemory>
@@ -190,30 +197,27 @@ impl Coordinator {
             border: *border,
         };
         let place = mon.0 as usize - 1;
-        if !waits_for_no_other(self.state.links.as_slice(), place) {
-            let more = true;
-            return Ok(self.quiet(Told::Values { report, more }, TurnKind::Note));
+        if !waits_for_no_other(self.state.peers.as_slice(), place) {
+            return Ok(self.quiet(Statement::Values(report), TurnKind::Note));
         }
         let rounds = self.rounds()?;
-        let before = mem::replace(&mut self.state.gathered[place], report);
+        // Its place is free while the round waits for it, and none is read once the round is over.
+        self.state.gathered[place] = report;
         let grounds = self.grounds(rounds);
         let wide = self.state.round.wide;
-        let outcome = end_round(grounds, wide, self.state.gathered.as_slice());
-        let report = mem::replace(&mut self.state.gathered[place], before);
-        let more = false;
-        let told = Told::Values { report, more };
-        Ok(outcome?.step(told, TurnKind::End, false))
+        let outcome = end_round(grounds, wide, self.state.gathered.as_slice())?;
+        Ok(outcome.step(Statement::LastValues, TurnKind::End, false))
     }
 
     /// A frame that nothing follows.
-    fn quiet(&self, told: Told, kind: TurnKind) -> Step
-        ensures told { result.told ≡ told }
+    fn quiet(&self, statement: Statement, kind: TurnKind) -> Step
+        ensures statement { result.statement ≡ statement }
         ensures entries { result.outcome.entries.items ≡ [] }
         ensures reply { result.outcome.reply ≡ Nothing }
-        ensures standing { Stands self.now.settings self.now.journal result.outcome.standing }
+        ensures phase { Stands self.now.settings self.now.journal result.outcome.phase }
         ensures turn { result.turn ≡ quiet_turn kind }
     {
-        nothing(self.journal.alloc(), self.standing).step(told, kind, false)
+        nothing(self.journal.alloc(), self.phase).step(statement, kind, false)
     }
 
     /// Whether the next short test that fails opens a wide round.
@@ -225,13 +229,13 @@ impl Coordinator {
 
     /// Whether the members, or the k and epsilon in force, differ from those last published.
     fn has_news(&self) -> bool
-        ensures { result ≡ differs (in_force self.now.settings self.now.journal) (members_at self.now.journal) (last_of (publications self.now.journal)) }
+        ensures { result ≡ has_news_at self.now.settings self.now.journal }
     {
         match self.published() {
             0 => true,
             count => {
                 let last = self.publication(count - 1);
-                is_other(last, &self.standing.settings, self.state.board.members())
+                is_other(last, &self.phase.settings, self.state.board.members())
             }
         }
     }
@@ -255,8 +259,8 @@ impl Coordinator {
         requires monitor { IsMonitor self.now.settings mon.0 }
         ensures { shown_in result ≡ shown_by mon.0 self.now.journal }
     {
-        let link = &self.state.links[mon.0 as usize - 1];
-        shown_of(link, &self.state.round, self.standing.stopped)
+        let peer = &self.state.peers[mon.0 as usize - 1];
+        shown_of(peer, &self.state.round, self.phase.stopped)
     }
 
     /// Whether an answer of the monitor is from before the last Assign to it.
@@ -265,7 +269,7 @@ impl Coordinator {
         ensures value { result ≡ nat_lt seq (assigns_sent mon.0 self.now.journal) }
         ensures journal { IsJournal self.now.settings self.now.journal }
     {
-        seq < self.state.links[mon.0 as usize - 1].assigns
+        seq < self.state.peers[mon.0 as usize - 1].assigns
     }
 
     /// Appends a frame and what it brings about; all room is taken first.
@@ -280,7 +284,7 @@ impl Coordinator {
         let Outcome {
             entries,
             reply,
-            standing,
+            phase,
         } = step.outcome;
         let kept = match KeptFrame::new(self.journal.alloc(), frame) {
             Ok(kept) => kept,
@@ -292,9 +296,9 @@ impl Coordinator {
         };
         self.journal.push(Noted::Got(mon, kept));
         self.journal.append(entries);
-        self.state.take(mon, step.told);
+        self.state.take(mon, step.statement);
         self.state.reply(reply);
-        self.standing = standing;
+        self.phase = phase;
         let calm = self.state.is_calm();
         self.turns.push(Turn { calm, ..step.turn });
         Ok(())

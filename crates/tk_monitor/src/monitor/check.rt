@@ -55,7 +55,7 @@ impl Monitor {
         ensures legal { IsLegal self.now.setup self.now.trail }
     {
         let phase = self.phase;
-        let ended = self.log.raises() == 0;
+        let ended = self.trail.raises() == 0;
         due(
             phase.may_report(),
             self.board.is_broken(),
@@ -72,9 +72,9 @@ impl Monitor {
         ensures err { OnErr result (self.new ≡ self.old) }
         ensures legal { IsLegal self.new.setup self.new.trail }
     {
-        let frame = report(self.log.alloc(), &self.board, self.phase.seq)?;
-        self.log.reserve()?;
-        self.log.sent(frame);
+        let frame = report(self.trail.alloc(), &self.board, self.phase.seq)?;
+        self.trail.reserve()?;
+        self.trail.sent(frame);
         self.phase.reported = true;
         Ok(())
     }
@@ -89,10 +89,10 @@ impl Monitor {
         ensures err { OnErr result (self.new ≡ self.old) }
         ensures legal { IsLegal self.new.setup self.new.trail }
     {
-        let alloc = self.log.alloc();
+        let alloc = self.trail.alloc();
         let frame = settled(alloc, self.next.as_slice(), self.phase.seq, true)?;
-        self.log.reserve()?;
-        self.log.sent(frame);
+        self.trail.reserve()?;
+        self.trail.sent(frame);
         self.phase.told = true;
         Ok(())
     }

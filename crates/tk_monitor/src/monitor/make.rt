@@ -3,11 +3,11 @@ ghost use Rattle.tk_input.specs.Logs.{AreParts, ArePlaces};
 ghost use Rattle.tk_trail.specs.Legal.{IsLegal};
 
 use crate::board::Board;
-use crate::log::Log;
 use crate::monitor::Monitor;
 use crate::parts::left_of;
 use crate::phase::Phase;
 use crate::start::start;
+use crate::trail::Trail;
 use std::alloc::Global;
 use tk_base::{Mon, NoMemory, Places, Settings};
 use tk_input::Part;
@@ -34,7 +34,7 @@ impl Monitor {
         let mut board = Board::new(alloc, settings.objects())?;
         let next = start(alloc, &mut board, parts.as_slice(), from)?;
         let left = left_of(parts.as_slice(), next.as_slice());
-        let log = Log::new(alloc, left)?;
+        let trail = Trail::new(alloc, left)?;
         let from = from.try_clone()?;
         Ok(Monitor {
             settings: *settings,
@@ -43,7 +43,7 @@ impl Monitor {
             from,
             next,
             board,
-            log,
+            trail,
             phase: Phase {
                 seq: 0,
                 reported: false,

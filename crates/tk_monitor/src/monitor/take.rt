@@ -78,8 +78,8 @@ impl Monitor {
         ensures err { OnErr result (self.new ≡ self.old) }
         ensures legal { IsLegal self.new.setup self.new.trail }
     {
-        let alloc = self.log.alloc();
-        let (Ok(mine), Ok(())) = (members.try_clone(), self.log.reserve()) else {
+        let alloc = self.trail.alloc();
+        let (Ok(mine), Ok(())) = (members.try_clone(), self.trail.reserve()) else {
             return Err(Frame::Assign {
                 seq,
                 members,
@@ -97,14 +97,14 @@ impl Monitor {
         let Frame::Assign { changes, .. } = took.get() else {
             unreachable!()
         };
-        let ended = self.log.raises() == 0;
+        let ended = self.trail.raises() == 0;
         let next = self.next.as_slice();
         match assign(alloc, &mut self.board, seq, mine, changes, next, ended) {
             Err(_) => Err(took.into_frame()),
             Ok(answer) => {
                 self.phase = self.phase.assigned(seq, self.board.is_broken(), ended);
-                self.log.took(took);
-                self.log.sent(answer);
+                self.trail.took(took);
+                self.trail.sent(answer);
                 Ok(())
             }
         }
@@ -121,14 +121,14 @@ impl Monitor {
     {
         // The length is read for its clause, that the set ascends.
         let _ = objects.len();
-        let alloc = self.log.alloc();
+        let alloc = self.trail.alloc();
         let answer = values(alloc, &self.board, self.phase.seq, round, &objects);
-        let (Ok(answer), Ok(())) = (answer, self.log.reserve()) else {
+        let (Ok(answer), Ok(())) = (answer, self.trail.reserve()) else {
             return Err(Frame::Collect { round, objects });
         };
         let took = KeptFrame::new(alloc, Frame::Collect { round, objects })?;
-        self.log.took(took);
-        self.log.sent(answer);
+        self.trail.took(took);
+        self.trail.sent(answer);
         Ok(())
     }
 
@@ -141,11 +141,11 @@ impl Monitor {
         ensures err { OnErr result (self.new ≡ self.old) }
         ensures legal { IsLegal self.new.setup self.new.trail }
     {
-        let took = KeptFrame::new(self.log.alloc(), Frame::Stop)?;
-        if self.log.reserve().is_err() {
+        let took = KeptFrame::new(self.trail.alloc(), Frame::Stop)?;
+        if self.trail.reserve().is_err() {
             return Err(took.into_frame());
         }
-        self.log.took(took);
+        self.trail.took(took);
         self.phase.stopped = true;
         Ok(())
     }

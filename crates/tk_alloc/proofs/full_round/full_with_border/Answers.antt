@@ -114,7 +114,7 @@ within_limit-requires c =
     is_even c.args.settings.now c.args.table.now c.args.members.now (chosen c.args.settings.now c.args.members.now c.args.reports.now (objects_over c.args.reports.now)) (objects_over c.args.reports.now) c.args.reports.now c.in_ok-change.change (called_order c.args.settings.now c.args.reports.now c.requires.reports.order) (dealt_found c)
 
 -- the same at the end
-gathered_end : (c : goal.After-drop-totals-inside-2) → IsGathered c.args.settings.now c.args.table.now c.args.members.now c.args.reports.now c.index-reports-0.result c.in_ok-totals.totals c.in_ok-chosen.chosen
+gathered_end : (c : goal.Joined-totals-4) → IsGathered c.args.settings.now c.args.table.now c.args.members.now c.args.reports.now c.index-reports-0.result c.in_ok-totals.totals c.in_ok-chosen.chosen
 gathered_end c = record {
   limits = c.k-k.ensures.limits;
   balanced = c.promise.ensures;
@@ -129,7 +129,7 @@ gathered_end c = record {
   sums_up = subst (λ (xs : List (ℕ × ℤ)). IsAscending (objects_of xs)) c.totals-2.view_is c.totals-2.invariant;
 }
 
-set_end : (c : goal.After-drop-totals-inside-2) → IsSet c.args.settings.now c.args.table.now c.args.members.now (chosen c.args.settings.now c.args.members.now c.args.reports.now (objects_over c.args.reports.now)) (objects_over c.args.reports.now) c.own_weight.result (to_z w128 (of_z w128 c.args.own_border)) c.in_ok-own_values.field-0
+set_end : (c : goal.Joined-totals-4) → IsSet c.args.settings.now c.args.table.now c.args.members.now (chosen c.args.settings.now c.args.members.now c.args.reports.now (objects_over c.args.reports.now)) (objects_over c.args.reports.now) c.own_weight.result (to_z w128 (of_z w128 c.args.own_border)) c.in_ok-own_values.field-0
 set_end c =
     let border : FitsSigned w128 c.args.own_border = omega (arith, ints) in
     let epsilon : FitsSigned w128 c.epsilon.result = omega (arith, ints) in
@@ -138,7 +138,7 @@ set_end c =
     (to_z-of_z w128 c.args.own_border border ∙ c.requires.border)
     (to_z-of_z w128 c.epsilon.result epsilon ∙ c.epsilon.ensures.value) c.in_ok-own_values.ensures
 
-dealt_end : (c : goal.After-drop-totals-inside-2) → IsFullRound c.args.settings.now c.args.table.now c.args.members.now c.args.reports.now c.in_ok-change.change
+dealt_end : (c : goal.Joined-totals-4) → IsFullRound c.args.settings.now c.args.table.now c.args.members.now c.args.reports.now c.in_ok-change.change
 dealt_end c =
     let members = chosen c.args.settings.now c.args.members.now c.args.reports.now (objects_over c.args.reports.now) in
     let border = to_z w128 (of_z w128 c.args.own_border) in
@@ -147,7 +147,7 @@ dealt_end c =
     (subst (λ m. IsReallocation c.args.table.now (parts_of terms c.args.reports.now) (objects_of c.in_ok-own_values.field-0) m c.in_ok-change.change)
     (gathered_members c.args.settings.now c.args.table.now c.args.members.now c.args.reports.now c.index-reports-0.result c.in_ok-totals.totals c.in_ok-chosen.chosen (gathered_end c)) c.in_ok-change.ensures)
 
-ended : (c : goal.After-drop-totals-inside-2) → IsEnded c.args.settings.now c.args.table.now c.args.members.now (chosen c.args.settings.now c.args.members.now c.args.reports.now (objects_over c.args.reports.now)) (objects_over c.args.reports.now) c.args.reports.now c.in_ok-change.change
+ended : (c : goal.Joined-totals-4) → IsEnded c.args.settings.now c.args.table.now c.args.members.now (chosen c.args.settings.now c.args.members.now c.args.reports.now (objects_over c.args.reports.now)) (objects_over c.args.reports.now) c.args.reports.now c.in_ok-change.change
 ended c =
     full_ends c.args.settings.now c.args.table.now c.args.members.now (objects_over c.args.reports.now) c.args.reports.now c.in_ok-change.change
     (gathered_called c.args.settings.now c.args.table.now c.args.members.now c.args.reports.now c.index-reports-0.result c.in_ok-totals.totals c.in_ok-chosen.chosen (gathered_end c)) (dealt_end c)

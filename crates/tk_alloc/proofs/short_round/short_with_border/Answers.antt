@@ -51,14 +51,14 @@ within_limit-requires c =
     is_even c.args.settings.now c.args.table.now c.args.members.now c.args.members.now (objects_of c.args.report.now.values) (c.args.report.now ∷ []) c.in_ok-change.change (one_order c.args.report.now c.requires.report.some) (dealt_found c)
 
 -- the same at the end
-set_end : (c : goal.After-drop-terms-2) → IsSet c.args.settings.now c.args.table.now c.args.members.now c.args.members.now (objects_of c.args.report.now.values) c.own_weight.result (to_z w128 (of_z w128 c.args.own_border)) c.in_ok-own_values.field-0
+set_end : (c : goal.Joined-terms-3) → IsSet c.args.settings.now c.args.table.now c.args.members.now c.args.members.now (objects_of c.args.report.now.values) c.own_weight.result (to_z w128 (of_z w128 c.args.own_border)) c.in_ok-own_values.field-0
 set_end c =
     let border : FitsSigned w128 c.args.own_border = omega (arith, ints) in
     let epsilon : FitsSigned w128 c.epsilon.result = omega (arith, ints) in
     set_of c.args.settings.now c.args.table.now c.args.members.now c.args.members.now (objects_of c.args.report.now.values) c.own_weight.result (to_z w128 (of_z w128 c.args.own_border)) (to_z w128 (of_z w128 c.epsilon.result)) c.in_ok-own_values.field-0
     c.own_weight.ensures.value (to_z-of_z w128 c.args.own_border border ∙ c.requires.border) (to_z-of_z w128 c.epsilon.result epsilon ∙ c.epsilon.ensures.value) c.in_ok-own_values.ensures
 
-dealt_end : (c : goal.After-drop-terms-2) → IsShortRound c.args.settings.now c.args.table.now c.args.members.now c.args.report.now c.in_ok-change.change
+dealt_end : (c : goal.Joined-terms-3) → IsShortRound c.args.settings.now c.args.table.now c.args.members.now c.args.report.now c.in_ok-change.change
 dealt_end c =
     let report = c.args.report.now in
     let terms = terms_of c.own_weight.result (to_z w128 (of_z w128 c.args.own_border)) c.in_ok-own_values.field-0 in
@@ -66,7 +66,7 @@ dealt_end c =
     (subst (λ m. IsReallocation c.args.table.now (parts_of terms (report ∷ [])) (objects_of c.in_ok-own_values.field-0) m c.in_ok-change.change) c.in_ok-members.ensures
     (subst (λ (rs : List Reported). IsReallocation c.args.table.now (parts_of terms rs) (objects_of c.in_ok-own_values.field-0) c.in_ok-members.members c.in_ok-change.change) c.from_ref.ensures.value c.in_ok-change.ensures))
 
-ended : (c : goal.After-drop-terms-2) → IsEnded c.args.settings.now c.args.table.now c.args.members.now c.args.members.now (objects_of c.args.report.now.values) (c.args.report.now ∷ []) c.in_ok-change.change
+ended : (c : goal.Joined-terms-3) → IsEnded c.args.settings.now c.args.table.now c.args.members.now c.args.members.now (objects_of c.args.report.now.values) (c.args.report.now ∷ []) c.in_ok-change.change
 ended c = short_ends c.args.settings.now c.args.table.now c.args.members.now c.args.report.now c.in_ok-change.change c.requires.ready c.requires.report c.requires.test (dealt_end c)
 
 pub returns-clause-value : goal.returns-clause-value

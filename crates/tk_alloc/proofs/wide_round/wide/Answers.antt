@@ -44,7 +44,7 @@ pub reallocated-requires : goal.reallocated-requires
 reallocated-requires c =
     asked_terms c.args.settings.now c.args.table.now c.args.members.now c.args.reports.now c.index-reports-0.result c.in_ok-totals.totals c.in_ok-chosen.chosen c.in_ok-own_values.field-0 c.own_weight.result (asked c) c.own_weight.ensures.value
 
-asked_at_end : (c : goal.After-drop-totals-inside-2) → IsAsked c.args.settings.now c.args.table.now c.args.members.now c.args.reports.now c.index-reports-0.result c.in_ok-totals.totals c.in_ok-chosen.chosen c.in_ok-own_values.field-0
+asked_at_end : (c : goal.Joined-totals-3) → IsAsked c.args.settings.now c.args.table.now c.args.members.now c.args.reports.now c.index-reports-0.result c.in_ok-totals.totals c.in_ok-chosen.chosen c.in_ok-own_values.field-0
 asked_at_end c = record {
   limits = c.k-k.ensures.limits;
   size = c.requires.size;
@@ -59,13 +59,13 @@ asked_at_end c = record {
 }
 
 -- what is returned is the end of a wide round
-ended : (c : goal.After-drop-totals-inside-2) → IfOk c.reallocated.result (λ r. IsWide c.args.settings.now c.args.table.now c.args.members.now c.args.reports.now r)
+ended : (c : goal.Joined-totals-3) → IfOk c.reallocated.result (λ r. IsWide c.args.settings.now c.args.table.now c.args.members.now c.args.reports.now r)
 ended c =
     IfOk-weaker c.reallocated.result _ (λ (r : Reallocation). IsWide c.args.settings.now c.args.table.now c.args.members.now c.args.reports.now r)
     (λ r is. asked_is_wide c.args.settings.now c.args.table.now c.args.members.now c.args.reports.now c.index-reports-0.result c.in_ok-totals.totals c.in_ok-chosen.chosen c.in_ok-own_values.field-0 c.own_weight.result r (asked_at_end c) c.own_weight.ensures.value is)
     c.reallocated.ensures
 
-so : (c : goal.After-drop-totals-inside-2) (Q : Reallocation → Type 0) → ((r : Reallocation) → IsWide c.args.settings.now c.args.table.now c.args.members.now c.args.reports.now r → Q r) → IfOk c.reallocated.result Q
+so : (c : goal.Joined-totals-3) (Q : Reallocation → Type 0) → ((r : Reallocation) → IsWide c.args.settings.now c.args.table.now c.args.members.now c.args.reports.now r → Q r) → IfOk c.reallocated.result Q
 so c Q h = IfOk-weaker c.reallocated.result (λ (r : Reallocation). IsWide c.args.settings.now c.args.table.now c.args.members.now c.args.reports.now r) Q h (ended c)
 
 pub returns-clause-value : goal.returns-clause-value

@@ -2,7 +2,7 @@ use Rattle.std.proofs.Common.{FitsSigned, ◌-◌, ◌≤◌, ℕ, ℤ, List, le
 use Rattle.std.specs.Int.{w128}
 use Rattle.std.proofs.lemmas.Int.{ints, to_z-of_z}
 use Rattle.std.proofs.lemmas.List.{take_all}
-use Rattle.tk_rank.specs.Ranked.{Ranked}
+use Rattle.tk_rank.specs.Rank.{RankView}
 use Rattle.tk_rows.specs.Factors.{IsFactor}
 use Rattle.tk_coord.specs.Board.{relevelled}
 use Rattle.tk_coord.proofs.BoardLemmas.{length-relevelled, relevelled_more, small_at}
@@ -22,7 +22,7 @@ set-requires-clause-within c =
     let ranks = c.args.ranks.now in
     let p : ℕ × ℤ = (c.at-factor.result.0.0, c.at-factor.result.1) in
     let most = (object_within (length ranks.levels) c.args.own.now c.loop-place.place p c.at-factor.ensures.ascends c.requires.objects c.at-factor.ensures.value).1 in
-    let same = ap (λ (r : Ranked). length r.levels) c.loop-place.invariant in
+    let same = ap (λ (r : RankView). length r.levels) c.loop-place.invariant in
     let size = length-relevelled (take c.loop-place.place c.args.own.now) ranks.levels in
     omega (arith, most, same, size)
 
@@ -42,7 +42,7 @@ loop-place-preserved c =
     let fits : FitsSigned w128 p.1 = omega (arith, ints, small) in
     c.set.ensures
     ∙ ap (λ (z : ℤ). record c.loop-place.ranks { levels = set c.loop-place.ranks.levels (p.0 - 1) z }) (to_z-of_z w128 p.1 fits)
-    ∙ ap (λ (r : Ranked). record r { levels = set r.levels (p.0 - 1) p.1 }) c.loop-place.invariant
+    ∙ ap (λ (r : RankView). record r { levels = set r.levels (p.0 - 1) p.1 }) c.loop-place.invariant
     ∙ ap (λ (ls : List ℤ). record ranks { levels = ls }) (relevelled_more ranks.levels (relevelled ranks.levels (take place own)) own place p c.at-factor.ensures.value refl)
 
 pub returns-clause-value : goal.returns-clause-value

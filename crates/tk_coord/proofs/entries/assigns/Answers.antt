@@ -11,7 +11,7 @@ use Rattle.tk_coord.proofs.entries.assigns.Goals as goal
 
 pub loop-change-preserved : goal.loop-change-preserved
 loop-change-preserved c =
-    let links = c.args.links.now in
+    let peers = c.args.peers.now in
     let members = c.args.reallocation.now.members in
     let at = c.args.reallocation.now.at.items in
     let i = c.loop-change.change-index in
@@ -20,18 +20,18 @@ loop-change-preserved c =
     let within : i < length at = subst (λ (l : List MonChange). i < length l) c.deref-change-items.ensures.value c.loop-change-test.true in
     let named = c.requires i item within in
     let low : 0 < item.mon.0 = subst (λ (x : MonChange). 0 < x.mon.0) (sym here) named.0 in
-    let high : item.mon.0 ≤ length links = subst (λ (x : MonChange). x.mon.0 ≤ length links) (sym here) named.1 in
-    let seq : c.in_ok-seq.seq ≡ assigns_by links item.mon.0 + 1 = c.in_ok-seq.ensures.value in
-    let told : n.Sent (record { 0 = item.mon.0 }) (f.Assign c.in_ok-seq.seq c.in_ok-members.members c.in_ok-changes.changes) ≡ assign_to links members (item.mon.0, item.changes) =
+    let high : item.mon.0 ≤ length peers = subst (λ (x : MonChange). x.mon.0 ≤ length peers) (sym here) named.1 in
+    let seq : c.in_ok-seq.seq ≡ assigns_by peers item.mon.0 + 1 = c.in_ok-seq.ensures.value in
+    let told : n.Sent (record { 0 = item.mon.0 }) (f.Assign c.in_ok-seq.seq c.in_ok-members.members c.in_ok-changes.changes) ≡ assign_to peers members (item.mon.0, item.changes) =
     λ k. n.Sent (record { 0 = item.mon.0 }) (f.Assign (seq k) (c.in_ok-members.ensures k) (c.in_ok-changes.ensures k)) in
-    let each : ℕ → Type 0 = λ k. (d : MonChange) → assigns_by links (get_or at k d).mon.0 < 2 ^ 64 - 1 in (
-      assigns_more links members at i item within c.loop-change.invariant.0 c.in_ok-push.ensures.items
-          (c.in_ok-sent.ensures.value ∙ told ∙ ap (λ (x : MonChange). assign_to links members (x.mon.0, x.changes)) here),
+    let each : ℕ → Type 0 = λ k. (d : MonChange) → assigns_by peers (get_or at k d).mon.0 < 2 ^ 64 - 1 in (
+      assigns_more peers members at i item within c.loop-change.invariant.0 c.in_ok-push.ensures.items
+          (c.in_ok-sent.ensures.value ∙ told ∙ ap (λ (x : MonChange). assign_to peers members (x.mon.0, x.changes)) here),
       λ k d below.
           below_more each i (λ q low' e. c.loop-change.invariant.1 q e low')
-          (λ e. subst (λ (x : MonChange). assigns_by links x.mon.0 < 2 ^ 64 - 1) (here ∙ get_or_default at i item e within) c.in_ok-seq.ensures.room) k below d,
+          (λ e. subst (λ (x : MonChange). assigns_by peers x.mon.0 < 2 ^ 64 - 1) (here ∙ get_or_default at i item e within) c.in_ok-seq.ensures.room) k below d,
       λ q.
           rw c.in_ok-push.ensures.items
-          (All-push (IsEntryOf (length links) q) c.loop-change.entries.items c.in_ok-sent.field-0 (c.loop-change.invariant.2 q)
-          (c.in_ok-sent.ensures.monitor (length links) q low high)),
+          (All-push (IsEntryOf (length peers) q) c.loop-change.entries.items c.in_ok-sent.field-0 (c.loop-change.invariant.2 q)
+          (c.in_ok-sent.ensures.monitor (length peers) q low high)),
     )

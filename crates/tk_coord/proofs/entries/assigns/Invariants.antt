@@ -9,6 +9,6 @@ use Rattle.tk_coord.proofs.entries.assigns.Given as goal
 
 abbrev pub invariant-loop-change : goal.invariant-loop-change
 invariant-loop-change l =
-    (l.entries.items ≡ map (assign_to l.links l.reallocation.members) (by_monitor (take l.change-index l.reallocation.at.items)))
-    × ((k : ℕ) (d : MonChange) → k < l.change-index → assigns_by l.links (get_or l.reallocation.at.items k d).mon.0 < 2 ^ 64 - 1)
-    × ((n : ℕ) → All (IsEntryOf (length l.links) n) l.entries.items)
+    (l.entries.items ≡ map (assign_to l.peers l.reallocation.members) (by_monitor (take l.change-index l.reallocation.at.items)))
+    × ((k : ℕ) (d : MonChange) → k < l.change-index → assigns_by l.peers (get_or l.reallocation.at.items k d).mon.0 < 2 ^ 64 - 1)
+    × ((n : ℕ) → All (IsEntryOf (length l.peers) n) l.entries.items)

@@ -10,7 +10,7 @@ returns-clause-assigns c grid decided is = record {
   change = c.args.reallocation;
   decides = is;
   reply = refl;
-  sends = c.in_ok-entries.ensures.value ∙ ap (assigns_over c.args.links.now) (decides_same grid decided c.args.reallocation is);
+  sends = c.in_ok-entries.ensures.value ∙ ap (assigns_over c.args.peers.now) (decides_same grid decided c.args.reallocation is);
   room = c.in_ok-entries.ensures.room;
   holds = refl;
 }

@@ -12,7 +12,7 @@ use Rattle.tk_coord.proofs.outcomes.end_full.Goals as goal
 
 pub bounds-reports-0 : goal.bounds-reports-0
 bounds-reports-0 c =
-    let settings = c.args.grounds.standing.settings in
+    let settings = c.args.grounds.phase.settings in
     let reports = c.args.reports.now in
     let some = c.monitors.ensures.limits.some_monitor in
     let count = report_count settings.monitors (objects_over reports) reports c.requires.order in
@@ -21,14 +21,14 @@ bounds-reports-0 c =
 pub border_over-requires : goal.border_over-requires
 border_over-requires c =
     let grounds = c.args.grounds in
-    let over = first_over grounds.standing.settings c.args.reports.now c.index-reports-0.result c.monitors.ensures.limits c.requires.order c.index-reports-0.is in
+    let over = first_over grounds.phase.settings c.args.reports.now c.index-reports-0.result c.monitors.ensures.limits c.requires.order c.index-reports-0.is in
     let here = sym over ∙ ap (λ (r : Reported). objects_of r.values) c.index-reports-0.is in
     subst (λ (xs : List ℕ). All (Contains xs) grounds.board.now.members) here c.requires.ready.members
 
 pub deal_full-requires-clause-border : goal.deal_full-requires-clause-border
 deal_full-requires-clause-border c =
     let grounds = c.args.grounds in
-    let settings = grounds.standing.settings in
+    let settings = grounds.phase.settings in
     let over = first_over settings c.args.reports.now c.index-reports-0.result c.monitors.ensures.limits c.requires.order c.index-reports-0.is in
     let here = sym over ∙ ap (λ (r : Reported). objects_of r.values) c.index-reports-0.is in
     let fits : FitsSigned w128 c.in_ok-border.border = search rules in
@@ -39,6 +39,6 @@ deal_full-requires-clause-border c =
 pub ended-requires-clause-named : goal.ended-requires-clause-named
 ended-requires-clause-named c =
     let grounds = c.args.grounds in
-    let settings = grounds.standing.settings in
+    let settings = grounds.phase.settings in
     dealt_named grounds.board.now.table (full_decides settings grounds.board.now.table grounds.board.now.members c.args.reports.now) settings.monitors c.in_ok-dealt.dealt
     c.in_ok-dealt.ensures c.requires.ready.size.monitors

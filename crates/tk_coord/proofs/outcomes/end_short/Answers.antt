@@ -15,6 +15,6 @@ deal_short-requires-clause-border c =
 pub ended-requires-clause-named : goal.ended-requires-clause-named
 ended-requires-clause-named c =
     let grounds = c.args.grounds in
-    let settings = grounds.standing.settings in
+    let settings = grounds.phase.settings in
     dealt_named grounds.board.now.table (short_decides settings grounds.board.now.table grounds.board.now.members c.args.report.now) settings.monitors c.in_ok-dealt.dealt
     c.in_ok-dealt.ensures c.requires.ready.size.monitors

@@ -16,17 +16,17 @@ one_more places n {items} {next} {x} pushed is before =
 
 pub loop-other-preserved : goal.loop-other-preserved
 loop-other-preserved c =
-    one_more (λ mon. (said_at c.args.answers.links.now c.args.answers.place c.args.answers.here.now mon).places) c.loop-other.other
+    one_more (λ mon. (said_at c.args.answers.peers.now c.args.answers.place c.args.answers.here.now mon).places) c.loop-other.other
     c.in_ok-push.ensures.items
     (c.in_ok-try_clone.ensures ∙ ap (λ (p : Progress). p.places) c.behind-answers.view_is ∙ ap (λ (p : Progress). p.places) c.said.ensures)
     c.loop-other.invariant
 
 pub returns : goal.returns
 returns c =
-    let links = c.args.answers.links.now in
-    let said = said_at links c.args.answers.place c.args.answers.here.now in
-    let whole : c.loop-other.other ≡ length links = omega arith in
+    let peers = c.args.answers.peers.now in
+    let said = said_at peers c.args.answers.place c.args.answers.here.now in
+    let whole : c.loop-other.other ≡ length peers = omega arith in
     c.new.ensures
     ∙ c.loop-other.invariant
     ∙ ap (λ (k : ℕ). map (λ mon. (said mon).places) (range_with_len 1 k)) whole
-    ∙ map_twice (λ (p : Progress). p.places) said (range_with_len 1 (length links))
+    ∙ map_twice (λ (p : Progress). p.places) said (range_with_len 1 (length peers))

@@ -5,4 +5,4 @@ use Rattle.tk_coord.proofs.publishing.cut_of.Given as goal
 
 -- the places of those up to here
 abbrev pub invariant-loop-other : goal.invariant-loop-other
-invariant-loop-other l = l.list.items ≡ map (λ mon. (said_at l.answers.links.now l.answers.place l.answers.here.now mon).places) (range_with_len 1 l.other)
+invariant-loop-other l = l.list.items ≡ map (λ mon. (said_at l.answers.peers.now l.answers.place l.answers.here.now mon).places) (range_with_len 1 l.other)

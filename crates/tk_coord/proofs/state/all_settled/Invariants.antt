@@ -4,5 +4,5 @@ use Rattle.tk_coord.specs.Keeping.{has_settled}
 use Rattle.tk_coord.proofs.state.all_settled.Given as goal
 
 -- those up to here have settled
-abbrev pub invariant-loop-link : goal.invariant-loop-link
-invariant-loop-link l = list_all has_settled (take l.link-index l.links) ≡ true
+abbrev pub invariant-loop-peer : goal.invariant-loop-peer
+invariant-loop-peer l = list_all has_settled (take l.peer-index l.peers) ≡ true

@@ -4,7 +4,7 @@ use Rattle.std.proofs.lemmas.Option.{get_or_from_slice_get}
 use Rattle.std.proofs.lemmas.Result.{on_err_weaker}
 use Rattle.tk_input.specs.declared.event.Event.{Event}
 use Rattle.tk_drain.proofs.BeginLemmas.{behind_order, order_cut}
-use Rattle.tk_drain.proofs.PhaseLemmas.{err_by}
+use Rattle.tk_drain.proofs.LegLemmas.{err_by}
 use Rattle.tk_drain.proofs.PassingLemmas.{order_more}
 use Rattle.tk_drain.proofs.finishing.drive.Goals as goal
 

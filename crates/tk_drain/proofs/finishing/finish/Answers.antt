@@ -5,7 +5,7 @@ use Rattle.tk_drain.specs.Passing.{Passes, raises}
 use Rattle.tk_input.specs.Logs.{LogSet}
 use Rattle.tk_drain.specs.Drive.{BeginsFinishes, longest_of, pass_of}
 use Rattle.tk_drain.specs.Drive.BeginsFinishing.{InSettling}
-use Rattle.tk_drain.proofs.PhaseLemmas.{err_by}
+use Rattle.tk_drain.proofs.LegLemmas.{err_by}
 use Rattle.tk_drain.proofs.BeginLemmas.{pass_begun, settled_only}
 use Rattle.tk_drain.proofs.PassingLemmas.{passed_all, passed_more, passed_none, passed_over}
 use Rattle.tk_drain.proofs.finishing.finish.Goals as goal

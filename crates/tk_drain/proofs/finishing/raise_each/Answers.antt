@@ -6,7 +6,7 @@ use Rattle.tk_world.specs.Events.{raise_at}
 use Rattle.tk_drain.specs.Passing.{MayRaise, Passes, raises}
 use Rattle.tk_world.specs.declared.moved.Moved.{Moved}
 use Rattle.tk_drain.proofs.BeginLemmas.{not_begun, part_begun, part_raised}
-use Rattle.tk_drain.proofs.PhaseLemmas.{err_by}
+use Rattle.tk_drain.proofs.LegLemmas.{err_by}
 use Rattle.tk_drain.proofs.PassingLemmas.{each_idle, each_yes, passes_none}
 use Rattle.tk_drain.proofs.finishing.raise_each.Goals as goal
 use Rattle.tk_drain.proofs.finishing.raise_each.Goals.{in-Yes+in_ok-push-in-Yes, in-Idle}

@@ -2,7 +2,7 @@ use Rattle.std.proofs.Common.{subst}
 use Rattle.tk_world.specs.World.{Moves}
 use Rattle.tk_world.specs.declared.moved.Moved.{Moved}
 use Rattle.tk_drain.proofs.BeginLemmas.{raise_begun}
-use Rattle.tk_drain.proofs.PhaseLemmas.{err_by}
+use Rattle.tk_drain.proofs.LegLemmas.{err_by}
 use Rattle.tk_drain.proofs.PassingLemmas.{raised_settled}
 use Rattle.tk_world.specs.Events.{raise_at}
 use Rattle.tk_drain.proofs.finishing.raise_one.Goals as goal

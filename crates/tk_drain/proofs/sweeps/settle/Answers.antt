@@ -2,7 +2,7 @@ use Rattle.std.proofs.Common.{subst, sym, ◌∙◌, arith, ap, ◌+◌}
 use Rattle.tk_base.specs.Settings.{Setup}
 use Rattle.tk_story.specs.Kept.{KeptStory}
 use Rattle.tk_drain.specs.Drive.{Settles}
-use Rattle.tk_drain.proofs.PhaseLemmas.{err_by, idle_swept}
+use Rattle.tk_drain.proofs.LegLemmas.{err_by, idle_swept}
 use Rattle.tk_drain.proofs.RestLemmas.{Sweeping, comes_to_rest, sweeping_cut, sweeping_ends, sweeping_on, sweeping_rests}
 use Rattle.tk_drain.proofs.sweeps.settle.Goals as goal
 

@@ -7,7 +7,7 @@ use Rattle.tk_frames.proofs.reading.numbers.Goals as goal
 
 pub returns-in_err-number : goal.returns-in_err-number
 returns-in_err-number c =
-    let p = err_from_is_err_and c.from_residual.result c.from_residual.ensures.1 in
+    let p = err_from_is_err_and c.from_residual-in_err-number.result c.from_residual-in_err-number.ensures.1 in
     rw (p.1, p.2) (ends c.in_err-number.field-0.0 no_object (place_at c.args.version) (c.loop.list.items) 0 c.args.count c.loop.counter c.loop.rest.now (items_at no_object (place_at c.args.version) 0 c.args.count c.args.bytes.now) c.loop-test.true c.in_err-number.ensures c.loop.invariant)
 
 pub loop-preserved : goal.loop-preserved

@@ -9,7 +9,7 @@ use Rattle.tk_frames.proofs.reading.objects.Goals as goal
 
 pub returns-in_err-number : goal.returns-in_err-number
 returns-in_err-number c =
-    let p = err_from_is_err_and c.from_residual.result c.from_residual.ensures.1 in
+    let p = err_from_is_err_and c.from_residual-in_err-number.result c.from_residual-in_err-number.ensures.1 in
     rw (p.1, p.2) (ends c.in_err-number.field-0.0 object_itself (object_at c.args.version) (numbers_of c.loop.list.items) c.loop.before c.args.count c.loop.counter c.loop.rest.now (items_at object_itself (object_at c.args.version) 0 c.args.count c.args.bytes.now) c.loop-test.true c.in_err-number.ensures c.loop.invariant)
 
 pub loop-preserved : goal.loop-preserved

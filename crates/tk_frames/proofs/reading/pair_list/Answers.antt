@@ -9,7 +9,7 @@ use Rattle.tk_frames.proofs.reading.pair_list.Goals as goal
 
 pub returns-in_err-item : goal.returns-in_err-item
 returns-in_err-item c =
-    let p = err_from_is_err_and c.from_residual.result c.from_residual.ensures.1 in
+    let p = err_from_is_err_and c.from_residual-in_err-item.result c.from_residual-in_err-item.ensures.1 in
     rw (p.1, p.2) (ends c.in_err-item.field-0.0 pair_object (pair_at c.args.version) (pairs_of c.loop.list.items) c.loop.before c.args.count c.loop.counter c.loop.rest.now (items_at pair_object (pair_at c.args.version) 0 c.args.count c.args.bytes.now) c.loop-test.true c.in_err-item.ensures c.loop.invariant)
 
 pub loop-preserved : goal.loop-preserved

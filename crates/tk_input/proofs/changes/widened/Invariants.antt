@@ -1,5 +1,6 @@
 use Rattle.std.proofs.Common.{◌≡◌, map, take}
-use Rattle.tk_input.specs.Changes.{changes_of, narrow_pair_of}
+use Rattle.tk_base.specs.Pairs.{narrow_pair_of}
+use Rattle.tk_input.specs.Changes.{changes_of}
 use Rattle.tk_input.proofs.changes.widened.Given as goal
 
 -- the changes so far are the same

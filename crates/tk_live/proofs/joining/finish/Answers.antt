@@ -5,6 +5,7 @@ use Rattle.tk_story.specs.Story.{IsStory}
 use Rattle.tk_live.specs.Joining.{ledger_lines}
 use Rattle.tk_live.specs.Lived.{Concludes}
 use Rattle.tk_live.specs.declared.verdict.Verdict.TheVariants as v
+use Rattle.tk_live.specs.Traffic.{traffic_of}
 use Rattle.tk_live.proofs.TellLemmas.{complete_story, concludes_told, none_front, of_story, printed_as, printed_done, printed_front}
 use Rattle.tk_live.proofs.joining.finish.Goals as goal
 
@@ -13,7 +14,7 @@ returns-in-Err-clause-concludes g c = λ input version was taken taken' of_input
     let kept = c.in-Err.story in
     let now = g.O.Sink.written c.args.out.now in
     let same : kept.story ≡ c.args.story.story = ap (λ (k : KeptStory). k.story) c.in-Err.ensures.err in
-    subst (λ l. Concludes input version was now taken taken' l) (sym c.told.ensures)
+    subst (λ l. Concludes input version (traffic_of was now taken taken') l) (sym c.told.ensures)
     (concludes_told c.a_finished_run_is_sound.ensures.over input version was now now taken taken' kept v.NoMemory (subst IsStory (sym same) c.journal.ensures.legal)
     (of_story input c.args.story.story kept.story same of_input) (complete_story input.names version c.args.story.story kept.story was now taken taken' same complete) (λ e. absurd (cc)) (none_front now (ledger_lines kept.story)) tt)
 
@@ -26,7 +27,7 @@ returns-clause-concludes g c = λ input version was taken taken' of_input comple
     let printed = c.print-printed.result in
     let verdict = c.verdict_of-verdict.result in
     let is = c.verdict_of-verdict.ensures.verdict in
-    subst (λ l. Concludes input version was now taken taken' l) (sym c.told-2.ensures)
+    subst (λ l. Concludes input version (traffic_of was now taken taken') l) (sym c.told-2.ensures)
     (concludes_told c.a_finished_run_is_sound.ensures.over input version was mid now taken taken' kept verdict (subst IsStory (sym same) c.journal.ensures.legal)
     (of_story input c.args.story.story kept.story same of_input) (complete_story input.names version c.args.story.story kept.story was mid taken taken' same complete)
     (λ e. (c.in-Ok.ensures.runs, printed_done printed verdict (Grows mid now (ledger_lines kept.story)) is c.print-printed.ensures.ok e))

@@ -16,6 +16,7 @@ use Rattle.tk_live.specs.Complete.{IsComplete}
 use Rattle.tk_live.specs.Crew.{made_in}
 use Rattle.tk_live.specs.Hosting.{Hosts}
 use Rattle.tk_live.specs.Made.{made_of}
+use Rattle.tk_live.specs.Traffic.{traffic_of}
 use Rattle.tk_live.proofs.CompleteLemmas.{complete_ends, complete_hub, ends_made, made_run, trails_stopped, trails_sum, writes_front}
 use Rattle.tk_live.proofs.living.run_stage.Goals as goal
 
@@ -82,4 +83,4 @@ returns-clause-ends g c =
       from = c.args.from;
       journal = hub.coordinator.journal;
       trails = map (λ (end : MonEnd). end.monitor.trail) ms;
-    }) was now net.taken third) (sym p.ends) complete))
+    }) (traffic_of was now net.taken third)) (sym p.ends) complete))

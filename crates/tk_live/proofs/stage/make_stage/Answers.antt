@@ -3,16 +3,10 @@ use Rattle.tk_live.proofs.HostLemmas.{gone_listened, gone_on}
 use Rattle.tk_live.proofs.stage.make_stage.Goals as goal
 
 pub returns-clause-gone : goal.returns-clause-gone
-returns-clause-gone g c = gone_on _ _ _ (gone_listened c.listen.result _ _ c.listen.ensures.state) c.make_berths.ensures.gone
+returns-clause-gone g c = gone_on _ _ _ (gone_listened c.listen.result _ _ c.listen.ensures.state) c.make_crew.ensures.gone
 
 pub returns-in_default-with_capacity-clause-gone : goal.returns-in_default-with_capacity-clause-gone
-returns-in_default-with_capacity-clause-gone g c = gone_on _ _ _ (gone_listened c.listen.result _ _ c.listen.ensures.state) c.make_berths.ensures.gone
-
-pub returns-in_default-with_capacity-2-clause-gone : goal.returns-in_default-with_capacity-2-clause-gone
-returns-in_default-with_capacity-2-clause-gone g c = gone_on _ _ _ (gone_listened c.listen.result _ _ c.listen.ensures.state) c.make_berths.ensures.gone
-
-pub returns-in_default-with_capacity-3-clause-gone : goal.returns-in_default-with_capacity-3-clause-gone
-returns-in_default-with_capacity-3-clause-gone g c = gone_on _ _ _ (gone_listened c.listen.result _ _ c.listen.ensures.state) c.make_berths.ensures.gone
+returns-in_default-with_capacity-clause-gone g c = gone_on _ _ _ (gone_listened c.listen.result _ _ c.listen.ensures.state) c.make_crew.ensures.gone
 
 pub returns-clause-open : goal.returns-clause-open
-returns-clause-open g c = c.make_berths.ensures.gone.listens (ap (λ n. n.listens) c.in_default.ensures.state)
+returns-clause-open g c = c.make_crew.ensures.gone.listens (ap (λ n. n.listens) c.in_default.ensures.state)

@@ -4,15 +4,15 @@ use Rattle.tk_window.specs.TickEnds.{last_source}
 use Rattle.tk_window.specs.Ticks.{AreOver}
 use Rattle.tk_words.specs.Asked.{asked_logs}
 use Rattle.tk_load.specs.Input.{count_of, greatest_monitor}
-use Rattle.tk_load.specs.Reads.{AreKept}
+use Rattle.tk_load.specs.Reads.{AreKept, reads_by}
 use Rattle.tk_load.proofs.LogsLemmas.{SoFar}
 use Rattle.tk_load.proofs.changes.parts_of.Given as goal
 
 -- the parts so far are those that the words before give, of monitors, of objects of the catalogue, and not too long
 abbrev pub invariant-loop-mon : goal.invariant-loop-mon
 invariant-loop-mon g l = record {
-  so_far : SoFar (g.F.Files.content l.initial.files) (g.F.Files.fault_count l.initial.files) (g.F.Files.fault_count l.files) l.width l.names (asked_logs (take l.mon-index l.words)) (sources_of l.parts.items);
-  kept : AreKept (g.F.Files.content l.initial.files) (g.F.Files.content l.files) (g.F.Files.fault_count l.initial.files) (g.F.Files.fault_count l.files);
+  so_far : SoFar (reads_by g.F.Files l.initial.files l.files) l.width l.names (asked_logs (take l.mon-index l.words)) (sources_of l.parts.items);
+  kept : AreKept g.F.Files l.initial.files l.files;
   updates : l.updates ≡ count_of (sources_of l.parts.items);
   few : l.updates ≤ 4000000;
   last : last_source (sources_of l.parts.items) ≡ greatest_monitor (asked_logs (take l.mon-index l.words));

@@ -2,4 +2,4 @@ use Rattle.tk_load.proofs.ToldLemmas.{meant_as_told}
 use Rattle.tk_load.proofs.laws.what_is_told_is_meant.Goals as goal
 
 pub returns : goal.returns
-returns c = λ told old new contents words answer are loads. meant_as_told told old new contents words answer are loads
+returns c = λ reads contents words answer are loads. meant_as_told reads contents words answer are loads

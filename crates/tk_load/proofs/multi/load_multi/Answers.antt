@@ -6,48 +6,48 @@ use Rattle.tk_load.proofs.multi.load_multi.Goals as goal
 
 pub returns-in-Err-clause-read : goal.returns-in-Err-clause-read
 returns-in-Err-clause-read g c =
-    names_refused (g.F.Files.content c.args.files.now) (g.F.Files.content c.read_names.new.files) (g.F.Files.fault_count c.args.files.now) (g.F.Files.fault_count c.read_names.new.files) (asked_multi c.args.words.now) c.read_names.ensures.kept
+    names_refused g.F.Files c.args.files.now c.read_names.new.files (asked_multi c.args.words.now) c.read_names.ensures.kept
     c.in-Err.status c.in-Err.ensures.read
 
 pub returns-in-Err-read_queries-clause-read : goal.returns-in-Err-read_queries-clause-read
 returns-in-Err-read_queries-clause-read g c =
-    queries_refused (g.F.Files.content c.args.files.now) (g.F.Files.content c.read_names.new.files) (g.F.Files.fault_count c.args.files.now) (g.F.Files.fault_count c.read_names.new.files) (asked_multi c.args.words.now) c.read_names.ensures.kept
-    c.in-Ok.names c.in-Ok.ensures.read (g.F.Files.content c.read_queries.new.files) (g.F.Files.fault_count c.read_queries.new.files) c.read_queries.ensures.kept
+    queries_refused g.F.Files c.args.files.now c.read_names.new.files (asked_multi c.args.words.now) c.read_names.ensures.kept
+    c.in-Ok.names c.in-Ok.ensures.read c.read_queries.new.files c.read_queries.ensures.kept
     c.in-Err-read_queries.status c.in-Err-read_queries.ensures.read
 
 pub returns-in-Err-all_logs-clause-read : goal.returns-in-Err-all_logs-clause-read
 returns-in-Err-all_logs-clause-read g c =
     let same = ap (λ (logs : List (Mon × Bor (List ℕ))). asked_logs logs) c.as_slice.ensures.value in
-    logs_refused (g.F.Files.content c.args.files.now) (g.F.Files.content c.read_names.new.files) (g.F.Files.fault_count c.args.files.now) (g.F.Files.fault_count c.read_names.new.files) (asked_multi c.args.words.now) c.read_names.ensures.kept
-    c.in-Ok.names c.in-Ok.ensures.read (g.F.Files.content c.read_queries.new.files) (g.F.Files.fault_count c.read_queries.new.files) c.read_queries.ensures.kept
-    c.in-Ok-read_queries.queries c.in-Ok-read_queries.ensures.read (g.F.Files.content c.all_logs.new.files) (g.F.Files.fault_count c.all_logs.new.files) c.all_logs.ensures.kept
-    c.in-Err-all_logs.status (seen_logs_of _ _ _ _ _ _ _ same c.in-Err-all_logs.ensures.read)
+    logs_refused g.F.Files c.args.files.now c.read_names.new.files (asked_multi c.args.words.now) c.read_names.ensures.kept
+    c.in-Ok.names c.in-Ok.ensures.read c.read_queries.new.files c.read_queries.ensures.kept
+    c.in-Ok-read_queries.queries c.in-Ok-read_queries.ensures.read c.all_logs.new.files c.all_logs.ensures.kept
+    c.in-Err-all_logs.status (seen_logs_of _ _ _ _ _ same c.in-Err-all_logs.ensures.read)
 
 pub returns-in-Err-alones_of-clause-read : goal.returns-in-Err-alones_of-clause-read
 returns-in-Err-alones_of-clause-read g c =
     let same = ap (λ (logs : List (Mon × Bor (List ℕ))). asked_logs logs) c.as_slice.ensures.value in
-    alones_refused (g.F.Files.content c.args.files.now) (g.F.Files.content c.read_names.new.files) (g.F.Files.fault_count c.args.files.now) (g.F.Files.fault_count c.read_names.new.files) (asked_multi c.args.words.now) c.read_names.ensures.kept
-    c.in-Ok.names c.in-Ok.ensures.read (g.F.Files.content c.read_queries.new.files) (g.F.Files.fault_count c.read_queries.new.files) c.read_queries.ensures.kept
-    c.in-Ok-read_queries.queries c.in-Ok-read_queries.ensures.read (g.F.Files.content c.all_logs.new.files) (g.F.Files.fault_count c.all_logs.new.files) c.all_logs.ensures.kept
-    c.in-Ok-all_logs.logs (seen_logs_of _ _ _ _ _ _ _ same c.in-Ok-all_logs.ensures.read)
+    alones_refused g.F.Files c.args.files.now c.read_names.new.files (asked_multi c.args.words.now) c.read_names.ensures.kept
+    c.in-Ok.names c.in-Ok.ensures.read c.read_queries.new.files c.read_queries.ensures.kept
+    c.in-Ok-read_queries.queries c.in-Ok-read_queries.ensures.read c.all_logs.new.files c.all_logs.ensures.kept
+    c.in-Ok-all_logs.logs (seen_logs_of _ _ _ _ _ same c.in-Ok-all_logs.ensures.read)
     c.in-Err-alones_of.status c.in-Err-alones_of.ensures.meets
 
 pub returns-clause-read : goal.returns-clause-read
 returns-clause-read g c =
     let same = ap (λ (logs : List (Mon × Bor (List ℕ))). asked_logs logs) c.as_slice.ensures.value in
-    order_refused (g.F.Files.content c.args.files.now) (g.F.Files.content c.read_names.new.files) (g.F.Files.fault_count c.args.files.now) (g.F.Files.fault_count c.read_names.new.files) (asked_multi c.args.words.now) c.read_names.ensures.kept
-    c.in-Ok.names c.in-Ok.ensures.read (g.F.Files.content c.read_queries.new.files) (g.F.Files.fault_count c.read_queries.new.files) c.read_queries.ensures.kept
-    c.in-Ok-read_queries.queries c.in-Ok-read_queries.ensures.read (g.F.Files.content c.all_logs.new.files) (g.F.Files.fault_count c.all_logs.new.files) c.all_logs.ensures.kept
-    c.in-Ok-all_logs.logs (seen_logs_of _ _ _ _ _ _ _ same c.in-Ok-all_logs.ensures.read)
-    c.in-Ok-alones_of.alones.items c.in-Ok-alones_of.ensures.meets (g.F.Files.content c.read_order.new.files) (g.F.Files.fault_count c.read_order.new.files) c.read_order.ensures.kept
+    order_refused g.F.Files c.args.files.now c.read_names.new.files (asked_multi c.args.words.now) c.read_names.ensures.kept
+    c.in-Ok.names c.in-Ok.ensures.read c.read_queries.new.files c.read_queries.ensures.kept
+    c.in-Ok-read_queries.queries c.in-Ok-read_queries.ensures.read c.all_logs.new.files c.all_logs.ensures.kept
+    c.in-Ok-all_logs.logs (seen_logs_of _ _ _ _ _ same c.in-Ok-all_logs.ensures.read)
+    c.in-Ok-alones_of.alones.items c.in-Ok-alones_of.ensures.meets c.read_order.new.files c.read_order.ensures.kept
     c.in-Err-read_order.status c.in-Err-read_order.ensures.read
 
 pub returns-in-Ok-read_order-clause-read : goal.returns-in-Ok-read_order-clause-read
 returns-in-Ok-read_order-clause-read g c =
     let same = ap (λ (logs : List (Mon × Bor (List ℕ))). asked_logs logs) c.as_slice.ensures.value in
-    loaded (g.F.Files.content c.args.files.now) (g.F.Files.content c.read_names.new.files) (g.F.Files.fault_count c.args.files.now) (g.F.Files.fault_count c.read_names.new.files) (asked_multi c.args.words.now) c.read_names.ensures.kept
-    c.in-Ok.names c.in-Ok.ensures.read (g.F.Files.content c.read_queries.new.files) (g.F.Files.fault_count c.read_queries.new.files) c.read_queries.ensures.kept
-    c.in-Ok-read_queries.queries c.in-Ok-read_queries.ensures.read (g.F.Files.content c.all_logs.new.files) (g.F.Files.fault_count c.all_logs.new.files) c.all_logs.ensures.kept
-    c.in-Ok-all_logs.logs (seen_logs_of _ _ _ _ _ _ _ same c.in-Ok-all_logs.ensures.read)
-    c.in-Ok-alones_of.alones.items c.in-Ok-alones_of.ensures.meets (g.F.Files.content c.read_order.new.files) (g.F.Files.fault_count c.read_order.new.files) c.read_order.ensures.kept
+    loaded g.F.Files c.args.files.now c.read_names.new.files (asked_multi c.args.words.now) c.read_names.ensures.kept
+    c.in-Ok.names c.in-Ok.ensures.read c.read_queries.new.files c.read_queries.ensures.kept
+    c.in-Ok-read_queries.queries c.in-Ok-read_queries.ensures.read c.all_logs.new.files c.all_logs.ensures.kept
+    c.in-Ok-all_logs.logs (seen_logs_of _ _ _ _ _ same c.in-Ok-all_logs.ensures.read)
+    c.in-Ok-alones_of.alones.items c.in-Ok-alones_of.ensures.meets c.read_order.new.files c.read_order.ensures.kept
     _ refl c.in-Ok-read_order.ensures.read

@@ -1,14 +1,15 @@
 use Rattle.std.proofs.Common.{List, Option, ap, option_map, ℕ}
 use Rattle.std.specs.Borrow.{Bor}
+use Rattle.tk_load.specs.Reads.{reads_by}
 use Rattle.tk_load.proofs.RetuneLemmas.{order_found, order_refused}
 use Rattle.tk_load.proofs.retunes.read_order.Goals as goal
 
 pub returns-in-Ok-clause-read : goal.returns-in-Ok-clause-read
 returns-in-Ok-clause-read g c =
-    order_found c.args.settings.now (g.F.Files.content c.args.files.now) (g.F.Files.fault_count c.args.files.now) (g.F.Files.fault_count c.order_from_file.new.files) _ c.in-Some.file.now
+    order_found c.args.settings.now (reads_by g.F.Files c.args.files.now c.order_from_file.new.files) _ c.in-Some.file.now
     (ap (λ (o : Option (Bor (List ℕ))). option_map (λ (s : Bor (List ℕ)). s.now) o) c.in-Some.is) c.in-Ok.order c.in-Ok.ensures.read
 
 pub returns-in-Err-clause-read : goal.returns-in-Err-clause-read
 returns-in-Err-clause-read g c =
-    order_refused c.args.settings.now (g.F.Files.content c.args.files.now) (g.F.Files.fault_count c.args.files.now) (g.F.Files.fault_count c.order_from_file.new.files) _ c.in-Some.file.now
+    order_refused c.args.settings.now (reads_by g.F.Files c.args.files.now c.order_from_file.new.files) _ c.in-Some.file.now
     (ap (λ (o : Option (Bor (List ℕ))). option_map (λ (s : Bor (List ℕ)). s.now) o) c.in-Some.is) c.in-Err.status c.in-Err.ensures.read

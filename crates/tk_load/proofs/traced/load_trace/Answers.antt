@@ -1,4 +1,4 @@
-use Rattle.std.proofs.Common.{◌≡◌, List, Ok, ℕ, ap, subst, sym}
+use Rattle.std.proofs.Common.{List, ℕ, subst, sym}
 use Rattle.tk_load.specs.Traced.{TracesBytes, TracesRead}
 use Rattle.tk_load.proofs.TracedLemmas.{unread}
 use Rattle.tk_load.proofs.traced.load_trace.Goals as goal

@@ -1,4 +1,4 @@
-use Rattle.std.proofs.Common.{List, get_or}
+use Rattle.std.proofs.Common.{get_or}
 use Rattle.tk_input.specs.Logs.{beginnings}
 use Rattle.tk_session.specs.Order.{stretches}
 use Rattle.tk_run.specs.Sessions.{lines_in}

@@ -1,4 +1,4 @@
-use Rattle.std.proofs.Common.{◌≡◌, ℕ, ◌+◌, ◌<◌, ◌++◌, ◌∙◌, List, length, map, take, drop, get_or, ap, sym, subst, refl, arith}
+use Rattle.std.proofs.Common.{◌≡◌, ℕ, ◌+◌, ◌<◌, ◌++◌, ◌∙◌, List, length, map, take, drop, get_or, ap, sym, subst, arith}
 use Rattle.std.specs.Prelude.{flat_map}
 use Rattle.std.specs.List.{zip}
 use Rattle.std.proofs.lemmas.List.{take_all}
@@ -8,7 +8,7 @@ use Rattle.tk_ledger.specs.Text.{text_of}
 use Rattle.tk_ledger.proofs.SinkLemmas.{goes_on, on_err, stops_before, stops_within}
 use Rattle.tk_multi.specs.Queries.{QueryView}
 use Rattle.tk_story.specs.Kept.{KeptStory}
-use Rattle.tk_run.specs.Multi.{queries_text, query_text}
+use Rattle.tk_run.specs.Multi.{query_text}
 use Rattle.tk_run.proofs.MultiLemmas.{texts_more, texts_split, told_at, told_count}
 use Rattle.tk_run.proofs.multi.print_queries.Goals as goal
 

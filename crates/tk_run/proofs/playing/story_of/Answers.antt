@@ -1,8 +1,7 @@
-use Rattle.std.proofs.Common.{◌≡◌, ◌∙◌, List, [], ℕ, ap, length, sym, subst}
+use Rattle.std.proofs.Common.{◌≡◌, ◌∙◌, List, [], ℕ, ap, sym, subst}
 use Rattle.tk_base.specs.Settings.{Setup}
 use Rattle.tk_story.specs.Kept.{KeptStory}
-use Rattle.tk_drain.specs.Drive.{Drives, IsReached}
-use Rattle.tk_drain.specs.Resting.{RunsFrom}
+use Rattle.tk_drain.specs.Drive.{Drives}
 use Rattle.tk_world.specs.Events.{begin}
 use Rattle.tk_input.specs.Logs.{beginnings}
 use Rattle.tk_run.specs.Ends.{IsStoryOf, events_in}

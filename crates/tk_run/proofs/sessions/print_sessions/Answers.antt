@@ -1,4 +1,4 @@
-use Rattle.std.proofs.Common.{◌≡◌, ℕ, ◌+◌, ◌<◌, ◌++◌, ◌∙◌, List, length, take, drop, ap, subst, sym, arith}
+use Rattle.std.proofs.Common.{◌≡◌, ℕ, ◌+◌, ◌<◌, ◌++◌, ◌∙◌, List, length, take, drop, ap, subst, arith}
 use Rattle.std.specs.Prelude.{flat_map}
 use Rattle.std.specs.List.{enumerate_from}
 use Rattle.std.proofs.lemmas.List.{take_all}
@@ -7,7 +7,7 @@ use Rattle.tk_input.specs.Sink.{Grows}
 use Rattle.tk_ledger.specs.Text.{text_of}
 use Rattle.tk_ledger.proofs.SinkLemmas.{goes_on, on_err, stops_before, stops_within}
 use Rattle.tk_story.specs.Kept.{KeptStory}
-use Rattle.tk_run.specs.Sessions.{numbered_text, stories_text}
+use Rattle.tk_run.specs.Sessions.{numbered_text}
 use Rattle.tk_run.proofs.MultiLemmas.{texts_split}
 use Rattle.tk_run.proofs.SessionsLemmas.{text_more}
 use Rattle.tk_run.proofs.sessions.print_sessions.Goals as goal

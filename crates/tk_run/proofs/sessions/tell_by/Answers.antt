@@ -1,8 +1,6 @@
 use Rattle.std.proofs.Common.{◌≡◌, ◌∙◌, ℕ, List, Option, None, IfOk, ap, subst, sym}
 use Rattle.tk_session.specs.Chain.{IsChainOf}
 use Rattle.tk_session.specs.declared.session_line.SessionLine.{SessionLine}
-use Rattle.tk_story.specs.Kept.{KeptStory}
-use Rattle.tk_story.specs.declared.story.Story.{Story}
 use Rattle.tk_run.specs.Sessions.{lines_in}
 use Rattle.tk_run.proofs.SessionsLemmas.{empty_order, none_of}
 use Rattle.tk_run.proofs.sessions.tell_by.Goals as goal

@@ -1,6 +1,6 @@
 use Rattle.std.proofs.Common.{ℕ, length, sym, ap, ◌∙◌, subst}
 use Rattle.tk_border.specs.Levels.{AreMembers}
-use Rattle.tk_rank.specs.Ranked.{Ranked}
+use Rattle.tk_rank.specs.Rank.{RankView}
 use Rattle.tk_rows.specs.Replacing.{IsReplacement}
 use Rattle.tk_coord.specs.Board.{BoardView}
 use Rattle.tk_coord.specs.Steps.{IsReplaced}
@@ -11,7 +11,7 @@ pub set_members-requires : goal.set_members-requires
 set_members-requires c =
     let f = c.self.inside in
     let change = c.args.reallocation in
-    let same = ap (λ (r : Ranked). length r.levels) (c.relevel.ensures.value) ∙ length-relevelled change.own f.ranks.levels ∙ ap (λ (r : Ranked). length r.levels) c.self.invariant ∙ own_count f.table in
+    let same = ap (λ (r : RankView). length r.levels) (c.relevel.ensures.value) ∙ length-relevelled change.own f.ranks.levels ∙ ap (λ (r : RankView). length r.levels) c.self.invariant ∙ own_count f.table in
     subst (λ (n : ℕ). AreMembers n change.members) (sym same) (subst (λ (b : BoardView). AreMembers (length b.table.rows) change.members) (sym c.self.view_is) c.requires.members)
 
 pub invariant_of-self : goal.invariant_of-self
@@ -26,7 +26,7 @@ invariant_of-self c =
       balanced = c.promise.ensures;
     } in
     c.set_members.ensures
-    ∙ ap (λ (r : Ranked). record r { members = change.members }) c.relevel.ensures.value
+    ∙ ap (λ (r : RankView). record r { members = change.members }) c.relevel.ensures.value
     ∙ ranks_after f.table c.replace.new.self f.ranks f.members change after c.relevel.ensures.ascends fits.objects c.self.invariant
 
 pub returns-clause-table : goal.returns-clause-table

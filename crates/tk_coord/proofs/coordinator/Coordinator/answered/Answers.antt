@@ -34,7 +34,7 @@ end_short-requires c =
       ready = (deals s j g c.args.report c.args.frame.now h c.requires).ready;
       takes = takes_part s j g c.args.report c.args.frame.now h c.requires;
       test = sym c.passes.ensures ∙ c.if-passes.true;
-      count = h.linked.count ∙ sym (force_large s j g.standing.settings h.stands.settings).monitors;
+      count = h.are_peers.count ∙ sym (force_large s j g.phase.settings h.stands.settings).monitors;
     }
 
 pub returns-then-passes : goal.returns-then-passes
@@ -50,7 +50,7 @@ returns-then-passes c =
     let ends = c.in_ok-outcome.ensures.ends in
     let test : passes_at s j report ≡ true = sym (same_test s j g report h) ∙ sym c.passes.ensures ∙ c.if-passes.true in
     subst (IsStep s j report.mon frame) (sym c.step.ensures) (report_step s j report frame _ h.journal a refl
-    (short_follows s j g report frame o h a test ends (entries_of s j g.standing o.entries.items h.stands (c.in_ok-outcome.ensures.entries s.objects)))
+    (short_follows s j g report frame o h a test ends (entries_of s j g.phase o.entries.items h.stands (c.in_ok-outcome.ensures.entries s.objects)))
     (subst (λ (k : TurnKind). IsCounted s j report.mon.0 (report_frame j report a.failed) k false (asks_wide o.reply)) (sym c.short_kind-kind.ensures) (short_counts s j g report frame o h a test ends)))
 
 pub returns-then-is_tired : goal.returns-then-is_tired
@@ -67,7 +67,7 @@ returns-then-is_tired c =
     let test : passes_at s j report ≡ false = sym (same_test s j g report h) ∙ sym c.passes.ensures ∙ c.if-passes.false in
     let many : nat_lt (streak s j) 8 ≡ false = not_true (nat_lt (streak s j) 8) c.is_tired.result c.is_tired.ensures c.if-is_tired.true in
     subst (IsStep s j report.mon frame) (sym c.step-then-is_tired.ensures) (report_step s j report frame _ h.journal a refl
-    (tired_follows s j g report frame o h a test many opens (entries_of s j g.standing o.entries.items h.stands (c.in_ok-outcome-2.ensures.entries s.objects)))
+    (tired_follows s j g report frame o h a test many opens (entries_of s j g.phase o.entries.items h.stands (c.in_ok-outcome-2.ensures.entries s.objects)))
     (tired_counts s j g report frame o a test many opens))
 
 pub open_full-requires : goal.open_full-requires
@@ -77,8 +77,8 @@ open_full-requires c =
     let report = c.args.report in
     let g = c.grounds-grounds.result in
     let h = c.grounds-grounds.ensures in
-    alone_can_end g.standing.settings g.board.now.table g.board.now.members g.links.now report (deals s j g report c.args.frame.now h c.requires).ready
-    (takes_part s j g report c.args.frame.now h c.requires) (h.linked.count ∙ sym (force_large s j g.standing.settings h.stands.settings).monitors)
+    alone_can_end g.phase.settings g.board.now.table g.board.now.members g.peers.now report (deals s j g report c.args.frame.now h c.requires).ready
+    (takes_part s j g report c.args.frame.now h c.requires) (h.are_peers.count ∙ sym (force_large s j g.phase.settings h.stands.settings).monitors)
 
 pub returns : goal.returns
 returns c =
@@ -94,5 +94,5 @@ returns c =
     let test : passes_at s j report ≡ false = sym (same_test s j g report h) ∙ sym c.passes.ensures ∙ c.if-passes.false in
     let few : nat_lt (streak s j) 8 ≡ true = not_false (nat_lt (streak s j) 8) c.is_tired.result c.is_tired.ensures c.if-is_tired.false in
     subst (IsStep s j report.mon frame) (sym c.step-2.ensures) (report_step s j report frame _ h.journal a refl
-    (open_follows s j g report frame o h a test few opens (entries_of s j g.standing o.entries.items h.stands (c.in_ok-outcome-3.ensures.entries s.objects)))
+    (open_follows s j g report frame o h a test few opens (entries_of s j g.phase o.entries.items h.stands (c.in_ok-outcome-3.ensures.entries s.objects)))
     (full_counts s j g report frame o h a test few opens))

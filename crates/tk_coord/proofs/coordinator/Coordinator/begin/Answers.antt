@@ -32,15 +32,15 @@ invariant_of-result c =
     let begins : Begins s members table after = subst (Begins s members table) (sym is) c.requires in
     let state : State = record {
       board = c.in_ok-board.board;
-      links = c.in_ok-new_links.field-0;
+      peers = c.in_ok-new_peers.field-0;
       round = c.none.result;
       gathered = c.in_ok-no_reports.field-0;
     } in (
       record {
         journal = begun_journal s members table after begins;
         holds = begun_holds s members table after state begins (ap (λ (b : BoardView). b.members) c.in_ok-board.ensures) (ap (λ (b : BoardView). b.table) c.in_ok-board.ensures) (record {
-          count = c.in_ok-new_links.ensures.count ∙ monitors;
-          links = c.in_ok-new_links.ensures.each;
+          count = c.in_ok-new_peers.ensures.count ∙ monitors;
+          peers = c.in_ok-new_peers.ensures.each;
           round = c.none.ensures;
           reports = c.in_ok-no_reports.ensures ∙ monitors;
         });

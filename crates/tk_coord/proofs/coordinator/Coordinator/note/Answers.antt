@@ -40,8 +40,8 @@ invariant_of-self-2 c =
     let range : IsMonitor f.settings mon.0 = subst (λ (v : CoordinatorView). IsMonitor v.settings mon.0) (sym c.self.view_is) c.requires.monitor in
     let taken : refusal_of f.settings j mon.0 frame ≡ None = subst (λ (v : CoordinatorView). refusal_of v.settings v.journal mon.0 frame ≡ None) (sym c.self.view_is) c.requires.taken in
     let told = c.take.ensures f.settings j frame step.told range k.holds in
-    let replied = c.reply.ensures f.settings (with_got j mon frame) (demanded f.settings j mon.0 frame) step.outcome.reply told in (
-      kept_taken f.settings j c.append.new.self.entries mon frame c.args.step c.is_calm-calm.result f.state c.reply.new.self f.standing f.turns.list c.push-2.new.self.list
+    let replied = c.reply-2.ensures f.settings (with_got j mon frame) (demanded f.settings j mon.0 frame) step.outcome.reply told in (
+      kept_taken f.settings j c.append.new.self.entries mon frame c.args.step c.is_calm-calm.result f.state c.reply-2.new.self f.phase f.turns.list c.push-2.new.self.list
           k range taken step (noted_of c) replied c.is_calm-calm.ensures
           (c.push-2.ensures ∙ ap (λ (xs : List Turn). xs ++ record c.args.step.turn { calm = c.is_calm-calm.result } ∷ []) c.reserve-2.ensures.list),
       c.append.ensures.monitors ∙ ap (λ (v : JournalView). v.monitors) c.push.ensures ∙ c.reserve.ensures.monitors ∙ c.self.invariant.1,

@@ -14,8 +14,8 @@ use Rattle.tk_journal.specs.declared.noted.Noted.{Noted}
 use Rattle.tk_coord.specs.Coordinator.{CoordinatorView}
 use Rattle.tk_coord.specs.Steps.{Follows, IsCounted, IsStep, Tells, report_frame}
 use Rattle.tk_coord.specs.declared.step.Step.{Step}
-use Rattle.tk_coord.specs.declared.step.Told.{Told}
-use Rattle.tk_coord.specs.declared.step.Told.TheVariants as told
+use Rattle.tk_coord.specs.declared.step.Statement.{Statement}
+use Rattle.tk_coord.specs.declared.step.Statement.TheVariants as stated
 use Rattle.tk_journal.specs.declared.turn.TurnKind.TheVariants.{Note, Stale}
 use Rattle.tk_coord.proofs.CountedTurns.{counts_quiet, noted_report_counts, stale_report_counts}
 use Rattle.tk_coord.proofs.GrowLemmas.{orderly_at}
@@ -26,9 +26,9 @@ use Rattle.tk_coord.proofs.TellLemmas.{report_stale, report_tells}
 use Rattle.tk_coord.proofs.coordinator.Coordinator.on_report.Goals as goal
 
 -- a step, by what its frame tells
-step_of : (s : Setup) (j : List Noted) (mon : Mon) (frame : Frame) (t : Told) (step : Step) → step.told ≡ t → Tells s j mon frame t → Follows s j mon frame step.outcome
+step_of : (s : Setup) (j : List Noted) (mon : Mon) (frame : Frame) (t : Statement) (step : Step) → step.statement ≡ t → Tells s j mon frame t → Follows s j mon frame step.outcome
     → IsCounted s j mon.0 frame step.turn.kind step.turn.fails step.turn.widens → IsStep s j mon frame step
-step_of s j mon frame t step is tells follows counts = record { told = subst (λ (x : Told). Tells s j mon frame x) (sym is) tells; outcome = follows; counted = counts }
+step_of s j mon frame t step is tells follows counts = record { told = subst (λ (x : Statement). Tells s j mon frame x) (sym is) tells; outcome = follows; counted = counts }
 
 -- a Report that is not stale is fresh
 fresh_of : (s : Setup) (j : List Noted) (mon : Mon) (seq : ℕ) (border : ℤ) (failed : List ℕ) (values : List (ℕ × ℤ)) → refusal_of s j mon.0 (f.Report seq border failed values) ≡ None
@@ -45,8 +45,8 @@ returns-then-is_stale c =
     let none : refusal_of s j mon.0 frame ≡ None = subst (λ (x : Frame). refusal_of s j mon.0 x ≡ None) r.is c.requires.taken in
     let late : nat_lt r.seq (assigns_sent mon.0 j) ≡ true = sym c.is_stale.ensures.value ∙ c.if-is_stale.true in
     subst (λ (x : Frame). IsStep s j mon x c.quiet.result) (sym r.is)
-    (step_of s j mon frame told.Nothing c.quiet.result c.quiet.ensures.told (report_stale s j mon r.seq r.border r.failed r.values (ltb-true r.seq (assigns_sent mon.0 j) late))
-    (stale_report_follows s j mon r.seq r.border r.failed r.values c.quiet.result.outcome c.is_stale.ensures.journal c.requires.monitor none late c.quiet.ensures.entries c.quiet.ensures.reply c.quiet.ensures.standing)
+    (step_of s j mon frame stated.Nothing c.quiet.result c.quiet.ensures.statement (report_stale s j mon r.seq r.border r.failed r.values (ltb-true r.seq (assigns_sent mon.0 j) late))
+    (stale_report_follows s j mon r.seq r.border r.failed r.values c.quiet.result.outcome c.is_stale.ensures.journal c.requires.monitor none late c.quiet.ensures.entries c.quiet.ensures.reply c.quiet.ensures.phase)
     (counts_quiet s j mon.0 frame c.quiet.result.turn Stale c.quiet.ensures.turn (stale_report_counts s j mon.0 r.seq r.border r.failed r.values late)))
 
 pub returns-then-self : goal.returns-then-self
@@ -61,9 +61,9 @@ returns-then-self c =
     let late : nat_lt r.seq (assigns_sent mon.0 j) ≡ false = sym c.is_stale.ensures.value ∙ c.if-is_stale.false in
     let opened : is_open s j ≡ true = sym (ap (λ (v : CoordinatorView). is_open v.settings v.journal) c.self.view_is) ∙ sym c.self.invariant.0.holds.round.waiting ∙ c.if-self.true in
     subst (λ (x : Frame). IsStep s j mon x q.result) (sym r.is)
-    (step_of s j mon frame told.Report q.result q.ensures.told
+    (step_of s j mon frame stated.Report q.result q.ensures.statement
     (report_tells s j mon r.seq r.border r.failed r.values (orderly_at s j c.is_stale.ensures.journal) none (fresh_of s j mon r.seq r.border r.failed r.values none late))
-    (noted_report_follows s j mon r.seq r.border r.failed r.values q.result.outcome c.is_stale.ensures.journal c.requires.monitor none late opened q.ensures.entries q.ensures.reply q.ensures.standing)
+    (noted_report_follows s j mon r.seq r.border r.failed r.values q.result.outcome c.is_stale.ensures.journal c.requires.monitor none late opened q.ensures.entries q.ensures.reply q.ensures.phase)
     (counts_quiet s j mon.0 frame q.result.turn Note q.ensures.turn (noted_report_counts s j mon r.seq r.border r.failed r.values none late opened)))
 
 -- the frame, by what it reports

@@ -1,11 +1,11 @@
-use Rattle.std.proofs.Common.{FitsSigned, to_z, of_z, rules, ◌≡◌, ◌-◌, ◌<◌, ℕ, suc, ℤ, true, false, List, length, set, None, refl, sym, ap, ◌∙◌, subst, arith, inl, inr}
+use Rattle.std.proofs.Common.{FitsSigned, to_z, of_z, rules, ◌≡◌, ◌≢◌, ◌-◌, ◌<◌, ℕ, suc, ℤ, true, false, List, length, set, None, Some, refl, sym, ap, ◌∙◌, subst, arith, inl, inr}
 use Rattle.std.specs.Global.{Vec}
 use Rattle.std.specs.Int.{w128}
 use Rattle.std.specs.Prelude.{slice_get}
 use Rattle.std.specs.Vec.{with_item}
 use Rattle.std.proofs.lemmas.Bool.{true≢false}
 use Rattle.std.proofs.lemmas.Int.{to_z-of_z}
-use Rattle.std.proofs.lemmas.List.{get_or-set_same, length-set}
+use Rattle.std.proofs.lemmas.List.{length-set}
 use Rattle.tk_base.specs.Settings.{Setup}
 use Rattle.tk_base.specs.declared.ids.Mon.{Mon}
 use Rattle.tk_frames.specs.declared.frame.Frame.{Frame}
@@ -19,19 +19,23 @@ use Rattle.tk_journal.specs.declared.turn.TurnKind.TheVariants.{End, Note}
 use Rattle.tk_journal.specs.declared.turn.Turn.{Turn}
 use Rattle.tk_coord.specs.Coordinator.{CoordinatorView}
 use Rattle.tk_coord.specs.Kept.{IsKept}
-use Rattle.tk_coord.specs.State.{AreLinks, Holds, Stands}
-use Rattle.tk_coord.specs.Steps.{IsStep, Tells, asks_wide}
-use Rattle.tk_coord.specs.declared.standing.Standing.{Standing}
+use Rattle.tk_coord.specs.State.{ArePeers, Holds, IsRound, Stands}
+use Rattle.tk_coord.specs.Steps.{IsStep, Tells, step_with}
+use Rattle.tk_coord.specs.declared.phase.Phase.{Phase}
 use Rattle.tk_coord.specs.declared.state.State.{State}
 use Rattle.tk_coord.specs.declared.step.Step.{Step}
-use Rattle.tk_coord.specs.declared.step.Told.TheVariants as told
+use Rattle.tk_coord.specs.declared.step.Statement.TheVariants as stated
 use Rattle.tk_coord.proofs.CountedTurns.{counts_quiet, end_is_counted, more_counts}
 use Rattle.tk_coord.proofs.ElementLemmas.{read_set}
 use Rattle.tk_coord.proofs.GrowLemmas.{orderly_at}
-use Rattle.tk_coord.proofs.LinkReadings.{one_waits}
-use Rattle.tk_coord.proofs.TellLemmas.{values_tells, values_waited}
+use Rattle.tk_coord.proofs.PeerReadings.{one_waits}
+use Rattle.tk_coord.proofs.TellLemmas.{last_tells, more_tells, values_waited}
 use Rattle.tk_coord.proofs.ValuesTurns.{AreLast, Values, can_end_full, can_end_wide, end_follows, frame_of, last_values, more_follows}
 use Rattle.tk_coord.proofs.coordinator.Coordinator.on_values.Goals as goal
+use Rattle.tk_coord.specs.Grounds.{IsGrounded}
+use Rattle.tk_coord.specs.declared.peer.Peer.{Peer}
+use Rattle.tk_coord.specs.declared.outcomes.Grounds.{Grounds}
+use Rattle.tk_coord.specs.declared.round.Round.{Round}
 
 -- a frame that is taken, as the coordinator keeps its settings and its journal
 taken_in : (v w : CoordinatorView) (mon : ℕ) (frame now : Frame) → v ≡ w → now ≡ frame → refusal_of w.settings w.journal mon now ≡ None → refusal_of v.settings v.journal mon frame ≡ None
@@ -71,7 +75,7 @@ holds_scratch s j state gathered mon r m waits is holds =
     record {
       members = holds.members;
       table = holds.table;
-      links = holds.links;
+      peers = holds.peers;
       round = record {
         number = round.number;
         waiting = round.waiting;
@@ -88,10 +92,22 @@ holds_scratch s j state gathered mon r m waits is holds =
       };
     }
 
--- what else is kept stands
-kept_with : {s : Setup} {j : List Noted} {state : State} {standing : Standing} {turns : List Turn} {gathered : Vec Reported} → IsKept s j state standing turns → Holds s j (record state { gathered = gathered })
-    → IsKept s j (record state { gathered = gathered }) standing turns
-kept_with k holds = record { journal = k.journal; holds = holds; stands = k.stands; entries = k.entries; turned = k.turned }
+-- the report that is written there
+abbrev written_in : Mon → List (ℕ × ℤ) → ℤ → Reported
+written_in mon values border = record { mon = mon; values = values; border = to_z w128 (of_z w128 border) }
+
+-- what is kept stands, with the last report in its place
+kept_with : {seen now : CoordinatorView} {state : State} {phase : Phase} {turns : List Turn} {frame : Frame} (v : Values) (r : Reported) → seen ≡ now → frame ≡ frame_of v
+    → refusal_of now.settings now.journal v.mon.0 frame ≡ None → IsMonitor now.settings v.mon.0 → IsKept seen.settings seen.journal state phase turns
+    → IsKept seen.settings seen.journal (record state { gathered = with_item state.gathered (v.mon.0 - 1) r }) phase turns
+kept_with {seen} {now} {state} v r see is none range k = record {
+  journal = k.journal;
+  holds = holds_scratch seen.settings seen.journal state (with_item state.gathered (v.mon.0 - 1) r) v.mon.0 r (subst (λ (x : CoordinatorView). IsMonitor x.settings v.mon.0) (sym see) range)
+      (waited v.mon see is none) refl k.holds;
+  stands = k.stands;
+  entries = k.entries;
+  turned = k.turned;
+}
 
 pub returns-then-not-waits_for_no_other-clause-step :
     goal.returns-then-not-waits_for_no_other-clause-step
@@ -109,74 +125,62 @@ returns-then-not-waits_for_no_other-clause-step c =
     let none = taken_in v c.args.self.now mon.0 frame c.args.frame.now c.self.view_is c.in-Values.is c.requires.taken in
     let other = c.if-not-waits_for_no_other.ensures.some in
     let there = ap (λ ls. slice_get ls other.0) (sym c.as_slice.ensures.value) ∙ other.3 in
-    let opened = one_waits o.settings o.journal.entries o.state.links.items mon number seq border values other.0 other.1 c.self.invariant.0.holds.links range other.2 there other.4 in
-    let tells : c.quiet.result.told ≡ told.Values (report_with mon values border) true =
-    c.quiet.ensures.told ∙ ap (λ r. told.Values r true) (report_by mon values c.in_ok-try_clone.field-0 border c.in_ok-try_clone.ensures fits) in
+    let opened = one_waits o.settings o.journal.entries o.state.peers.items mon number seq border values other.0 other.1 c.self.invariant.0.holds.peers range other.2 there other.4 in
+    let tells : c.quiet.result.statement ≡ stated.Values (report_with mon values border) =
+    c.quiet.ensures.statement ∙ ap stated.Values (report_by mon values c.in_ok-try_clone.field-0 border c.in_ok-try_clone.ensures fits) in
     step_in v c.args.self.now mon frame c.args.frame.now c.quiet.result c.self.view_is c.in-Values.is (record {
       told = subst (Tells o.settings o.journal.entries mon frame) (sym tells)
-          (values_tells o.settings o.journal.entries mon number seq border values true (orderly_at o.settings o.journal.entries c.self.invariant.0.journal) none opened);
+          (more_tells o.settings o.journal.entries mon number seq border values (orderly_at o.settings o.journal.entries c.self.invariant.0.journal) none opened);
       outcome = more_follows o.settings o.journal.entries mon number seq border values c.quiet.result.outcome c.self.invariant.0.journal range none opened
-          c.quiet.ensures.entries c.quiet.ensures.reply (subst (λ (x : CoordinatorView). Stands x.settings x.journal c.quiet.result.outcome.standing) (sym c.self.view_is) c.quiet.ensures.standing);
+          c.quiet.ensures.entries c.quiet.ensures.reply (subst (λ (x : CoordinatorView). Stands x.settings x.journal c.quiet.result.outcome.phase) (sym c.self.view_is) c.quiet.ensures.phase);
       counted = counts_quiet o.settings o.journal.entries mon.0 frame c.quiet.result.turn Note c.quiet.ensures.turn (more_counts o.settings o.journal.entries mon number seq border values opened);
     })
 
 -- the Values that are taken, with the report in its place, are the last of their round
-last_at : (c : goal.After-as_slice-2)
-    → AreLast c.self.inside.settings c.self.inside.journal.entries c.grounds-grounds.result (values_in (c.args.mon) c.in-Values.round c.in-Values.seq c.in-Values.border c.in-Values.values)
-    c.as_slice-2.result.now c.self.inside.state.round.wide
-last_at c =
-    let o = c.self.inside in
-    let s = o.settings in
-    let j = o.journal.entries in
-    let mon = c.args.mon in
-    let v = values_in mon c.in-Values.round c.in-Values.seq c.in-Values.border c.in-Values.values in
-    let fits : FitsSigned w128 v.border = search rules in
-    let range : IsMonitor s mon.0 = subst (λ (x : CoordinatorView). IsMonitor x.settings mon.0) (sym c.self.view_is) c.requires.monitor in
-    let none = taken_in (record { settings = s; journal = j }) c.args.self.now mon.0 (frame_of v) c.args.frame.now c.self.view_is c.in-Values.is c.requires.taken in
-    let placed : c.replace-before.new.dest ≡ report_with mon v.values v.border =
-    c.replace-before.ensures.after ∙ report_by mon v.values c.in_ok-try_clone.field-0 v.border c.in_ok-try_clone.ensures fits in
-    last_values s j c.grounds-grounds.result v c.as_slice-2.result.now c.as_slice.result.now o.state.round o.state.gathered.items c.grounds-grounds.ensures
-    (subst (AreLinks s j) (sym c.as_slice.ensures.value) c.self.invariant.0.holds.links) c.self.invariant.0.holds.round range none c.if-not-waits_for_no_other.ensures.none
-    (c.as_slice-2.ensures.value ∙ ap (λ r. set o.state.gathered.items (mon.0 - 1) r) placed)
+last_with : {seen now : CoordinatorView} {g : Grounds} (v : Values) {frame : Frame} {passed : List (ℕ × ℤ)} {reports : List Reported} {peers kept : List Peer} {round : Round} {gathered : List Reported}
+    → seen ≡ now → frame ≡ frame_of v → refusal_of now.settings now.journal v.mon.0 frame ≡ None → IsMonitor now.settings v.mon.0 → passed ≡ v.values → FitsSigned w128 v.border
+    → IsGrounded seen.settings seen.journal g → peers ≡ kept → ArePeers seen.settings seen.journal kept → IsRound seen.settings seen.journal round gathered
+    → ((i : ℕ) (l : Peer) → i ≢ v.mon.0 - 1 → slice_get peers i ≡ Some l → l.waits ≡ false) → reports ≡ set gathered (v.mon.0 - 1) (written_in v.mon passed v.border)
+    → AreLast seen.settings seen.journal g v reports round.wide
+last_with {seen} {now} {g} v {frame} {passed} {reports} {peers} {kept} {round} {gathered} see is none range same fits grounds are are_peers told others written =
+    last_values seen.settings seen.journal g v reports peers round gathered grounds (subst (ArePeers seen.settings seen.journal) (sym are) are_peers) told
+    (subst (λ (x : CoordinatorView). IsMonitor x.settings v.mon.0) (sym see) range) (taken_in seen now v.mon.0 (frame_of v) frame see is none) others
+    (written ∙ ap (λ r. set gathered (v.mon.0 - 1) r) (report_by v.mon v.values passed v.border same fits))
 
-pub end_round-outcome-requires-clause-all : goal.end_round-outcome-requires-clause-all
-end_round-outcome-requires-clause-all c = can_end_wide _ _ _ _ _ _ (last_at c)
+pub end_round-requires-clause-all : goal.end_round-requires-clause-all
+end_round-requires-clause-all c =
+    let fits : FitsSigned w128 c.in-Values.border = search rules in
+    can_end_wide _ _ _ _ _ _ (last_with (values_in c.args.mon c.in-Values.round c.in-Values.seq c.in-Values.border c.in-Values.values) c.self.view_is c.in-Values.is c.requires.taken c.requires.monitor
+    c.in_ok-try_clone.ensures fits c.grounds-grounds.ensures c.as_slice.ensures.value c.self.invariant.0.holds.peers c.self.invariant.0.holds.round
+    c.if-not-waits_for_no_other.ensures.none c.as_slice-2.ensures.value)
 
-pub end_round-outcome-requires-clause-some : goal.end_round-outcome-requires-clause-some
-end_round-outcome-requires-clause-some c = can_end_full _ _ _ _ _ _ (last_at c)
+pub end_round-requires-clause-some : goal.end_round-requires-clause-some
+end_round-requires-clause-some c =
+    let fits : FitsSigned w128 c.in-Values.border = search rules in
+    can_end_full _ _ _ _ _ _ (last_with (values_in c.args.mon c.in-Values.round c.in-Values.seq c.in-Values.border c.in-Values.values) c.self.view_is c.in-Values.is c.requires.taken c.requires.monitor
+    c.in_ok-try_clone.ensures fits c.grounds-grounds.ensures c.as_slice.ensures.value c.self.invariant.0.holds.peers c.self.invariant.0.holds.round
+    c.if-not-waits_for_no_other.ensures.none c.as_slice-2.ensures.value)
 
 pub invariant_of-self : goal.invariant_of-self
-invariant_of-self c =
-    let o = c.self.inside in
-    let mon = c.args.mon in
-    let range : IsMonitor o.settings mon.0 = subst (λ (x : CoordinatorView). IsMonitor x.settings mon.0) (sym c.self.view_is) c.requires.monitor in
-    let waits = waited mon c.self.view_is c.in-Values.is c.requires.taken in
-    let written = holds_scratch o.settings o.journal.entries o.state (with_item o.state.gathered (mon.0 - 1) c.replace-before.new.dest) mon.0 c.replace-before.new.dest range waits refl c.self.invariant.0.holds in
-    (kept_with c.self.invariant.0 written, c.self.invariant.1)
+invariant_of-self c = (
+  kept_with (values_in c.args.mon c.in-Values.round c.in-Values.seq c.in-Values.border c.in-Values.values) (written_in c.args.mon c.in_ok-try_clone.field-0 c.in-Values.border)
+      c.self.view_is c.in-Values.is c.requires.taken c.requires.monitor c.self.invariant.0,
+  c.self.invariant.1,
+)
 
 pub invariant_of-self-in_err-outcome : goal.invariant_of-self-in_err-outcome
-invariant_of-self-in_err-outcome c =
-    let o = c.self.inside in
-    let mon = c.args.mon in
-    let range : IsMonitor o.settings mon.0 = subst (λ (x : CoordinatorView). IsMonitor x.settings mon.0) (sym c.self.view_is) c.requires.monitor in
-    let waits = waited mon c.self.view_is c.in-Values.is c.requires.taken in
-    let first : State = record o.state { gathered = with_item o.state.gathered (mon.0 - 1) c.replace-before.new.dest } in
-    let written : Holds o.settings o.journal.entries first =
-    holds_scratch o.settings o.journal.entries o.state first.gathered mon.0 c.replace-before.new.dest range waits refl c.self.invariant.0.holds in
-    let again = holds_scratch o.settings o.journal.entries first (with_item first.gathered (mon.0 - 1) c.replace-report.new.dest) mon.0 c.replace-report.new.dest range waits refl written in
-    (kept_with c.self.invariant.0 again, c.self.invariant.1)
+invariant_of-self-in_err-outcome c = (
+  kept_with (values_in c.args.mon c.in-Values.round c.in-Values.seq c.in-Values.border c.in-Values.values) (written_in c.args.mon c.in_ok-try_clone.field-0 c.in-Values.border)
+      c.self.view_is c.in-Values.is c.requires.taken c.requires.monitor c.self.invariant.0,
+  c.self.invariant.1,
+)
 
 pub invariant_of-self-2 : goal.invariant_of-self-2
-invariant_of-self-2 c =
-    let o = c.self.inside in
-    let mon = c.args.mon in
-    let range : IsMonitor o.settings mon.0 = subst (λ (x : CoordinatorView). IsMonitor x.settings mon.0) (sym c.self.view_is) c.requires.monitor in
-    let waits = waited mon c.self.view_is c.in-Values.is c.requires.taken in
-    let first : State = record o.state { gathered = with_item o.state.gathered (mon.0 - 1) c.replace-before.new.dest } in
-    let written : Holds o.settings o.journal.entries first =
-    holds_scratch o.settings o.journal.entries o.state first.gathered mon.0 c.replace-before.new.dest range waits refl c.self.invariant.0.holds in
-    let again = holds_scratch o.settings o.journal.entries first (with_item first.gathered (mon.0 - 1) c.replace-report.new.dest) mon.0 c.replace-report.new.dest range waits refl written in
-    (kept_with c.self.invariant.0 again, c.self.invariant.1)
+invariant_of-self-2 c = (
+  kept_with (values_in c.args.mon c.in-Values.round c.in-Values.seq c.in-Values.border c.in-Values.values) (written_in c.args.mon c.in_ok-try_clone.field-0 c.in-Values.border)
+      c.self.view_is c.in-Values.is c.requires.taken c.requires.monitor c.self.invariant.0,
+  c.self.invariant.1,
+)
 
 pub returns-clause-step : goal.returns-clause-step
 returns-clause-step c =
@@ -186,28 +190,15 @@ returns-clause-step c =
     let mon = c.args.mon in
     let v = values_in mon c.in-Values.round c.in-Values.seq c.in-Values.border c.in-Values.values in
     let fits : FitsSigned w128 v.border = search rules in
-    let range : IsMonitor s mon.0 = subst (λ (x : CoordinatorView). IsMonitor x.settings mon.0) (sym c.self.view_is) c.requires.monitor in
     let none = taken_in (record { settings = s; journal = j }) c.args.self.now mon.0 (frame_of v) c.args.frame.now c.self.view_is c.in-Values.is c.requires.taken in
-    let placed : c.replace-before.new.dest ≡ report_with mon v.values v.border =
-    c.replace-before.ensures.after ∙ report_by mon v.values c.in_ok-try_clone.field-0 v.border c.in_ok-try_clone.ensures fits in
-    let last = last_values s j c.grounds-grounds.result v c.as_slice-2.result.now c.as_slice.result.now o.state.round o.state.gathered.items c.grounds-grounds.ensures
-    (subst (AreLinks s j) (sym c.as_slice.ensures.value) c.self.invariant.0.holds.links) c.self.invariant.0.holds.round range none c.if-not-waits_for_no_other.ensures.none
-    (c.as_slice-2.ensures.value ∙ ap (λ r. set o.state.gathered.items (mon.0 - 1) r) placed) in
-    let within : mon.0 - 1 < length o.state.gathered.items = (let count = c.self.invariant.0.holds.round.count in omega (arith, range.from_one, range.within, count)) in
-    let tells : c.replace-report.result ≡ report_with mon v.values v.border =
-    c.replace-report.ensures.value ∙ c.index_mut-2.ensures.value
-    ∙ get_or-set_same o.state.gathered.items (mon.0 - 1) c.replace-before.new.dest c.index_mut-2.result.now within ∙ placed in
-    let outcome = c.in_ok-outcome.field-0 in
+    let last = last_with v c.self.view_is c.in-Values.is c.requires.taken c.requires.monitor
+    c.in_ok-try_clone.ensures fits c.grounds-grounds.ensures c.as_slice.ensures.value c.self.invariant.0.holds.peers c.self.invariant.0.holds.round
+    c.if-not-waits_for_no_other.ensures.none c.as_slice-2.ensures.value in
+    let outcome = c.in_ok-outcome.outcome in
     let e = c.in_ok-outcome.ensures in
-    let step : Step = record {
-      told = told.Values c.replace-report.result false;
-      outcome = outcome;
-      turn = record { kind = End; fails = false; widens = asks_wide outcome.reply; calm = false };
-    } in
     subst (λ (x : Step). IsStep c.args.self.now.settings c.args.self.now.journal mon c.args.frame.now x) (sym c.step.ensures)
-    (step_in (record { settings = s; journal = j }) c.args.self.now mon (frame_of v) c.args.frame.now step c.self.view_is c.in-Values.is (record {
-      told = subst (λ r. Tells s j mon (frame_of v) (told.Values r false)) (sym tells)
-          (values_tells s j mon v.round v.seq v.border v.values false (orderly_at s j c.self.invariant.0.journal) none last.closed);
+    (step_in (record { settings = s; journal = j }) c.args.self.now mon (frame_of v) c.args.frame.now (step_with outcome stated.LastValues End false) c.self.view_is c.in-Values.is (record {
+      told = last_tells s j mon v.round v.seq v.border v.values (orderly_at s j c.self.invariant.0.journal) none last.closed;
       outcome = end_follows s j c.grounds-grounds.result v c.as_slice-2.result.now o.state.round.wide outcome last e.all e.some e.entries;
       counted = end_is_counted s j c.grounds-grounds.result v c.as_slice-2.result.now o.state.round.wide outcome last e.all e.some;
     }))

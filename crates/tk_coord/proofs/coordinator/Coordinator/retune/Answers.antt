@@ -85,12 +85,12 @@ invariant_of-self-2 c =
     let asked = tuned_is_asked s j k e next outcome kept.journal r opens in
     let turn = turn_is c in
     let after = c.append.new.self.entries in
-    let holds : Holds s after c.reply.new.self = subst (λ (b : List Noted). Holds s b c.reply.new.self) (sym turn)
-    (retuned_holds s j outcome.entries.items k e f.state c.reply.new.self outcome.reply asked.0 asked.1 kept.holds c.reply.ensures) in (
+    let holds : Holds s after c.reply-2.new.self = subst (λ (b : List Noted). Holds s b c.reply-2.new.self) (sym turn)
+    (retuned_holds s j outcome.entries.items k e f.state c.reply-2.new.self outcome.reply asked.0 asked.1 kept.holds c.reply-2.ensures) in (
       record {
         journal = subst (IsJournal s) (sym turn) (journal_retuned s j k e kept.journal r.accepted);
         holds = holds;
-        stands = subst (λ (b : List Noted). Stands s b (record outcome.standing { next = next })) (sym turn) (retuned_stands s j k e outcome.standing next kept.journal opens.stands r);
+        stands = subst (λ (b : List Noted). Stands s b (record outcome.phase { next = next })) (sym turn) (retuned_stands s j k e outcome.phase next kept.journal opens.stands r);
         entries = more_entries s j after outcome.entries.items (Tuned c.k.result c.in-Ok-Ok.kept) kept.entries tt opens.range (noted_of c);
         turned = turns_retuned s j after k e c.is_calm-calm.result f.turns.list _ r.accepted turn (c.is_calm-calm.ensures s after holds) kept.turned
             (c.push-2.ensures ∙ ap₂ (λ (xs : List Turn) (t : Turn). xs ++ t ∷ []) c.reserve-2.ensures.list c.retune_turn.ensures);

@@ -11,5 +11,5 @@ returns c =
     let s = c.args.self.now.settings in
     let j = c.args.self.now.journal in
     let g = c.grounds-grounds.result in
-    both_ok (OpensWide g.standing g.rounds) (λ o. All (IsEntryOf g.standing.settings.monitors s.objects) o.entries.items) (OpensOver s j) c.open_wide.result
+    both_ok (OpensWide g.phase g.rounds) (λ o. All (IsEntryOf g.phase.settings.monitors s.objects) o.entries.items) (OpensOver s j) c.open_wide.result
     (λ outcome. opened_over s j g outcome c.grounds-grounds.ensures) c.open_wide.ensures.opens (c.open_wide.ensures.entries s.objects)

@@ -1,4 +1,4 @@
-use Rattle.std.proofs.Common.{◌≡◌, ◌++◌, ap, refl, subst, Some}
+use Rattle.std.proofs.Common.{rules, ◌≡◌, ◌++◌, ap, refl, subst, Some}
 use Rattle.tk_hub.specs.VisitorInside.{IsAsLong, IsFront, bytes_of}
 use Rattle.tk_hub.proofs.VisitorLemmas.{read_is_long, says_judged, says_unread}
 use Rattle.tk_hub.proofs.visitor.Visitor.greeting.Goals as goal
@@ -16,3 +16,10 @@ returns-clause-some g c =
       | in-None+in-Ok-Some w ↦ read_is_long w.in-Ok-Some.field-0 c.match-take.frame c.self.inside.came.bytes w.read.new.came.bytes (cc) w.in-Ok-Some.ensures.answer
     ] in
     says_judged c.args.run c.match-take.frame c.judge-greeting.result _ c.match-take.self-inside.came.bytes c.judge-greeting.ensures long refl
+
+-- the frame is kept in front of what came
+pub invariant_of-self-2 : goal.invariant_of-self-2
+invariant_of-self-2 g c = elim c.match-take.branch [
+  | in-Some w ↦ (search rules)
+  | in-None+in-Ok-Some w ↦ (search rules)
+]

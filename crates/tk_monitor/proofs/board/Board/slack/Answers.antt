@@ -4,14 +4,14 @@ use Rattle.std.specs.Int.{w128}
 use Rattle.std.proofs.lemmas.Int.{ints}
 use Rattle.tk_border.specs.Levels.{least_member, greatest_outside}
 use Rattle.tk_trail.specs.Slack.{difference}
-use Rattle.tk_monitor.specs.Board.{Standing}
+use Rattle.tk_monitor.specs.Board.{BoardView}
 use Rattle.tk_monitor.proofs.BoardLemmas.{board_small, no_members, small_greatest}
 use Rattle.tk_monitor.proofs.board.Board.slack.Goals as goal
 
 pub returns-then-len-eq0 : goal.returns-then-len-eq0
 returns-then-len-eq0 c =
     let now = c.args.self.now in
-    let none : length now.members ≡ 0 = sym (ap (λ (s : Standing). length s.members) c.self.view_is) ∙ sym c.len.ensures.value ∙ c.if-len-eq0.true in
+    let none : length now.members ≡ 0 = sym (ap (λ (s : BoardView). length s.members) c.self.view_is) ∙ sym c.len.ensures.value ∙ c.if-len-eq0.true in
     sym (ap (λ least. difference least (greatest_outside now.levels now.members)) (no_members now.levels now.members none))
 
 pub overflow_sub-result : goal.overflow_sub-result
@@ -36,4 +36,4 @@ returns c =
     let greatest : greatest_outside inside.rank.levels inside.members ≡ Some g = ap (greatest_outside inside.rank.levels) (sym same) ∙ above in
     ap Some value
     ∙ sym (ap₂ difference least greatest)
-    ∙ ap (λ (s : Standing). difference (least_member s.levels s.members) (greatest_outside s.levels s.members)) c.self.view_is
+    ∙ ap (λ (s : BoardView). difference (least_member s.levels s.members) (greatest_outside s.levels s.members)) c.self.view_is

@@ -9,4 +9,4 @@ pub returns : goal.returns
 returns c =
     let inside = c.self.inside in
     let setup : MonitorSetup = record { number = inside.number.0; objects = inside.settings.objects; parts = inside.parts.items; from = inside.from } in
-    c.is_broken.ensures ∙ kept_broken setup inside.log.entries inside.board c.self.invariant.standing ∙ ap (λ (m : MonitorView). is_broken m.setup m.trail) c.self.view_is
+    c.is_broken.ensures ∙ kept_broken setup inside.trail.entries inside.board c.self.invariant.standing ∙ ap (λ (m : MonitorView). is_broken m.setup m.trail) c.self.view_is

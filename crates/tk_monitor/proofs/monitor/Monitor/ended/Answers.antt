@@ -9,4 +9,4 @@ pub returns : goal.returns
 returns c =
     let inside = c.self.inside in
     let setup : MonitorSetup = record { number = inside.number.0; objects = inside.settings.objects; parts = inside.parts.items; from = inside.from } in
-    ap (λ n. n == 0) c.raises.ensures ∙ kept_ends setup inside.log inside.board inside.next.items inside.phase c.self.invariant ∙ ap (λ (m : MonitorView). at_ends m.setup m.trail) c.self.view_is
+    ap (λ n. n == 0) c.raises.ensures ∙ kept_ends setup inside.trail inside.board inside.next.items inside.phase c.self.invariant ∙ ap (λ (m : MonitorView). at_ends m.setup m.trail) c.self.view_is

@@ -7,7 +7,7 @@ use Rattle.tk_monitor.specs.Monitored.{MonitorView}
 use Rattle.tk_border.specs.Levels.{level_at}
 use Rattle.tk_trail.specs.Readings.{level_of}
 use Rattle.tk_trail.proofs.LevelsLemmas.{level_at-levels_of}
-use Rattle.tk_monitor.specs.Board.{Standing}
+use Rattle.tk_monitor.specs.Board.{BoardView}
 use Rattle.tk_monitor.proofs.KeptLemmas.{kept_size}
 use Rattle.tk_monitor.proofs.monitor.Monitor.level.Goals as goal
 
@@ -18,7 +18,7 @@ level-requires c =
     let size : inside.settings.objects ≡ c.args.self.now.setup.objects = ap (λ (m : MonitorView). m.setup.objects) c.self.view_is in
     record {
       from_one = c.requires.from_one;
-      within = omega (arith, c.requires.within, size, kept_size setup inside.log.entries inside.board c.self.invariant.standing);
+      within = omega (arith, c.requires.within, size, kept_size setup inside.trail.entries inside.board c.self.invariant.standing);
     }
 
 pub returns : goal.returns
@@ -29,6 +29,6 @@ returns c =
     let fits : FitsSigned w128 c.level.result = omega (arith, ints) in
     to_z-of_z w128 c.level.result fits
     ∙ c.level.ensures
-    ∙ ap (λ (s : Standing). level_at s.levels c.args.o.0) c.self.invariant.standing
-    ∙ level_at-levels_of setup inside.log.entries c.args.o.0 c.requires.from_one (omega (arith, c.requires.within, size))
+    ∙ ap (λ (s : BoardView). level_at s.levels c.args.o.0) c.self.invariant.standing
+    ∙ level_at-levels_of setup inside.trail.entries c.args.o.0 c.requires.from_one (omega (arith, c.requires.within, size))
     ∙ ap (λ (m : MonitorView). level_of m.setup m.trail c.args.o.0) c.self.view_is

@@ -6,8 +6,8 @@ use Rattle.tk_trail.specs.Setup.{MonitorSetup}
 use Rattle.tk_trail.specs.Readings.{places_at}
 use Rattle.tk_trail.specs.Legal.{IsLegal}
 use Rattle.tk_trail.proofs.PlacesLemmas.{places_at-start}
-use Rattle.tk_monitor.specs.Board.{Standing}
-use Rattle.tk_monitor.specs.Log.{Logged}
+use Rattle.tk_monitor.specs.Board.{BoardView}
+use Rattle.tk_monitor.specs.Trail.{TrailView}
 use Rattle.tk_monitor.specs.Kept.{standing_of, phase_of, left_in}
 use Rattle.tk_monitor.specs.Start.{StandsAt}
 use Rattle.tk_monitor.proofs.StartLemmas.{start_standing, start_legal}
@@ -19,10 +19,10 @@ invariant_of-result c =
     let setup : MonitorSetup = record { number = c.args.mon.0; objects = n; parts = c.args.parts.items; from = c.in_ok-from.from } in
     let limits = c.objects.ensures.limits in
     let from : c.in_ok-from.from ≡ c.args.from.now = c.in_ok-from.ensures in
-    let log : c.in_ok-log.log ≡ record { entries = []; raises = c.left_of-left.result; spare = 0 } = c.in_ok-log.ensures in
-    let entries : c.in_ok-log.log.entries ≡ [] = ap (λ (l : Logged). l.entries) log in
+    let trail : c.in_ok-trail.trail ≡ record { entries = []; raises = c.left_of-left.result; spare = 0 } = c.in_ok-trail.ensures in
+    let entries : c.in_ok-trail.trail.entries ≡ [] = ap (λ (l : TrailView). l.entries) trail in
     let next : c.in_ok-next.next.items ≡ c.args.from.now = c.in_ok-next.ensures.next in
-    let zeros : length c.in_ok-board.board.levels ≡ n = ap (λ (s : Standing). length s.levels) c.in_ok-board.ensures ∙ length-replicate {A = ℤ} c.objects.result (pos 0) ∙ c.objects.ensures.value in
+    let zeros : length c.in_ok-board.board.levels ≡ n = ap (λ (s : BoardView). length s.levels) c.in_ok-board.ensures ∙ length-replicate {A = ℤ} c.objects.result (pos 0) ∙ c.objects.ensures.value in
     let stands : StandsAt n c.args.parts.items c.in_ok-from.from c.start.new.board =
     subst (λ (k : ℕ). StandsAt k c.args.parts.items c.in_ok-from.from c.start.new.board) zeros
     (subst (λ (ps : List (List (ℕ × ℤ))). StandsAt (length c.in_ok-board.board.levels) ps c.in_ok-from.from c.start.new.board) c.as_slice.ensures.value
@@ -39,7 +39,7 @@ invariant_of-result c =
       standing = start_standing setup c.start.new.board stands ∙ ap (standing_of setup) (sym entries);
       phase_is = ap phase_of (sym entries);
       room =
-          ap (λ (l : Logged). l.raises) log
+          ap (λ (l : TrailView). l.raises) trail
           ∙ c.left_of-left.ensures.value
           ∙ ap₂ (λ (ps : List (List (ℕ × ℤ))) (ns : List ℕ). left_in ps ns) c.as_slice-2.ensures.value c.as_slice-3.ensures.value;
     }

@@ -7,8 +7,8 @@ use Rattle.tk_trail.specs.Refusal.{refusal_of}
 use Rattle.tk_trail.specs.Legal.{after_take}
 use Rattle.tk_trail.specs.declared.entry.Entry.{Entry}
 use Rattle.tk_trail.specs.declared.entry.Entry.TheVariants as e
-use Rattle.tk_monitor.specs.Board.{Standing}
-use Rattle.tk_monitor.specs.Log.{Logged}
+use Rattle.tk_monitor.specs.Board.{BoardView}
+use Rattle.tk_monitor.specs.Trail.{TrailView}
 use Rattle.tk_monitor.specs.Monitored.{MonitorView}
 use Rattle.tk_monitor.specs.declared.phase.Phase.{Phase}
 use Rattle.std.specs.Prelude.{ℤ}
@@ -27,7 +27,7 @@ assign-requires-clause-members c =
     let inside = c.self.inside in
     let kept = c.self.invariant in
     let setup : MonitorSetup = record { number = inside.number.0; objects = inside.settings.objects; parts = inside.parts.items; from = inside.from } in
-    let trail : List Entry = inside.log.entries in
+    let trail : List Entry = inside.trail.entries in
     let frame = f.Assign c.args.seq c.args.members c.args.changes in
     let none : refusal_of setup trail frame ≡ None = subst (λ (m : MonitorView). refusal_of m.setup m.trail frame ≡ None) (sym c.self.view_is) c.requires in
     let passes = assign_passes setup trail c.args.seq c.args.members c.args.changes none in
@@ -40,7 +40,7 @@ assign-requires-clause-factors c =
     let inside = c.self.inside in
     let kept = c.self.invariant in
     let setup : MonitorSetup = record { number = inside.number.0; objects = inside.settings.objects; parts = inside.parts.items; from = inside.from } in
-    let trail : List Entry = inside.log.entries in
+    let trail : List Entry = inside.trail.entries in
     let frame = f.Assign c.args.seq c.args.members c.args.changes in
     let none : refusal_of setup trail frame ≡ None = subst (λ (m : MonitorView). refusal_of m.setup m.trail frame ≡ None) (sym c.self.view_is) c.requires in
     let passes = assign_passes setup trail c.args.seq c.args.members c.args.changes none in
@@ -58,12 +58,12 @@ changes-are c =
     let is : c.get.result.now ≡ f.Assign c.in-Assign.seq c.in-Assign.members c.in-Assign.changes = c.in-Assign.is in
     cc
 
-entries-sent : (c : goal.After-sent) → c.sent.new.self.entries ≡ after_take (record { number = c.self.inside.number.0; objects = c.self.inside.settings.objects; parts = c.self.inside.parts.items; from = c.self.inside.from }) c.self.inside.log.entries (f.Assign c.args.seq c.args.members c.args.changes)
+entries-sent : (c : goal.After-sent) → c.sent.new.self.entries ≡ after_take (record { number = c.self.inside.number.0; objects = c.self.inside.settings.objects; parts = c.self.inside.parts.items; from = c.self.inside.from }) c.self.inside.trail.entries (f.Assign c.args.seq c.args.members c.args.changes)
 entries-sent c =
     let inside = c.self.inside in
     let kept = c.self.invariant in
     let setup : MonitorSetup = record { number = inside.number.0; objects = inside.settings.objects; parts = inside.parts.items; from = inside.from } in
-    let trail : List Entry = inside.log.entries in
+    let trail : List Entry = inside.trail.entries in
     let frame = f.Assign c.args.seq c.args.members c.args.changes in
     let none : refusal_of setup trail frame ≡ None = subst (λ (m : MonitorView). refusal_of m.setup m.trail frame ≡ None) (sym c.self.view_is) c.requires in
     let passes = assign_passes setup trail c.args.seq c.args.members c.args.changes none in
@@ -73,9 +73,9 @@ entries-sent c =
     let now : c.assign.new.board ≡ record inside.board { levels = assigned inside.board.values inside.board.levels c.args.changes; members = c.args.members } =
     c.in-Ok.ensures.ok ∙ ap₂ (λ (ps : List (ℕ × ℤ)) (os : List ℕ). record inside.board { levels = assigned inside.board.values inside.board.levels ps; members = os }) changes mine in
     let stands : c.assign.new.board ≡ standing_of setup taken =
-    now ∙ ap (λ (s : Standing). record s { levels = assigned s.values s.levels c.args.changes; members = c.args.members }) kept.standing ∙ standing_assigned setup trail c.args.seq c.args.members c.args.changes in
+    now ∙ ap (λ (s : BoardView). record s { levels = assigned s.values s.levels c.args.changes; members = c.args.members }) kept.standing ∙ standing_assigned setup trail c.args.seq c.args.members c.args.changes in
     let ended : (c.raises-ended.result == 0) ≡ at_ends setup taken =
-    ap (λ n. n == 0) (c.raises-ended.ensures ∙ c.reserve.ensures.raises) ∙ kept_ends setup inside.log inside.board inside.next.items inside.phase kept ∙ sym (ends-took setup trail frame) in
+    ap (λ n. n == 0) (c.raises-ended.ensures ∙ c.reserve.ensures.raises) ∙ kept_ends setup inside.trail inside.board inside.next.items inside.phase kept ∙ sym (ends-took setup trail frame) in
     let took : c.in_ok-took.took ≡ frame = c.in_ok-took.ensures.ok in
     let answer : c.in-Ok.answer ≡ answer_at setup taken =
     c.in-Ok.ensures.answer
@@ -83,9 +83,9 @@ entries-sent c =
     (passes.next ∙ sym (seq_of-assign trail c.args.seq c.args.members c.args.changes))
     (c.as_slice-next.ensures.value ∙ kept.places ∙ sym (places_at-took setup trail frame))
     ended in
-    ap (λ (l : Logged). l.entries) c.sent.ensures
+    ap (λ (l : TrailView). l.entries) c.sent.ensures
     ∙ ap₂ (λ (es : List Entry) (sent : Frame). es ++ e.Sent sent ∷ [])
-    (ap (λ (l : Logged). l.entries) c.took.ensures ∙ ap₂ (λ (es : List Entry) (took : Frame). es ++ e.Took took ∷ []) c.reserve.ensures.entries took)
+    (ap (λ (l : TrailView). l.entries) c.took.ensures ∙ ap₂ (λ (es : List Entry) (took : Frame). es ++ e.Took took ∷ []) c.reserve.ensures.entries took)
     answer
 
 pub invariant_of-self-in-Ok : goal.invariant_of-self-in-Ok
@@ -93,7 +93,7 @@ invariant_of-self-in-Ok c =
     let inside = c.self.inside in
     let kept = c.self.invariant in
     let setup : MonitorSetup = record { number = inside.number.0; objects = inside.settings.objects; parts = inside.parts.items; from = inside.from } in
-    let trail : List Entry = inside.log.entries in
+    let trail : List Entry = inside.trail.entries in
     let frame = f.Assign c.args.seq c.args.members c.args.changes in
     let none : refusal_of setup trail frame ≡ None = subst (λ (m : MonitorView). refusal_of m.setup m.trail frame ≡ None) (sym c.self.view_is) c.requires in
     let passes = assign_passes setup trail c.args.seq c.args.members c.args.changes none in
@@ -103,22 +103,22 @@ invariant_of-self-in-Ok c =
     let now : c.assign.new.board ≡ record inside.board { levels = assigned inside.board.values inside.board.levels c.args.changes; members = c.args.members } =
     c.in-Ok.ensures.ok ∙ ap₂ (λ (ps : List (ℕ × ℤ)) (os : List ℕ). record inside.board { levels = assigned inside.board.values inside.board.levels ps; members = os }) changes mine in
     let stands : c.assign.new.board ≡ standing_of setup taken =
-    now ∙ ap (λ (s : Standing). record s { levels = assigned s.values s.levels c.args.changes; members = c.args.members }) kept.standing ∙ standing_assigned setup trail c.args.seq c.args.members c.args.changes in
+    now ∙ ap (λ (s : BoardView). record s { levels = assigned s.values s.levels c.args.changes; members = c.args.members }) kept.standing ∙ standing_assigned setup trail c.args.seq c.args.members c.args.changes in
     let ended : (c.raises-ended.result == 0) ≡ at_ends setup taken =
-    ap (λ n. n == 0) (c.raises-ended.ensures ∙ c.reserve.ensures.raises) ∙ kept_ends setup inside.log inside.board inside.next.items inside.phase kept ∙ sym (ends-took setup trail frame) in
+    ap (λ n. n == 0) (c.raises-ended.ensures ∙ c.reserve.ensures.raises) ∙ kept_ends setup inside.trail inside.board inside.next.items inside.phase kept ∙ sym (ends-took setup trail frame) in
     subst (λ (phase : Phase). IsKept setup c.sent.new.self c.assign.new.board inside.next.items phase) (sym c.assigned-self-inside.ensures)
-    (kept_assigned setup inside.log c.sent.new.self inside.board c.assign.new.board inside.next.items inside.phase c.args.seq c.args.members c.args.changes c.is_broken.result (c.raises-ended.result == 0) kept none now
+    (kept_assigned setup inside.trail c.sent.new.self inside.board c.assign.new.board inside.next.items inside.phase c.args.seq c.args.members c.args.changes c.is_broken.result (c.raises-ended.result == 0) kept none now
     (c.is_broken.ensures ∙ kept_broken setup taken c.assign.new.board stands)
     ended
     (entries-sent c)
-    (ap (λ (l : Logged). l.raises) c.sent.ensures ∙ ap (λ (l : Logged). l.raises) c.took.ensures ∙ c.reserve.ensures.raises))
+    (ap (λ (l : TrailView). l.raises) c.sent.ensures ∙ ap (λ (l : TrailView). l.raises) c.took.ensures ∙ c.reserve.ensures.raises))
 
 pub returns-in-Ok-clause-ok : goal.returns-in-Ok-clause-ok
 returns-in-Ok-clause-ok c =
     let inside = c.self.inside in
     let kept = c.self.invariant in
     let setup : MonitorSetup = record { number = inside.number.0; objects = inside.settings.objects; parts = inside.parts.items; from = inside.from } in
-    let trail : List Entry = inside.log.entries in
+    let trail : List Entry = inside.trail.entries in
     let frame = f.Assign c.args.seq c.args.members c.args.changes in
     let none : refusal_of setup trail frame ≡ None = subst (λ (m : MonitorView). refusal_of m.setup m.trail frame ≡ None) (sym c.self.view_is) c.requires in
     let passes = assign_passes setup trail c.args.seq c.args.members c.args.changes none in

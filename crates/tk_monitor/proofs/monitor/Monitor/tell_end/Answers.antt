@@ -5,41 +5,41 @@ use Rattle.tk_trail.specs.Readings.{at_ends}
 use Rattle.tk_trail.specs.Frames.{settled_at, report_is_due, end_is_due}
 use Rattle.tk_trail.specs.declared.entry.Entry.{Entry}
 use Rattle.tk_trail.specs.declared.entry.Entry.TheVariants as e
-use Rattle.tk_monitor.specs.Log.{Logged}
+use Rattle.tk_monitor.specs.Trail.{TrailView}
 use Rattle.tk_monitor.specs.Monitored.{MonitorView}
 use Rattle.tk_monitor.specs.declared.phase.Phase.{Phase}
 use Rattle.tk_monitor.proofs.KeptLemmas.{kept_told, settled_made}
 use Rattle.tk_monitor.proofs.monitor.Monitor.tell_end.Goals as goal
 
-pub entries-sent : (c : goal.After-self-1) → c.sent.new.self.entries ≡ c.self.inside.log.entries ++ e.Sent (settled_at (record { number = c.self.inside.number.0; objects = c.self.inside.settings.objects; parts = c.self.inside.parts.items; from = c.self.inside.from }) c.self.inside.log.entries) ∷ []
+pub entries-sent : (c : goal.After-self-1) → c.sent.new.self.entries ≡ c.self.inside.trail.entries ++ e.Sent (settled_at (record { number = c.self.inside.number.0; objects = c.self.inside.settings.objects; parts = c.self.inside.parts.items; from = c.self.inside.from }) c.self.inside.trail.entries) ∷ []
 entries-sent c =
     let inside = c.self.inside in
     let kept = c.self.invariant in
     let setup : MonitorSetup = record { number = inside.number.0; objects = inside.settings.objects; parts = inside.parts.items; from = inside.from } in
-    let trail : List Entry = inside.log.entries in
+    let trail : List Entry = inside.trail.entries in
     let ends : at_ends setup trail ≡ true = subst (λ (m : MonitorView). at_ends m.setup m.trail ≡ true) (sym c.self.view_is) c.requires.ends in
     let frame : c.in_ok-frame.frame ≡ settled_at setup trail =
     c.in_ok-frame.ensures ∙ settled_made setup trail inside.phase.seq true c.as_slice.result.now (ap (λ (p : Phase). p.seq) kept.phase_is) (sym ends) (c.as_slice.ensures.value ∙ kept.places) in
-    ap (λ (l : Logged). l.entries) c.sent.ensures ∙ ap₂ (λ (es : List Entry) (sent : Frame). es ++ e.Sent sent ∷ []) c.reserve.ensures.entries frame
+    ap (λ (l : TrailView). l.entries) c.sent.ensures ∙ ap₂ (λ (es : List Entry) (sent : Frame). es ++ e.Sent sent ∷ []) c.reserve.ensures.entries frame
 
 pub invariant_of-self-2 : goal.invariant_of-self-2
 invariant_of-self-2 c =
     let inside = c.self.inside in
     let kept = c.self.invariant in
     let setup : MonitorSetup = record { number = inside.number.0; objects = inside.settings.objects; parts = inside.parts.items; from = inside.from } in
-    let trail : List Entry = inside.log.entries in
+    let trail : List Entry = inside.trail.entries in
     let ends : at_ends setup trail ≡ true = subst (λ (m : MonitorView). at_ends m.setup m.trail ≡ true) (sym c.self.view_is) c.requires.ends in
     let due : end_is_due setup trail ≡ true = subst (λ (m : MonitorView). end_is_due m.setup m.trail ≡ true) (sym c.self.view_is) c.requires.due in
     let no_report : report_is_due setup trail ≡ false = subst (λ (m : MonitorView). report_is_due m.setup m.trail ≡ false) (sym c.self.view_is) c.requires.no_report in
-    kept_told setup inside.log c.sent.new.self inside.board inside.next.items inside.phase kept no_report due ends (entries-sent c)
-    (ap (λ (l : Logged). l.raises) c.sent.ensures ∙ c.reserve.ensures.raises)
+    kept_told setup inside.trail c.sent.new.self inside.board inside.next.items inside.phase kept no_report due ends (entries-sent c)
+    (ap (λ (l : TrailView). l.raises) c.sent.ensures ∙ c.reserve.ensures.raises)
 
 pub returns-clause-ok : goal.returns-clause-ok
 returns-clause-ok c =
     let inside = c.self.inside in
     let kept = c.self.invariant in
     let setup : MonitorSetup = record { number = inside.number.0; objects = inside.settings.objects; parts = inside.parts.items; from = inside.from } in
-    let trail : List Entry = inside.log.entries in
+    let trail : List Entry = inside.trail.entries in
     ap (λ (es : List Entry). record { settings = inside.settings; setup = setup; trail = es }) (entries-sent c)
     ∙ ap (λ (m : MonitorView). record m { trail = m.trail ++ e.Sent (settled_at m.setup m.trail) ∷ [] }) c.self.view_is
 

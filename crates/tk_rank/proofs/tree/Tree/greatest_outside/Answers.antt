@@ -2,7 +2,7 @@ use Rattle.std.proofs.Common.{◌∙◌, ℕ, not, sym, ap, ap₂, subst, length
 use Rattle.tk_base.specs.Objects.{objects, is_in}
 use Rattle.tk_border.specs.Levels.{greatest_of, IsPassed}
 use Rattle.tk_border.proofs.PassedLemmas.{passed_none}
-use Rattle.tk_rank.specs.Tree.{standing, leaves_of, width_of}
+use Rattle.tk_rank.specs.Tree.{TreeView, standing, leaves_of, width_of}
 use Rattle.tk_rank.proofs.TreeLemmas.{whole_range}
 use Rattle.tk_rank.proofs.tree.Tree.greatest_outside.Goals as goal
 
@@ -19,4 +19,4 @@ returns c =
     c.get.ensures
     ∙ c.outside.ensures.number
     ∙ ap₂ keep (ap leaves_of here) range
-    ∙ ap (λ leaves. keep leaves (objects (length leaves))) c.self.view_is
+    ∙ ap (λ (t : TreeView). keep t.leaves (objects (length t.leaves))) c.self.view_is

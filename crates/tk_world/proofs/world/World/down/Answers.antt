@@ -3,7 +3,7 @@ use Rattle.std.specs.Prelude.{is_some}
 use Rattle.tk_input.specs.declared.event.Event.{Event}
 use Rattle.tk_input.specs.declared.event.Event.TheVariants.{Down}
 use Rattle.tk_story.specs.Kept.{KeptStory}
-use Rattle.tk_world.specs.Diary.{Noted as Written}
+use Rattle.tk_world.specs.Diary.{DiaryView}
 use Rattle.tk_world.specs.Events.{next_of}
 use Rattle.tk_world.specs.Seats.{story_with}
 use Rattle.tk_coord.specs.Coordinator.{CoordinatorView}
@@ -56,7 +56,7 @@ leaves g c =
     let w = c.self.inside in
     down_with (g.N.Nodes.seen w.nodes) (g.N.Nodes.seen c.down.new.self) w.logs w.from w.diary.raises c.note.new.self.raises w.work c.args.mon c.self.invariant (sym c.contains.ensures ∙ c.if-not-contains.false)
     c.in_ok-down.ensures.ok
-    (ap (λ (d : Written). d.raises) c.note.ensures ∙ c.reserve.ensures.raises)
+    (ap (λ (d : DiaryView). d.raises) c.note.ensures ∙ c.reserve.ensures.raises)
 
 pub invariant_of-self-2 : goal.invariant_of-self-2
 invariant_of-self-2 g c = (leaves g c).holds
@@ -64,7 +64,7 @@ invariant_of-self-2 g c = (leaves g c).holds
 pub returns-clause-ok : goal.returns-clause-ok
 returns-clause-ok g c = (
   ap (λ (k : KeptStory). next_of k.story (Down c.args.mon)) (sym c.self.view_is) ∙ (leaves g c).next,
-  ap (λ (d : Written). d.events) c.note.ensures ∙ ap (λ (es : List Event). es ++ Down c.args.mon ∷ []) (c.reserve.ensures.events ∙ ap (λ (k : KeptStory). k.events) c.self.view_is),
+  ap (λ (d : DiaryView). d.events) c.note.ensures ∙ ap (λ (es : List Event). es ++ Down c.args.mon ∷ []) (c.reserve.ensures.events ∙ ap (λ (k : KeptStory). k.events) c.self.view_is),
 )
 
 pub returns-clause-legal : goal.returns-clause-legal

@@ -4,7 +4,7 @@ use Rattle.tk_input.specs.Logs.{AreLogs}
 use Rattle.tk_input.specs.declared.event.Event.{Event}
 use Rattle.tk_journal.specs.Entries.{IsEntryOf}
 use Rattle.tk_story.specs.Story.{StoryView}
-use Rattle.tk_world.specs.Diary.{Noted as Written}
+use Rattle.tk_world.specs.Diary.{DiaryView}
 use Rattle.tk_world.proofs.BeginLemmas.{begin_few, begin_leaves, begun}
 use Rattle.tk_world.proofs.world.World.over.Goals as goal
 
@@ -21,7 +21,7 @@ invariant_of-result g c =
     (subst (λ (x : CoordinatorView). IsJournal x.settings x.journal) same c.journal.ensures.legal) (subst AreLogs c.logs.view_is c.logs.invariant)
     c.requires.run c.requires.fresh.seats c.requires.fresh.journal
     (subst (λ (x : CoordinatorView). All (IsEntryOf x.settings.monitors x.settings.objects) x.journal) same c.journal.ensures.entries)
-    (ap (λ (d : Written). d.raises) c.in_ok-diary.ensures ∙ c.left_after.ensures.value)
+    (ap (λ (d : DiaryView). d.raises) c.in_ok-diary.ensures ∙ c.left_after.ensures.value)
     c.none-work.ensures c.insert_sent.ensures
 
 pub returns : goal.returns
@@ -29,4 +29,4 @@ returns g c =
     let v = g.N.Nodes.seen c.args.nodes in
     ap₂ (λ (s : StoryView) (es : List Event). record { story = s; events = es })
     (begun v.coordinator.settings c.args.logs c.args.from v.seats v.coordinator.journal c.requires.fresh.seats c.requires.fresh.journal)
-    (ap (λ (d : Written). d.events) c.in_ok-diary.ensures)
+    (ap (λ (d : DiaryView). d.events) c.in_ok-diary.ensures)

@@ -3,7 +3,7 @@ use Rattle.tk_input.specs.declared.event.Event.{Event}
 use Rattle.tk_input.specs.declared.event.Event.TheVariants.{Raise}
 use Rattle.tk_story.specs.Kept.{KeptStory}
 use Rattle.tk_story.specs.Story.{IsStory}
-use Rattle.tk_world.specs.Diary.{Noted as Written}
+use Rattle.tk_world.specs.Diary.{DiaryView}
 use Rattle.tk_world.specs.Events.{next_of}
 use Rattle.tk_world.specs.Seats.{HoldsWith, story_with}
 use Rattle.tk_monitor.specs.declared.outcome.Raised.{Raised}
@@ -79,12 +79,12 @@ leaves g c =
 pub invariant_of-self-in-Done : goal.invariant_of-self-in-Done
 invariant_of-self-in-Done g c =
     let w = c.self.inside in
-    subst (λ (r : ℕ). HoldsWith (g.N.Nodes.seen c.raise.new.self) w.logs w.from r c.insert_if.new.self) (sym (ap (λ (d : Written). d.raises) c.raised.ensures)) (leaves g c).holds
+    subst (λ (r : ℕ). HoldsWith (g.N.Nodes.seen c.raise.new.self) w.logs w.from r c.insert_if.new.self) (sym (ap (λ (d : DiaryView). d.raises) c.raised.ensures)) (leaves g c).holds
 
 pub returns-after-broken-clause-moves : goal.returns-after-broken-clause-moves
 returns-after-broken-clause-moves g c = (
   ap (λ (k : KeptStory). next_of k.story (Raise c.args.mon c.args.f)) (sym c.self.view_is) ∙ (leaves g c).next,
-  ap (λ (d : Written). d.events) c.raised.ensures ∙ ap (λ (es : List Event). es ++ Raise c.args.mon c.args.f ∷ []) (ap (λ (k : KeptStory). k.events) c.self.view_is),
+  ap (λ (d : DiaryView). d.events) c.raised.ensures ∙ ap (λ (es : List Event). es ++ Raise c.args.mon c.args.f ∷ []) (ap (λ (k : KeptStory). k.events) c.self.view_is),
 )
 
 pub returns-after-broken-clause-legal : goal.returns-after-broken-clause-legal

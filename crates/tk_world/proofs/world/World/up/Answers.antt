@@ -3,7 +3,7 @@ use Rattle.std.specs.Prelude.{is_some}
 use Rattle.tk_input.specs.declared.event.Event.{Event}
 use Rattle.tk_input.specs.declared.event.Event.TheVariants.{Up}
 use Rattle.tk_story.specs.Kept.{KeptStory}
-use Rattle.tk_world.specs.Diary.{Noted as Written}
+use Rattle.tk_world.specs.Diary.{DiaryView}
 use Rattle.tk_world.specs.Events.{next_of}
 use Rattle.tk_world.specs.Seats.{story_with}
 use Rattle.tk_coord.specs.Coordinator.{CoordinatorView}
@@ -87,7 +87,7 @@ leaves g c =
     (adds_behind v'.coordinator.journal c.journal.result.now (g.N.Nodes.seen w.nodes).coordinator.journal c.journal-before.result.now w.work c.insert_sent.new.self
     (sym (c.journal.ensures.value ∙ ap (λ (x : CoordinatorView). x.journal) c.coordinator-2.ensures))
     (sym (c.journal-before.ensures.value ∙ ap (λ (x : CoordinatorView). x.journal) c.coordinator.ensures)) c.insert_sent.ensures)
-    (ap (λ (d : Written). d.raises) c.note.ensures ∙ c.reserve.ensures.raises)
+    (ap (λ (d : DiaryView). d.raises) c.note.ensures ∙ c.reserve.ensures.raises)
 
 pub invariant_of-self-2 : goal.invariant_of-self-2
 invariant_of-self-2 g c = (leaves g c).holds
@@ -95,7 +95,7 @@ invariant_of-self-2 g c = (leaves g c).holds
 pub returns-clause-ok : goal.returns-clause-ok
 returns-clause-ok g c = (
   ap (λ (k : KeptStory). next_of k.story (Up c.args.mon)) (sym c.self.view_is) ∙ (leaves g c).next,
-  ap (λ (d : Written). d.events) c.note.ensures ∙ ap (λ (es : List Event). es ++ Up c.args.mon ∷ []) (c.reserve.ensures.events ∙ ap (λ (k : KeptStory). k.events) c.self.view_is),
+  ap (λ (d : DiaryView). d.events) c.note.ensures ∙ ap (λ (es : List Event). es ++ Up c.args.mon ∷ []) (c.reserve.ensures.events ∙ ap (λ (k : KeptStory). k.events) c.self.view_is),
 )
 
 pub returns-clause-legal : goal.returns-clause-legal

@@ -1,2 +1,0 @@
-use Rattle.std.proofs.Common.{inl, inr}
-use Rattle.tk_load.proofs.traced.bad_trace.Goals as goal

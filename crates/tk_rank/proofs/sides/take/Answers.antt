@@ -1,0 +1,32 @@
+use Rattle.std.proofs.Common.{◌≡◌, ◌∙◌, ◌<◌, ◌≤◌, ap, sym, arith, get_or, length, length-set, None}
+use Rattle.tk_base.proofs.AscendingLemmas.{ascending_positive}
+use Rattle.tk_border.specs.Levels.{level_at}
+use Rattle.tk_rank.proofs.ExchangeLemmas.{next_leaf, take_goes_on}
+use Rattle.tk_rank.proofs.SidesLemmas.{small_emptied, turned}
+use Rattle.tk_rank.proofs.sides.take.Goals as goal
+
+pub loop-place-preserved : goal.loop-place-preserved
+loop-place-preserved c =
+    let new = c.args.new.now in
+    let i = c.loop-place.place in
+    let o = c.at.result.0 in
+    let m = c.loop-place.members.leaves in
+    let out = c.loop-place.outsiders.leaves in
+    let up = c.len.ensures.ascends in
+    let inside : i < length new = omega (arith, c.loop-place-test.true) in
+    let at : get_or new i 0 ≡ o = sym c.at.ensures.value in
+    let some : 0 < o = let rise = ascending_positive new up i inside in omega (arith, at, rise) in
+    let low : o ≤ length out = let there = c.requires.within i 0 inside in omega (arith, at, there, c.loop-place.invariant.outsider_room) in
+    record {
+      enough = omega (arith, ap length c.set.ensures.leaves, length-set m i c.of.result, c.loop-place.invariant.enough);
+      member_room = c.set.ensures.room ∙ c.loop-place.invariant.member_room;
+      outsider_room = ap length c.set-in-loop-place.ensures.leaves ∙ length-set out c.seat_of-seat.result c.none.result ∙ c.loop-place.invariant.outsider_room;
+      small = rw (c.set-in-loop-place.ensures.leaves, c.none.ensures) (small_emptied out c.seat_of-seat.result (omega (arith, c.seat_of-seat.ensures, low, some)) c.loop-place.invariant.small);
+      sides = λ levels all s.
+          let there : o ≤ length levels = let bound = all i 0 inside in omega (arith, at, bound) in
+          let taken = c.loop-place.invariant.sides levels all s in
+          let leaf = next_leaf levels new i o m out up inside at some there taken in
+          let read : c.number_in.result ≡ level_at levels o = c.number_in.ensures.value (level_at levels o) (ap (λ k. get_or out k None) c.seat_of-seat.ensures ∙ leaf) in
+          rw (c.set.ensures.leaves, c.set-in-loop-place.ensures.leaves, c.of.ensures, c.none.ensures, c.seat_of-seat.ensures, turned c.number_in.result c.number_in.ensures.size, read)
+          (take_goes_on levels new i o m out inside (omega (arith, inside, c.loop-place.invariant.enough)) at some there taken);
+    }
