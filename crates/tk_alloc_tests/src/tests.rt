@@ -1,4 +1,10 @@
-ghost use Rattle.std.specs.Prelude.{◌≡◌, ◌≤ℤ◌, pos, [], ◌∷◌, IfOk};
+ghost use Rattle.std.specs.Prelude.{◌≡◌, ◌<◌, ◌≤◌, ◌≤ℤ◌, pos, negsuc, [], ◌∷◌, IfOk, length};
+ghost use Rattle.std.specs.List.{All};
+ghost use Rattle.tk_base.specs.Objects.{objects as objects_in};
+ghost use Rattle.tk_base.specs.Pairs.{objects_of};
+ghost use Rattle.tk_rows.specs.Factors.{factor_at};
+ghost use Rattle.tk_alloc.specs.Resolving.{CanTakePart, IsReady, objects_over, round_border};
+ghost use Rattle.tk_alloc.specs.Rounds.{AreReports, IsOfSize};
 
 use std::alloc::Global;
 use std::test::Fail;
@@ -25,20 +31,33 @@ fn pairs(alloc: Global, a: i128, b: i128) -> Result<Pairs, Fail>
     Ok(pairs)
 }
 
+fn totals(alloc: Global, a: i128, b: i128, c: i128) -> Result<Pairs, Fail>
+    ensures { IfOk result (λ p. length p ≡ 3) }
+{
+    let list = [(Obj(1), a), (Obj(2), b), (Obj(3), c)].to_vec(alloc)?;
+    let totals = Pairs::new(list)?;
+    Ok(totals)
+}
+
+/// How many are picked where this one was a member, and which of the three objects.
+fn picked(alloc: Global, old: u32, k: u32, totals: &Pairs) -> Result<(usize, [bool; 3]), Fail>
+    requires some { 0 < k }
+    requires enough { k ≤ length totals.now }
+{
+    let old = set_of(alloc, old)?;
+    let set = pick(alloc, totals, &old, k)?;
+    Ok((set.len(), [1, 2, 3].map(|o| set.has(Obj(o)))))
+}
+
 #[test]
 fn picks(rt: HostRuntime) -> Result<(), Fail> {
     let alloc = rt.alloc();
-    let same = Pairs::new([(Obj(1), 3), (Obj(2), 3), (Obj(3), 3)].to_vec(alloc)?)?;
-    let late = Pairs::new([(Obj(1), 1), (Obj(2), 5), (Obj(3), 5)].to_vec(alloc)?)?;
-    let a = set_of(alloc, 1)?;
-    let b = set_of(alloc, 2)?;
-    let c = set_of(alloc, 3)?;
-    let both = ObjSet::new([Obj(1), Obj(2)].to_vec(alloc)?)?;
-    assert_eq!(rt; same.len(), 3);
-    assert_eq!(rt; late.len(), 3);
-    assert_eq!(rt; pick(alloc, &same, &c, 1)?, c);
-    assert_eq!(rt; pick(alloc, &same, &b, 2)?, both);
-    assert_eq!(rt; pick(alloc, &late, &a, 1)?, b);
+    let third = picked(alloc, 3, 1, &totals(alloc, 3, 3, 3)?)?;
+    assert_eq!(rt; third, (1, [false, false, true]));
+    let first_two = picked(alloc, 2, 2, &totals(alloc, 3, 3, 3)?)?;
+    assert_eq!(rt; first_two, (2, [true, true, false]));
+    let greater = picked(alloc, 1, 1, &totals(alloc, 1, 5, 5)?)?;
+    assert_eq!(rt; greater, (1, [false, true, false]));
     Ok(())
 }
 
@@ -79,16 +98,6 @@ fn reallocation(
     Ok(Reallocation { members, own, at })
 }
 
-fn is_same(left: &Reallocation, right: &Reallocation) -> bool {
-    let mut same = left.members == right.members
-        && left.own == right.own
-        && left.at.len() == right.at.len();
-    for (one, other) in left.at.iter().zip(right.at.iter()) {
-        same = same && one.mon == other.mon && one.changes == other.changes;
-    }
-    same
-}
-
 fn settings_of(k: u64, epsilon: u128) -> Result<Settings, Fail>
     ensures objects { IfOk result (λ s. s.objects ≡ 2) }
     ensures monitors { IfOk result (λ s. s.monitors ≡ 2) }
@@ -112,110 +121,194 @@ fn two(alloc: Global, first: Reported, second: Reported) -> Result<Vec<Reported>
     Ok(list)
 }
 
-#[test]
-fn wide_round(rt: HostRuntime) -> Result<(), Fail> {
-    let alloc = rt.alloc();
-    let settings = settings_of(1, 0)?;
-    let table = Table::new(alloc, 2, 2)?;
-    let members = set_of(alloc, 1)?;
-    let first = reported(alloc, 1, 5, 5, 0)?;
-    let second = reported(alloc, 2, 0, 0, 3)?;
-    let reports = two(alloc, first, second)?;
-    let found = wide(alloc, &settings, &table, &members, reports.as_slice())?;
-    let own = pairs(alloc, 2, 1)?;
-    let wanted = reallocation(alloc, 1, own, pairs(alloc, -3, 1)?, pairs(alloc, 1, -2)?)?;
-    assert!(rt; is_same(&found, &wanted));
-    Ok(())
-}
-
-#[test]
-fn wide_round_past_the_limit(rt: HostRuntime) -> Result<(), Fail> {
-    let alloc = rt.alloc();
-    let settings = settings_of(1, 0)?;
-    let mut table = Table::new(alloc, 2, 2)?;
+/// A table with a factor at its limit, and the same below 0, for both objects at the two monitors.
+fn limit_table(alloc: Global) -> Result<Table, Fail>
+    ensures monitors { IfOk result (λ t. t.monitors ≡ 2) }
+    ensures objects { IfOk result (λ t. length t.rows ≡ 2) }
+    ensures own_one { IfOk result (λ t. factor_at t 0 1 ≡ pos 0) }
+    ensures own_two { IfOk result (λ t. factor_at t 0 2 ≡ pos 0) }
+    ensures great { IfOk result (λ t. factor_at t 1 1 ≡ pos 5192296858534827628530496329220096) }
+    ensures small { IfOk result (λ t. factor_at t 2 1 ≡ negsuc 5192296858534827628530496329220095) }
+{
     let zeros = pairs(alloc, 0, 0)?;
     let great = pairs(alloc, LIMIT, LIMIT)?;
     let small = pairs(alloc, -LIMIT, -LIMIT)?;
-    table.replace(&reallocation(alloc, 1, zeros, great, small)?);
+    let change = reallocation(alloc, 1, zeros, great, small)?;
+    let mut table = Table::new(alloc, 2, 2)?;
+    table.replace(&change);
+    Ok(table)
+}
+
+/// A reallocation in numbers: its only member, and the factors of both objects, the monitors' behind their own.
+#[derive(Clone, Copy)]
+struct Wanted<'a> {
+    member: u32,
+    own: [i128; 2],
+    at: &'a [(u32, [i128; 2])],
+}
+
+fn are_pairs(pairs: &Pairs, numbers: [i128; 2]) -> bool {
+    pairs.len() == 2 && pairs.at(0) == (Obj(1), numbers[0]) && pairs.at(1) == (Obj(2), numbers[1])
+}
+
+fn is_wanted(change: &Reallocation, wanted: Wanted) -> bool {
+    let mut same = change.members.len() == 1
+        && change.members.has(Obj(wanted.member))
+        && are_pairs(&change.own, wanted.own)
+        && change.at.len() == wanted.at.len();
+    for (one, (mon, numbers)) in change.at.iter().zip(wanted.at.iter()) {
+        same = same && one.mon == Mon(*mon) && are_pairs(&one.changes, *numbers);
+    }
+    same
+}
+
+fn is_found(found: Result<Reallocation, AllocFault>, wanted: Wanted) -> bool {
+    match found {
+        Ok(change) => is_wanted(&change, wanted),
+        Err(_) => false,
+    }
+}
+
+fn is_wide(
+    alloc: Global,
+    settings: &Settings,
+    table: &Table,
+    members: &ObjSet,
+    reports: &[Reported],
+    wanted: Wanted,
+) -> bool
+    requires size { IsOfSize settings.now table.now }
+    requires reports { AreReports settings.now.monitors (objects_in settings.now.objects) reports.now }
+{
+    match wide(alloc, settings, table, members, reports) {
+        Ok(change) => is_wanted(&change, wanted),
+        Err(_) => false,
+    }
+}
+
+/// Whether a full round finds this, and does so again where it is told the border.
+fn is_full(
+    alloc: Global,
+    settings: &Settings,
+    table: &Table,
+    members: &ObjSet,
+    reports: &[Reported],
+    border: i128,
+    wanted: Wanted,
+) -> bool
+    requires ready { IsReady settings.now table.now members.now (objects_over reports.now) }
+    requires reports { AreReports settings.now.monitors (objects_over reports.now) reports.now }
+    requires borders { All (CanTakePart table.now members.now (objects_over reports.now)) reports.now }
+    requires border { border ≡ round_border settings.now table.now members.now (objects_over reports.now) }
+{
+    let found = full(alloc, settings, table, members, reports);
+    let is_first = is_found(found, wanted);
+    let again = full_with_border(alloc, settings, table, members, reports, border);
+    is_first && is_found(again, wanted)
+}
+
+#[test]
+fn wide_and_full_rounds(rt: HostRuntime) -> Result<(), Fail> {
+    let alloc = rt.alloc();
+    let settings = settings_of(1, 0)?;
+    let first = reported(alloc, 1, 5, 5, 0)?;
+    let second = reported(alloc, 2, 0, 0, 3)?;
+    let reports = two(alloc, first, second)?;
+    let table = Table::new(alloc, 2, 2)?;
     let members = set_of(alloc, 1)?;
+    let list = reports.as_slice();
+    let wanted = Wanted {
+        member: 1,
+        own: [2, 1],
+        at: &[(1, [-3, 1]), (2, [1, -2])],
+    };
+    assert!(rt; is_wide(alloc, &settings, &table, &members, list, wanted));
+    let wanted = Wanted {
+        member: 1,
+        own: [0, 0],
+        at: &[(1, [0, 4]), (2, [0, -4])],
+    };
+    let border = settings.epsilon();
+    assert!(rt; is_full(alloc, &settings, &table, &members, list, border, wanted));
+    Ok(())
+}
+
+/// Why a full round is refused.
+fn full_fault(
+    alloc: Global,
+    settings: &Settings,
+    table: &Table,
+    members: &ObjSet,
+    reports: &[Reported],
+) -> Option<AllocFault>
+    requires ready { IsReady settings.now table.now members.now (objects_over reports.now) }
+    requires reports { AreReports settings.now.monitors (objects_over reports.now) reports.now }
+    requires borders { All (CanTakePart table.now members.now (objects_over reports.now)) reports.now }
+{
+    full(alloc, settings, table, members, reports).err()
+}
+
+#[test]
+fn only_a_full_round_goes_past_the_limit(rt: HostRuntime) -> Result<(), Fail> {
+    let alloc = rt.alloc();
+    let settings = settings_of(1, 0)?;
     let first = reported(alloc, 1, LIMIT, 0, 1)?;
     let second = reported(alloc, 2, -LIMIT, 0, 30)?;
     let reports = two(alloc, first, second)?;
-    let found = wide(alloc, &settings, &table, &members, reports.as_slice())?;
-    let own = pairs(alloc, 0, 11)?;
-    let wanted = reallocation(alloc, 2, own, pairs(alloc, 0, 9)?, pairs(alloc, 0, -20)?)?;
-    assert!(rt; is_same(&found, &wanted));
+    let table = limit_table(alloc)?;
+    let members = set_of(alloc, 1)?;
+    let list = reports.as_slice();
+    let wanted = Wanted {
+        member: 2,
+        own: [0, 11],
+        at: &[(1, [0, 9]), (2, [0, -20])],
+    };
+    assert!(rt; is_wide(alloc, &settings, &table, &members, list, wanted));
+    let (obj, node, factor) = (Obj(2), 1, LIMIT + 9);
+    let fault = full_fault(alloc, &settings, &table, &members, list);
+    assert!(rt; fault == Some(AllocFault::PastLimit { obj, node, factor }));
     Ok(())
+}
+
+/// Whether a short round can be made and finds this, and does so again where it is told the border.
+fn is_short(
+    alloc: Global,
+    settings: &Settings,
+    table: &Table,
+    members: &ObjSet,
+    report: &Reported,
+    border: i128,
+    wanted: Wanted,
+) -> bool
+    requires ready { IsReady settings.now table.now members.now (objects_of report.now.values) }
+    requires report { CanTakePart table.now members.now (objects_of report.now.values) report.now }
+    requires border { border ≡ round_border settings.now table.now members.now (objects_of report.now.values) }
+{
+    if !short_test(settings, table, members, report) {
+        return false;
+    }
+    let found = short(alloc, settings, table, members, report);
+    let is_first = is_found(found, wanted);
+    let again = short_with_border(alloc, settings, table, members, report, border);
+    is_first && is_found(again, wanted)
 }
 
 #[test]
 fn short_round(rt: HostRuntime) -> Result<(), Fail> {
     let alloc = rt.alloc();
-    let table = Table::new(alloc, 2, 2)?;
-    let members = set_of(alloc, 1)?;
-    let report = reported(alloc, 2, 0, 0, 3)?;
     let near = settings_of(1, 4)?;
-    assert!(rt; short_test(&near, &table, &members, &report));
     let far = settings_of(1, 2)?;
-    assert!(rt; !short_test(&far, &table, &members, &report));
-    let found = short(alloc, &near, &table, &members, &report)?;
-    let own = pairs(alloc, 0, 4)?;
-    assert!(rt; found.members == members);
-    assert!(rt; found.own == own);
-    assert_eq!(rt; found.at.len(), 1);
-    assert_eq!(rt; found.at[0].mon, Mon(2));
-    assert!(rt; found.at[0].changes == pairs(alloc, 0, -4)?);
-    // No object is left out, so the border is the member's own factor, which is 0, and epsilon.
-    let again = short_with_border(alloc, &near, &table, &members, &report, near.epsilon())?;
-    assert!(rt; is_same(&again, &found));
-    Ok(())
-}
-
-#[test]
-fn full_round(rt: HostRuntime) -> Result<(), Fail> {
-    let alloc = rt.alloc();
-    let settings = settings_of(1, 0)?;
+    let report = reported(alloc, 2, 0, 0, 3)?;
     let table = Table::new(alloc, 2, 2)?;
     let members = set_of(alloc, 1)?;
-    let first = reported(alloc, 1, 5, 5, 0)?;
-    let second = reported(alloc, 2, 0, 0, 3)?;
-    let reports = two(alloc, first, second)?;
-    let found = full(alloc, &settings, &table, &members, reports.as_slice())?;
-    let own = pairs(alloc, 0, 0)?;
-    let wanted = reallocation(alloc, 1, own, pairs(alloc, 0, 4)?, pairs(alloc, 0, -4)?)?;
-    assert!(rt; is_same(&found, &wanted));
-    let border = settings.epsilon();
-    let again = full_with_border(
-        alloc,
-        &settings,
-        &table,
-        &members,
-        reports.as_slice(),
-        border,
-    )?;
-    assert!(rt; is_same(&again, &wanted));
-    Ok(())
-}
-
-#[test]
-fn factor_past_its_limit(rt: HostRuntime) -> Result<(), Fail> {
-    let alloc = rt.alloc();
-    let settings = settings_of(1, 0)?;
-    let mut table = Table::new(alloc, 2, 2)?;
-    let zeros = pairs(alloc, 0, 0)?;
-    let great = pairs(alloc, LIMIT, LIMIT)?;
-    let small = pairs(alloc, -LIMIT, -LIMIT)?;
-    table.replace(&reallocation(alloc, 1, zeros, great, small)?);
-    let members = set_of(alloc, 1)?;
-    let first = reported(alloc, 1, LIMIT, 0, 1)?;
-    let second = reported(alloc, 2, -LIMIT, 0, 30)?;
-    let reports = two(alloc, first, second)?;
-    let fault = AllocFault::PastLimit {
-        obj: Obj(2),
-        node: 1,
-        factor: LIMIT + 9,
+    assert!(rt; !short_test(&far, &table, &members, &report));
+    let wanted = Wanted {
+        member: 1,
+        own: [0, 4],
+        at: &[(2, [0, -4])],
     };
-    let found = full(alloc, &settings, &table, &members, reports.as_slice());
-    assert!(rt; found.err() == Some(fault));
+    // No object is left out, so the border is the member's own factor, which is 0, and epsilon.
+    let border = near.epsilon();
+    assert!(rt; is_short(alloc, &near, &table, &members, &report, border, wanted));
     Ok(())
 }

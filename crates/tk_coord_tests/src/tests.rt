@@ -130,6 +130,13 @@ fn play(alloc: Global, c: &mut Coordinator, turns: &[(u32, Said<'_>)]) -> Result
     Ok(())
 }
 
+/// What was shown of a coordinator that ends here. Tests end one here alone, since each place that may drop one is dear to
+/// prove.
+fn ended<T: Drop>(c: Coordinator, shown: Result<T, Fail>) -> Result<T, Fail> {
+    drop(c);
+    shown
+}
+
 /// The factors of an object: the coordinator's own, and those of two monitors.
 fn factors(c: &Coordinator, o: u32) -> Option<(i128, i128, i128)> {
     let settings = c.settings();

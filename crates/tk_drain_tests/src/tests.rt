@@ -56,26 +56,47 @@ fn are_at_their_ends(world: &mut World) -> Result<bool, NoMemory> {
     Ok((one, two) == (Moved::Idle, Moved::Idle))
 }
 
+/// Settles with stale reports under way, then finishes: how it stands after each.
+fn crossed(alloc: Global, world: &mut World) -> Result<[bool; 5], NoMemory> {
+    let crossed = settled(world)?;
+    let rests = is_at_rest(world)?;
+    let led = leads(world, 2);
+    finish(alloc, world)?;
+    let ended = are_at_their_ends(world)?;
+    Ok([crossed, rests, led, ended, leads(world, 2)])
+}
+
+/// The same of a world that is dropped behind it.
+fn crossed_once(alloc: Global, mut world: World) -> Result<[bool; 5], NoMemory> {
+    crossed(alloc, &mut world)
+}
+
 #[test]
 fn settles_with_stale_reports_under_way(rt: HostRuntime) -> Result<(), Fail> {
-    let mut w = world(rt.alloc(), TURNS, b"a,5\nb,500\n")?;
-    let rests = (settled(&mut w)?, is_at_rest(&mut w)?, leads(&w, 2));
-    finish(rt.alloc(), &mut w)?;
-    let ends = (are_at_their_ends(&mut w)?, leads(&w, 2));
-    assert_eq!(rt; (rests, ends), ((true, true, true), (true, true)));
+    let world = world(rt.alloc(), TURNS, b"a,5\nb,500\n")?;
+    let shown = crossed_once(rt.alloc(), world)?;
+    assert_eq!(rt; shown, [true; 5]);
     Ok(())
+}
+
+/// Drives an order, and tells how it then stands.
+fn driven(alloc: Global, world: &mut World, order: &Order) -> Result<[bool; 3], NoMemory> {
+    drive(alloc, world, order)?;
+    let ended = are_at_their_ends(world)?;
+    let rests = is_at_rest(world)?;
+    Ok([ended, rests, leads(world, 2)])
+}
+
+/// The same of a world that is dropped behind it.
+fn driven_once(alloc: Global, mut world: World, order: Order) -> Result<[bool; 3], NoMemory> {
+    driven(alloc, &mut world, &order)
 }
 
 #[test]
 fn drives_an_order_to_the_ends(rt: HostRuntime) -> Result<(), Fail> {
-    let mut w = world(rt.alloc(), TURNS, b"a,5\n")?;
     let order = Order::read(rt.alloc(), b"raise 1 1\nup 1\nraise 3 1\nretune 1 7\n")?;
-    drive(rt.alloc(), &mut w, &order)?;
-    let ends = (
-        are_at_their_ends(&mut w)?,
-        is_at_rest(&mut w)?,
-        leads(&w, 2),
-    );
-    assert_eq!(rt; ends, (true, true, true));
+    let world = world(rt.alloc(), TURNS, b"a,5\n")?;
+    let shown = driven_once(rt.alloc(), world, order)?;
+    assert_eq!(rt; shown, [true; 3]);
     Ok(())
 }

@@ -1,10 +1,10 @@
 //! Two monitors and a coordinator of the objects a and b, played by hand, and what joins of their ends answer.
 
-ghost use Rattle.std.specs.Prelude.{◌≡◌, length, map, IfOk};
+ghost use Rattle.std.specs.Prelude.{◌≡◌, ◌≤◌, length, map, IfOk};
 ghost use Rattle.tk_input.specs.Logs.{IsCut, IsMonitor};
 ghost use Rattle.tk_journal.specs.Legal.{IsLegal, start};
 ghost use Rattle.tk_journal.specs.Readings.{monitors};
-ghost use Rattle.tk_story.specs.Ends.{as_made, made_for};
+ghost use Rattle.tk_story.specs.Ends.{AreOfOneRun, as_made, made_for};
 
 mod joins;
 
@@ -15,7 +15,9 @@ use tk_coord::Coordinator;
 use tk_frames::Frame;
 use tk_input::{Catalog, Logs, Part};
 use tk_monitor::Monitor;
-use tk_story::{CoordEnd, JoinFault, MonEnd, Received, Story, a_journal_begins_with_its_opening};
+use tk_story::{
+    CoordEnd, Ends, JoinFault, MonEnd, Received, Story, a_journal_begins_with_its_opening,
+};
 use tk_trail::MonitorRefusal;
 
 /// What a run of two monitors with one feeder each is over.
@@ -67,21 +69,21 @@ fn first_assign(alloc: Global) -> Result<Frame, Fail> {
 }
 
 /// A Settled under the first number.
-fn settled(alloc: Global, last: bool, place: u32) -> Result<Frame, Fail> {
-    let places = Places::new(vec![in alloc; place]?);
-    Ok(Frame::Settled {
+fn settled(alloc: Global, last: bool, place: u32) -> Option<Frame> {
+    let places = Places::new(vec![in alloc; place].ok()?);
+    Some(Frame::Settled {
         seq: 1,
         last,
         places,
     })
 }
 
-fn takes(monitor: &mut Monitor, frame: Frame) -> Result<(), Fail>
+fn takes(monitor: &mut Monitor, frame: Frame) -> bool
     ensures { as_made monitor.new ≡ as_made monitor.old }
 {
     match monitor.take(frame) {
-        Ok(()) => Ok(()),
-        Err(_) => Err("refused")?,
+        Ok(()) => true,
+        Err(_) => false,
     }
 }
 
@@ -90,14 +92,18 @@ fn monitor(alloc: Global, run: &Run, mon: u32, raises: bool) -> Result<Monitor, 
     requires { IsMonitor run.now.logs mon }
     ensures { IfOk result (λ m. as_made m ≡ made_for run.now.settings run.now.logs run.now.from mon) }
 {
+    let assign = first_assign(alloc)?;
     let parts = run.logs.parts(alloc, Mon(mon))?;
     let from = run.from.at(mon as usize - 1);
     let mut monitor = Monitor::new(alloc, &run.settings, Mon(mon), parts, from)?;
     if raises {
         let _ = monitor.raise(Feeder(1));
     }
-    takes(&mut monitor, first_assign(alloc)?)?;
-    Ok(monitor)
+    if takes(&mut monitor, assign) {
+        Ok(monitor)
+    } else {
+        Err("refused")?
+    }
 }
 
 /// The end of a monitor that took no more, and received a Stop too early or nothing else.
@@ -129,22 +135,54 @@ fn pair(alloc: Global, run: &Run, raises: bool, stop: bool) -> Result<Vec<MonEnd
     Ok(ends)
 }
 
-/// The coordinator of the run, once it got these: of which monitor, whether it is the last, and its place.
-fn heard(alloc: Global, run: &Run, said: &[(u32, bool, u32)]) -> Result<CoordEnd, Fail>
+/// What the coordinator gets of a monitor: whether its place is the last, and the place.
+type Said = (bool, u32);
+
+/// Whether the coordinator of the run takes this of a monitor.
+fn hears(alloc: Global, run: &Run, c: &mut Coordinator, mon: u32, said: Said) -> bool
+    requires some { 1 ≤ mon }
+    requires monitor { mon ≤ run.now.settings.monitors }
+    requires settings { c.old.settings ≡ run.now.settings }
+    requires legal { IsLegal (start run.now.settings) c.old.journal }
+    ensures settings { c.new.settings ≡ run.now.settings }
+    ensures legal { IsLegal (start run.now.settings) c.new.journal }
+{
+    let Some(frame) = settled(alloc, said.0, said.1) else {
+        return false;
+    };
+    match c.take(Mon(mon), frame) {
+        Ok(()) => true,
+        Err(_) => false,
+    }
+}
+
+/// Whether it takes what both monitors say, if they say something.
+fn hears_both(alloc: Global, run: &Run, c: &mut Coordinator, said: Option<[Said; 2]>) -> bool
+    requires settings { c.old.settings ≡ run.now.settings }
+    requires legal { IsLegal (start run.now.settings) c.old.journal }
+    ensures settings { c.new.settings ≡ run.now.settings }
+    ensures legal { IsLegal (start run.now.settings) c.new.journal }
+{
+    let Some(both) = said else {
+        return true;
+    };
+    if !hears(alloc, run, c, 1, both[0]) {
+        return false;
+    }
+    hears(alloc, run, c, 2, both[1])
+}
+
+/// The coordinator of the run, once it got what both monitors say, if they say something.
+fn heard(alloc: Global, run: &Run, said: Option<[Said; 2]>) -> Result<CoordEnd, Fail>
     ensures settings { IfOk result (λ end. end.coordinator.settings ≡ run.now.settings) }
     ensures legal { IfOk result (λ end. IsLegal (start run.now.settings) end.coordinator.journal) }
 {
     let mut c = Coordinator::new(alloc, run.settings)?;
-    for (mon, last, place) in said {
-        if *mon == 0 || *mon > c.settings().monitors() {
-            return Err("no such monitor")?;
-        }
-        match c.take(Mon(*mon), settled(alloc, *last, *place)?) {
-            Ok(()) => {}
-            Err(_) => return Err("refused")?,
-        }
+    if hears_both(alloc, run, &mut c, said) {
+        Ok(CoordEnd::new(c, None))
+    } else {
+        Err("refused")?
     }
-    Ok(CoordEnd::new(c, None))
 }
 
 /// How many entries the journal and the trails of a story have.
@@ -159,24 +197,57 @@ fn lengths(story: &Story) -> Option<(usize, usize, usize)> {
     ))
 }
 
-/// What such ends are joined to.
-fn joined(
+/// What comes of joining ends: the lengths of their story, or a fault, and whether it is the one that is wanted.
+#[derive(Clone, Copy, PartialEq)]
+enum Outcome {
+    Story(Option<(usize, usize, usize)>),
+    Fault(bool),
+}
+
+fn is_wanted(fault: &JoinFault, wanted: Option<&JoinFault>) -> bool {
+    match wanted {
+        Some(wanted) => fault == wanted,
+        None => false,
+    }
+}
+
+fn outcome_of(joined: Result<Story, (JoinFault, Ends)>, wanted: Option<&JoinFault>) -> Outcome {
+    match joined {
+        Ok(story) => Outcome::Story(lengths(&story)),
+        Err((fault, _)) => Outcome::Fault(is_wanted(&fault, wanted)),
+    }
+}
+
+/// What comes of joining these ends of the run.
+fn join(
     alloc: Global,
-    raises: bool,
-    stop: bool,
-    said: &[(u32, bool, u32)],
-) -> Result<Result<Option<(usize, usize, usize)>, JoinFault>, Fail> {
-    let run = new_run(alloc)?;
-    let coordinator = heard(alloc, &run, said)?;
-    let ends = pair(alloc, &run, raises, stop)?;
-    a_journal_begins_with_its_opening();
+    run: Run,
+    coordinator: CoordEnd,
+    ends: Vec<MonEnd>,
+    wanted: Option<&JoinFault>,
+) -> Outcome
+    requires { AreOfOneRun coordinator ends.items run.logs run.settings run.from }
+{
     let Run {
         settings,
         logs,
         from,
     } = run;
-    match Story::join(coordinator, ends, logs, settings, from, Vec::new(alloc)) {
-        Ok(story) => Ok(Ok(lengths(&story))),
-        Err((fault, _)) => Ok(Err(fault)),
-    }
+    let joined = Story::join(coordinator, ends, logs, settings, from, Vec::new(alloc));
+    outcome_of(joined, wanted)
+}
+
+/// What comes of joining such ends.
+fn joined(
+    alloc: Global,
+    raises: bool,
+    stop: bool,
+    said: Option<[Said; 2]>,
+    wanted: Option<&JoinFault>,
+) -> Result<Outcome, Fail> {
+    let run = new_run(alloc)?;
+    let ends = pair(alloc, &run, raises, stop)?;
+    let coordinator = heard(alloc, &run, said)?;
+    a_journal_begins_with_its_opening();
+    Ok(join(alloc, run, coordinator, ends, wanted))
 }

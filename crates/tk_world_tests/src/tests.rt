@@ -107,6 +107,15 @@ fn settle(alloc: Global, world: &mut World) -> Result<(), Fail> {
     Err("not settled")?
 }
 
+/// The story of a world, where what was done with it went well. Tests end a world here alone, since each place that may
+/// drop one is dear to prove.
+fn story_of(world: World, done: Result<(), Fail>) -> Result<Story, Fail> {
+    match done {
+        Ok(()) => Ok(world.into_story()?),
+        Err(fail) => Err(fail),
+    }
+}
+
 /// A publication in plain numbers: its number, k, epsilon, whether it is the last, its members, and the
 /// place of each monitor.
 #[derive(Clone, Copy)]

@@ -1,6 +1,6 @@
 //! Which frames are refused, and why.
 
-use super::{GREATEST, Said, coordinator, play, refusal, taken};
+use super::{GREATEST, Said, coordinator, ended, play, refusal, taken};
 use std::alloc::Global;
 use std::test::Fail;
 use tk_base::{Mon, Obj};
@@ -26,7 +26,19 @@ fn answers(alloc: Global, c: &mut Coordinator, cases: &[Case<'_>]) -> Result<boo
     Ok(true)
 }
 
-/// Whether a coordinator of so many monitors answers so after these turns, and how many entries its journal has.
+/// Whether a coordinator answers so after these turns, and how many entries its journal then has.
+fn answers_after(
+    alloc: Global,
+    c: &mut Coordinator,
+    turns: &[(u32, Said<'_>)],
+    cases: &[Case<'_>],
+) -> Result<(bool, usize), Fail> {
+    play(alloc, c, turns)?;
+    let all = answers(alloc, c, cases)?;
+    Ok((all, c.journal().len()))
+}
+
+/// The same of a new coordinator of so many monitors.
 fn answered(
     alloc: Global,
     monitors: u64,
@@ -34,9 +46,8 @@ fn answered(
     cases: &[Case<'_>],
 ) -> Result<(bool, usize), Fail> {
     let mut c = coordinator(alloc, monitors, 0)?;
-    play(alloc, &mut c, turns)?;
-    let all = answers(alloc, &mut c, cases)?;
-    Ok((all, c.journal().len()))
+    let shown = answers_after(alloc, &mut c, turns, cases);
+    ended(c, shown)
 }
 
 #[test]
@@ -138,7 +149,8 @@ fn refused_settleds(rt: HostRuntime) -> Result<(), Fail> {
 /// Why a new coordinator refuses a frame.
 fn refused(alloc: Global, mon: u32, frame: Frame) -> Result<Option<CoordRefusal>, Fail> {
     let mut c = coordinator(alloc, 2, 0)?;
-    taken(&mut c, mon, frame)
+    let shown = taken(&mut c, mon, frame);
+    ended(c, shown)
 }
 
 #[test]

@@ -3,7 +3,7 @@
 ghost use Rattle.std.specs.Prelude.{◌≡◌, ◌≤ℤ◌, pos, [], ◌∷◌, length, IfOk};
 ghost use Rattle.tk_rows.specs.Factors.{factor_at};
 
-use super::{Said, factors, leads, play};
+use super::{Said, ended, factors, leads, play};
 use std::alloc::Global;
 use std::test::Fail;
 use tk_base::{Mon, Obj, ObjSet, Pairs, Settings};
@@ -99,18 +99,26 @@ const WIDE: [(u32, Said<'static>); 2] = [
 ];
 
 /// Whether no round is open, and the factors of a and of b.
-fn dealt(c: &Coordinator) -> (bool, Option<(i128, i128, i128)>, Option<(i128, i128, i128)>) {
+type Dealt = (bool, Option<(i128, i128, i128)>, Option<(i128, i128, i128)>);
+
+fn dealt(c: &Coordinator) -> Dealt {
     (c.idle(), factors(c, 1), factors(c, 2))
+}
+
+/// What stands after the Values to the full round, and after those to the wide one, in which b leads.
+fn both_rounds(alloc: Global, c: &mut Coordinator) -> Result<(Dealt, Dealt, bool), Fail> {
+    play(alloc, c, &FULL)?;
+    let full = dealt(c);
+    play(alloc, c, &WIDE)?;
+    Ok((full, dealt(c), leads(c, 2)))
 }
 
 #[test]
 fn a_wide_round_in_its_place(rt: HostRuntime) -> Result<(), Fail> {
     let mut c = far(rt.alloc())?;
-    play(rt.alloc(), &mut c, &FULL)?;
+    let shown = both_rounds(rt.alloc(), &mut c);
     let far = Some((0, FACTOR, -FACTOR));
-    assert_eq!(rt; dealt(&c), (false, far, far));
-    play(rt.alloc(), &mut c, &WIDE)?;
-    assert_eq!(rt; dealt(&c), (true, Some((0, 0, 0)), Some((11, 9, -20))));
-    assert!(rt; leads(&c, 2));
+    let wide = (true, Some((0, 0, 0)), Some((11, 9, -20)));
+    assert_eq!(rt; ended(c, shown)?, ((false, far, far), wide, true));
     Ok(())
 }

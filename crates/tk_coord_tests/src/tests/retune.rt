@@ -1,6 +1,6 @@
 //! When another k and epsilon are taken, and from when they hold.
 
-use super::{GREATEST, Said, coordinator, leads, play};
+use super::{GREATEST, Said, coordinator, ended, leads, play};
 use std::alloc::Global;
 use std::test::Fail;
 use tk_coord::{Coordinator, RetuneRefusal};
@@ -14,8 +14,11 @@ fn retuned(
     epsilon: u128,
 ) -> Result<Result<(), RetuneRefusal>, Fail> {
     let mut c = coordinator(alloc, monitors, 0)?;
-    play(alloc, &mut c, turns)?;
-    Ok(c.retune(k, epsilon))
+    let shown = match play(alloc, &mut c, turns) {
+        Ok(()) => Ok(c.retune(k, epsilon)),
+        Err(fail) => Err(fail),
+    };
+    ended(c, shown)
 }
 
 #[test]
@@ -43,22 +46,22 @@ fn in_force(c: &Coordinator) -> (u32, i128, bool) {
     (c.k(), c.epsilon(), c.idle())
 }
 
-/// What is in force in a retune's round and at its end, and whether a and b lead then.
+/// What is in force in a retune's round and at its end, where a and b lead.
 fn over_a_round(alloc: Global, c: &mut Coordinator) -> Result<[(u32, i128, bool); 2], Fail> {
     c.retune(2, 4)?;
     play(alloc, c, &[(1, Said::Values(1, 1, 0, &[(1, 0), (2, 0)]))])?;
     let before = in_force(c);
     play(alloc, c, &[(2, Said::Values(1, 1, 0, &[(1, 0), (2, 3)]))])?;
+    if !leads(c, 1) || !leads(c, 2) {
+        return Err("another set")?;
+    }
     Ok([before, in_force(c)])
 }
 
 #[test]
 fn in_force_from_the_end_of_its_round(rt: HostRuntime) -> Result<(), Fail> {
     let mut c = coordinator(rt.alloc(), 2, 0)?;
-    assert_eq!(rt;
-        over_a_round(rt.alloc(), &mut c)?,
-        [(1, 0, false), (2, 4, true)]
-    );
-    assert_eq!(rt; (leads(&c, 1), leads(&c, 2)), (true, true));
+    let shown = over_a_round(rt.alloc(), &mut c);
+    assert_eq!(rt; ended(c, shown)?, [(1, 0, false), (2, 4, true)]);
     Ok(())
 }

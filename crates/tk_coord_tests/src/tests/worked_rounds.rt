@@ -1,6 +1,6 @@
 //! The factors that single rounds give.
 
-use super::{Said, coordinator, factors, leads, own, play};
+use super::{Said, coordinator, ended, factors, leads, own, play};
 use std::alloc::Global;
 use std::test::Fail;
 use tk_base::Settings;
@@ -22,8 +22,11 @@ fn dealt(
     turns: &[(u32, Said<'_>)],
 ) -> Result<(Factors, Factors), Fail> {
     let mut c = coordinator(alloc, 2, epsilon)?;
-    play(alloc, &mut c, turns)?;
-    Ok((factors(&c, 1), factors(&c, 2)))
+    let shown = match play(alloc, &mut c, turns) {
+        Ok(()) => Ok((factors(&c, 1), factors(&c, 2))),
+        Err(fail) => Err(fail),
+    };
+    ended(c, shown)
 }
 
 /// Whether no round is open at a coordinator of one monitor after these turns, whether b leads, and the own factors.
@@ -32,8 +35,11 @@ fn alone(
     turns: &[(u32, Said<'_>)],
 ) -> Result<(bool, bool, Option<(i128, i128)>), Fail> {
     let mut c = coordinator(alloc, 1, 0)?;
-    play(alloc, &mut c, turns)?;
-    Ok((c.idle(), leads(&c, 2), own(&c)))
+    let shown = match play(alloc, &mut c, turns) {
+        Ok(()) => Ok((c.idle(), leads(&c, 2), own(&c))),
+        Err(fail) => Err(fail),
+    };
+    ended(c, shown)
 }
 
 #[test]
@@ -88,8 +94,11 @@ fn fallen(alloc: Global) -> Result<Option<(i128, i128)>, Fail> {
     let settings = Settings::new(1, 0, 1, 3, 1)?;
     let mut c = Coordinator::new(alloc, settings)?;
     let fell = Said::Report(1, -4, &[2, 3], &[(1, -4), (2, 0), (3, 0)]);
-    play(alloc, &mut c, &[(1, fell)])?;
-    Ok(own(&c))
+    let shown = match play(alloc, &mut c, &[(1, fell)]) {
+        Ok(()) => Ok(own(&c)),
+        Err(fail) => Err(fail),
+    };
+    ended(c, shown)
 }
 
 #[test]

@@ -1,5 +1,6 @@
 //! Readers and writers that fail, or do less than they are asked for.
 
+use std::alloc::Global;
 use std::io;
 use std::io::{Read, Write};
 use std::test::Fail;
@@ -34,6 +35,12 @@ impl Read for Trickle {
     }
 }
 
+/// What comes of taking all from some bytes and an error behind them.
+fn taken(alloc: Global, kind: io::ErrorKind) -> Result<(), FileFault> {
+    let mut bytes = Vec::new(alloc);
+    take_all(b"a,1\n".as_slice().chain(Broken { kind }), &mut bytes)
+}
+
 #[test]
 fn a_read_error_is_no_end(rt: HostRuntime) {
     let cases = [
@@ -42,10 +49,7 @@ fn a_read_error_is_no_end(rt: HostRuntime) {
         (io::ErrorKind::OutOfMemory, FileFault::NoMemory),
     ];
     for (kind, fault) in cases {
-        let mut bytes = Vec::new(rt.alloc());
-        let front = b"a,1\n".as_slice();
-        let outcome = take_all(front.chain(Broken { kind }), &mut bytes);
-        assert_eq!(rt; outcome, Err(fault));
+        assert_eq!(rt; taken(rt.alloc(), kind), Err(fault));
     }
 }
 
@@ -78,12 +82,17 @@ impl Write for Narrow {
     }
 }
 
+/// What comes of writing five bytes where there is so much room, and how many were taken.
+fn written(room: usize) -> (Result<(), PutFailed>, usize) {
+    let mut to = Narrow { room, taken: 0 };
+    let outcome = put_all(&mut to, b"set 1");
+    (outcome, to.taken)
+}
+
 #[test]
 fn a_short_write_is_gone_on_with(rt: HostRuntime) {
     let cases = [(8, Ok(()), 5), (5, Ok(()), 5), (4, Err(PutFailed), 4)];
     for (room, outcome, taken) in cases {
-        let mut to = Narrow { room, taken: 0 };
-        assert_eq!(rt; put_all(&mut to, b"set 1"), outcome);
-        assert_eq!(rt; to.taken, taken);
+        assert_eq!(rt; written(room), (outcome, taken));
     }
 }

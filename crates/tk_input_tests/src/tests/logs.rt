@@ -1,7 +1,7 @@
 //! Which parts make logs, and the sums over them.
 
 ghost use Rattle.std.specs.Prelude.{◌≡◌, ◌≤◌, ◌∷◌, [], All, IfOk, length, replicate};
-ghost use Rattle.tk_input.specs.Logs.{IsObject};
+ghost use Rattle.tk_input.specs.Logs.{IsCut, IsObject};
 
 use std::alloc::Global;
 use std::test::Fail;
@@ -47,73 +47,83 @@ fn first_place(alloc: Global) -> Result<Cut, Fail>
     Ok(Cut::new(vec![in alloc; places]?))
 }
 
+/// The total of the first object over a copy of some logs.
+fn total_of_copy(alloc: Global, logs: &Logs, cut: &Cut) -> Option<i128>
+    requires { IsCut logs.now.logs cut.now }
+{
+    match logs.try_clone(alloc) {
+        Ok(copy) => Some(copy.total(Obj(1), cut)),
+        Err(_) => None,
+    }
+}
+
+/// The value, the total and a copy's total over one change.
+fn sums(alloc: Global, by: i128) -> Result<(i128, i128, Option<i128>), Fail> {
+    let cut = first_place(alloc)?;
+    let part = part_of(alloc, by, 1)?;
+    let logs = Logs::new(alloc, vec![in alloc; (Mon(1), part)]?, 1)?;
+    let copied = total_of_copy(alloc, &logs, &cut);
+    Ok((
+        logs.value(Mon(1), Obj(1), &cut),
+        logs.total(Obj(1), &cut),
+        copied,
+    ))
+}
+
 #[test]
 fn sums_at_the_limit_are_taken(rt: HostRuntime) -> Result<(), Fail> {
-    let alloc = rt.alloc();
-    for by in [LIMIT, -LIMIT] {
-        let part = part_of(alloc, by, 1)?;
-        let logs = Logs::new(alloc, vec![in alloc; (Mon(1), part)]?, 1)?;
-        let cut = first_place(alloc)?;
-        assert_eq!(rt; logs.value(Mon(1), Obj(1), &cut), by);
-        assert_eq!(rt; logs.total(Obj(1), &cut), by);
+    for by in [LIMIT, -LIMIT, 7] {
+        assert_eq!(rt; sums(rt.alloc(), by)?, (by, by, Some(by)));
     }
     Ok(())
 }
 
-#[test]
-fn a_clone_has_the_same_changes(rt: HostRuntime) -> Result<(), Fail> {
-    let alloc = rt.alloc();
-    let part = part_of(alloc, 7, 1)?;
-    let cut = first_place(alloc)?;
-    let logs = Logs::new(alloc, vec![in alloc; (Mon(1), part)]?, 1)?;
-    assert!(rt;
-        logs.try_clone(alloc)
-            .is_ok_and(|clone| clone.total(Obj(1), &cut) == 7)
-    );
-    Ok(())
+/// Why a change at the limit makes no logs with another one behind it.
+fn fault_past_limit(alloc: Global, by: i128) -> Result<Option<LogsFault>, Fail> {
+    let full = part_of(alloc, LIMIT, 1)?;
+    let over = part_of(alloc, by, 1)?;
+    let parts = vec![in alloc; (Mon(1), full), (Mon(1), over)]?;
+    Ok(Logs::new(alloc, parts, 1).err())
 }
 
 #[test]
 fn sums_past_the_limit_are_refused(rt: HostRuntime) -> Result<(), Fail> {
-    let alloc = rt.alloc();
+    let (mon, obj) = (Mon(1), Obj(1));
     for by in [1, -1] {
-        let full = part_of(alloc, LIMIT, 1)?;
-        let over = part_of(alloc, by, 1)?;
-        let parts = vec![in alloc; (Mon(1), full), (Mon(1), over)]?;
-        let fault = Logs::new(alloc, parts, 1).err();
-        let great = LogsFault::TooGreat {
-            mon: Mon(1),
-            obj: Obj(1),
-        };
-        assert_eq!(rt; fault, Some(great));
+        let fault = fault_past_limit(rt.alloc(), by)?;
+        assert_eq!(rt; fault, Some(LogsFault::TooGreat { mon, obj }));
     }
     Ok(())
+}
+
+/// Why so many parts of one monitor, each of so many changes, make no logs.
+fn fault_of(alloc: Global, mon: u32, feeders: usize, many: usize) -> Result<Option<LogsFault>, Fail>
+    requires mon { (1 ≤ mon) × (mon ≤ 64) }
+    requires many { many ≤ 1000000 }
+{
+    let parts = parts_of(alloc, mon, feeders, many)?;
+    Ok(Logs::new(alloc, parts, 1).err())
 }
 
 #[test]
 fn logs_are_refused_by_their_numbers(rt: HostRuntime) -> Result<(), Fail> {
     let alloc = rt.alloc();
-    let none = parts_of(alloc, 1, 0, 1)?;
-    let fault = Logs::new(alloc, none, 1).err();
-    assert_eq!(rt; fault, Some(LogsFault::MonitorGap(Mon(1))));
-    let gap = parts_of(alloc, 3, 9, 1)?;
-    let fault = Logs::new(alloc, gap, 1).err();
-    assert_eq!(rt; fault, Some(LogsFault::MonitorGap(Mon(1))));
-    let full = parts_of(alloc, 1, 8, 1)?;
-    assert!(rt; Logs::new(alloc, full, 1).is_ok());
-    let crowded = parts_of(alloc, 1, 9, 500_000)?;
-    let fault = Logs::new(alloc, crowded, 1).err();
-    assert_eq!(rt; fault, Some(LogsFault::TooManyFeeders(Mon(1))));
+    let faults = [
+        fault_of(alloc, 1, 0, 1)?,
+        fault_of(alloc, 3, 9, 1)?,
+        fault_of(alloc, 1, 8, 1)?,
+        fault_of(alloc, 1, 9, 500_000)?,
+    ];
+    let gap = Some(LogsFault::MonitorGap(Mon(1)));
+    let crowded = Some(LogsFault::TooManyFeeders(Mon(1)));
+    assert_eq!(rt; faults, [gap, gap, None, crowded]);
     Ok(())
 }
 
 #[test]
 fn logs_have_at_most_4000000_changes(rt: HostRuntime) -> Result<(), Fail> {
-    let alloc = rt.alloc();
-    let full = parts_of(alloc, 1, 4, 1_000_000)?;
-    assert!(rt; Logs::new(alloc, full, 1).is_ok());
-    let over = parts_of(alloc, 1, 7, 571_429)?;
-    let fault = Logs::new(alloc, over, 1).err();
-    assert_eq!(rt; fault, Some(LogsFault::TooManyUpdates));
+    let full = fault_of(rt.alloc(), 1, 4, 1_000_000)?;
+    let over = fault_of(rt.alloc(), 1, 7, 571_429)?;
+    assert_eq!(rt; (full, over), (None, Some(LogsFault::TooManyUpdates)));
     Ok(())
 }

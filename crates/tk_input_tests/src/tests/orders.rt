@@ -1,47 +1,68 @@
 //! What an order file means, and where it is refused.
 
-use std::test::Fail;
+use std::alloc::Global;
 use tk_base::{Feeder, Mon};
 use tk_input::{Event, Order, OrderFault};
 
-/// Whether two events have the same numbers.
-fn is_same(event: &Event, other: &Event) -> bool {
-    match (event, other) {
-        (Event::Raise(mon, f), Event::Raise(m, g)) => mon == m && f == g,
-        (Event::Check(mon), Event::Check(m)) => mon == m,
-        (Event::Up(mon), Event::Up(m)) => mon == m,
-        (Event::Down(mon), Event::Down(m)) => mon == m,
-        (Event::Retune(one), Event::Retune(two)) => {
-            one.k() == two.k() && one.epsilon() == two.epsilon()
+/// An event's numbers.
+#[derive(Clone, Copy, Debug, PartialEq, Eq)]
+enum Numbers {
+    Raise(Mon, Feeder),
+    Check(Mon),
+    Up(Mon),
+    Down(Mon),
+    Retune(u64, u128),
+}
+
+fn numbers_of(event: &Event) -> Numbers {
+    match event {
+        Event::Raise(mon, feeder) => Numbers::Raise(*mon, *feeder),
+        Event::Check(mon) => Numbers::Check(*mon),
+        Event::Up(mon) => Numbers::Up(*mon),
+        Event::Down(mon) => Numbers::Down(*mon),
+        Event::Retune(retuning) => Numbers::Retune(retuning.k(), retuning.epsilon()),
+    }
+}
+
+/// Whether an order has these events, each with its line.
+fn has_events(order: &Order, wanted: &[(Numbers, u32)]) -> bool {
+    for (i, (event, line)) in wanted.iter().enumerate() {
+        if i >= order.len() || numbers_of(order.at(i)) != *event || order.line(i) != *line {
+            return false;
         }
-        _ => false,
+    }
+    order.len() == wanted.len()
+}
+
+/// Whether these bytes are an order of these events.
+fn is_order(alloc: Global, bytes: &[u8], wanted: &[(Numbers, u32)]) -> bool {
+    match Order::read(alloc, bytes) {
+        Ok(order) => has_events(&order, wanted),
+        Err(_) => false,
     }
 }
 
 #[test]
-fn an_order_is_its_events(rt: HostRuntime) -> Result<(), Fail> {
+fn an_order_is_its_events(rt: HostRuntime) {
     let text = b"raise 1 2\r\n\n\r\ncheck 3\nup 4\ndown 999\nretune 007 40".as_slice();
-    let order = Order::read(rt.alloc(), text)?;
     let events = [
-        (Event::Raise(Mon(1), Feeder(2)), 1),
-        (Event::Check(Mon(3)), 4),
-        (Event::Up(Mon(4)), 5),
-        (Event::Down(Mon(999)), 6),
-        (Event::retune(rt.alloc(), 7, 40)?, 7),
+        (Numbers::Raise(Mon(1), Feeder(2)), 1),
+        (Numbers::Check(Mon(3)), 4),
+        (Numbers::Up(Mon(4)), 5),
+        (Numbers::Down(Mon(999)), 6),
+        (Numbers::Retune(7, 40), 7),
     ];
-    assert_eq!(rt; order.len(), events.len());
-    for (i, (event, line)) in events.iter().enumerate() {
-        if i < order.len() {
-            assert!(rt; is_same(order.at(i), event));
-            assert_eq!(rt; order.line(i), *line);
-        }
-    }
-    assert_eq!(rt; Order::read(rt.alloc(), b"\r\n\n")?.len(), 0);
-    Ok(())
+    assert!(rt; is_order(rt.alloc(), text, &events));
+    assert!(rt; is_order(rt.alloc(), b"\r\n\n", &[]));
+}
+
+/// Why these bytes are no order.
+fn fault_of(alloc: Global, bytes: &[u8]) -> Option<OrderFault> {
+    Order::read(alloc, bytes).err()
 }
 
 #[test]
-fn an_order_is_refused_at_its_first_bad_line(rt: HostRuntime) -> Result<(), Fail> {
+fn an_order_is_refused_at_its_first_bad_line(rt: HostRuntime) {
     let cases = [
         (b"raise 1".as_slice(), 1),
         (b"\n\ncheck 1\nraise 1 2 3\nup x\n".as_slice(), 4),
@@ -71,27 +92,26 @@ fn an_order_is_refused_at_its_first_bad_line(rt: HostRuntime) -> Result<(), Fail
         (b"up 1\n\nretune 1 2\nretun 1 2\n".as_slice(), 4),
     ];
     for (bytes, line) in cases {
-        let fault = Order::read(rt.alloc(), bytes).err();
+        let fault = fault_of(rt.alloc(), bytes);
         assert_eq!(rt; fault, Some(OrderFault::BadOrder(line)));
     }
-    Ok(())
+}
+
+/// A retuning of these numbers, and its copy.
+fn twice(alloc: Global, k: u64, epsilon: u128) -> Option<[Numbers; 2]> {
+    let event = Event::retune(alloc, k, epsilon).ok()?;
+    let copy = event.try_clone().ok()?;
+    Some([numbers_of(&event), numbers_of(&copy)])
 }
 
 #[test]
-fn a_retune_has_18_and_38_digits(rt: HostRuntime) -> Result<(), Fail> {
-    let most = b"retune 999999999999999999 99999999999999999999999999999999999999".as_slice();
-    let order = Order::read(rt.alloc(), most)?;
-    let event = Event::retune(
-        rt.alloc(),
-        999_999_999_999_999_999,
-        99_999_999_999_999_999_999_999_999_999_999_999_999,
-    )?;
-    assert_eq!(rt; order.len(), 1);
-    if order.len() == 1 {
-        assert!(rt; is_same(order.at(0), &event));
-        assert!(rt; is_same(&order.at(0).try_clone()?, &event));
-    }
-    Ok(())
+fn a_retune_has_18_and_38_digits(rt: HostRuntime) {
+    let k = 999_999_999_999_999_999;
+    let epsilon = 99_999_999_999_999_999_999_999_999_999_999_999_999;
+    let most = Numbers::Retune(k, epsilon);
+    let text = b"retune 999999999999999999 99999999999999999999999999999999999999".as_slice();
+    assert!(rt; is_order(rt.alloc(), text, &[(most, 1)]));
+    assert_eq!(rt; twice(rt.alloc(), k, epsilon), Some([most, most]));
 }
 
 #[test]

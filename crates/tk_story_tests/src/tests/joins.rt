@@ -1,6 +1,6 @@
 //! What is joined, and what differs first.
 
-use super::{joined, settled};
+use super::{Outcome, joined, settled};
 use std::test::Fail;
 use tk_base::Mon;
 use tk_frames::Frame;
@@ -8,32 +8,32 @@ use tk_story::{Direction, JoinFault, Received};
 
 #[test]
 fn ends_that_agree(rt: HostRuntime) -> Result<(), Fail> {
-    let said = [(1, false, 1), (2, false, 0)];
-    let answer = joined(rt.alloc(), true, false, &said)?;
-    assert!(rt; answer == Ok(Some((5, 3, 2))));
+    let said = Some([(false, 1), (false, 0)]);
+    let answer = joined(rt.alloc(), true, false, said, None)?;
+    assert!(rt; answer == Outcome::Story(Some((5, 3, 2))));
     Ok(())
 }
 
 #[test]
 fn ends_that_differ(rt: HostRuntime) -> Result<(), Fail> {
-    let said = [(1, false, 0), (2, true, 1)];
-    let answer = joined(rt.alloc(), true, false, &said)?;
-    let sent = settled(rt.alloc(), false, 1)?;
-    let received = settled(rt.alloc(), false, 0)?;
+    let Some(received) = settled(rt.alloc(), false, 0) else {
+        return Err("no memory")?;
+    };
     let wanted = JoinFault::Differs {
         mon: Mon(1),
         direction: Direction::UpLink,
         place: 0,
-        sent: Some(sent),
+        sent: settled(rt.alloc(), false, 1),
         received: Received::Frame(received),
     };
-    assert!(rt; answer == Err(wanted));
+    let said = Some([(false, 0), (true, 1)]);
+    let answer = joined(rt.alloc(), true, false, said, Some(&wanted))?;
+    assert!(rt; answer == Outcome::Fault(true));
     Ok(())
 }
 
 #[test]
 fn a_frame_that_was_never_sent(rt: HostRuntime) -> Result<(), Fail> {
-    let answer = joined(rt.alloc(), true, true, &[])?;
     let wanted = JoinFault::Differs {
         mon: Mon(2),
         direction: Direction::DownLink,
@@ -41,6 +41,7 @@ fn a_frame_that_was_never_sent(rt: HostRuntime) -> Result<(), Fail> {
         sent: None,
         received: Received::Frame(Frame::Stop),
     };
-    assert!(rt; answer == Err(wanted));
+    let answer = joined(rt.alloc(), true, true, None, Some(&wanted))?;
+    assert!(rt; answer == Outcome::Fault(true));
     Ok(())
 }

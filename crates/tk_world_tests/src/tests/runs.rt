@@ -1,8 +1,9 @@
 //! What runs give.
 
-use super::{Does, Publishes, SETTLED, has_factors, is_published, play, settle, world};
+use super::{Does, Publishes, SETTLED, has_factors, is_published, play, settle, story_of, world};
 use std::alloc::Global;
 use std::test::Fail;
+use tk_story::Story;
 use tk_world::World;
 
 /// A change at monitor 1, and then k 2 and epsilon 7.
@@ -12,40 +13,43 @@ fn retune(alloc: Global, world: &mut World) -> Result<(), Fail> {
     settle(alloc, world)
 }
 
+/// Whether a story has published both sets.
+fn are_published(story: &Story, first: Publishes<'_>, second: Publishes<'_>) -> (bool, bool) {
+    (is_published(story, first), is_published(story, second))
+}
+
 #[test]
 fn a_retune_deals_by_its_epsilon(rt: HostRuntime) -> Result<(), Fail> {
     let mut world = world(rt.alloc(), b"a,5\n", b"b,3\n", &[0, 0])?;
-    retune(rt.alloc(), &mut world)?;
-    let story = world.into_story()?;
+    let done = retune(rt.alloc(), &mut world);
+    let story = story_of(world, done)?;
     let first = Publishes(1, 1, 0, false, &[1], &[0, 0]);
     let second = Publishes(2, 2, 7, false, &[1, 2], &[1, 0]);
-    let sets = (is_published(&story, first), is_published(&story, second));
-    assert_eq!(rt; sets, (true, true));
+    let sets = are_published(&story, first, second);
     let one = has_factors(&story, 1, &[(1, -1), (2, 2)]);
     let two = has_factors(&story, 2, &[(1, 4), (2, 2)]);
-    assert_eq!(rt; (one, two), (true, true));
+    assert_eq!(rt; (sets, one, two), ((true, true), true, true));
     Ok(())
 }
 
-/// Settles, raises both changes that are left and settles again; answers how many monitors its cut has, and
-/// whether it was at rest before.
-fn run_on(alloc: Global, world: &mut World) -> Result<(usize, bool), Fail> {
+/// Settles, raises both changes that are left and settles again. Before these it is at rest, and its cut has two monitors.
+fn run_on(alloc: Global, world: &mut World) -> Result<(), Fail> {
     settle(alloc, world)?;
     let monitors = world.cut()?.len();
-    let rests = world.quiet() && world.is_settled();
+    if monitors != 2 || !world.quiet() || !world.is_settled() {
+        return Err("not at rest")?;
+    }
     play(alloc, world, &[Does::Raise(1, 1), Does::Raise(2, 1)])?;
-    settle(alloc, world)?;
-    Ok((monitors, rests))
+    settle(alloc, world)
 }
 
 #[test]
 fn a_world_starts_from_a_cut(rt: HostRuntime) -> Result<(), Fail> {
     let mut world = world(rt.alloc(), b"b,5\na,9\n", b"b,3\n", &[1, 0])?;
-    assert_eq!(rt; run_on(rt.alloc(), &mut world)?, (2, true));
-    let story = world.into_story()?;
+    let done = run_on(rt.alloc(), &mut world);
+    let story = story_of(world, done)?;
     let first = Publishes(1, 1, 0, false, &[2], &[1, 0]);
     let last = Publishes(2, 1, 0, true, &[1], &[2, 1]);
-    let sets = (is_published(&story, first), is_published(&story, last));
-    assert_eq!(rt; sets, (true, true));
+    assert_eq!(rt; are_published(&story, first, last), (true, true));
     Ok(())
 }

@@ -1,6 +1,6 @@
 //! A story comes back from the list of its events.
 
-use super::{Does, play, settle, world};
+use super::{Does, play, settle, story_of, world};
 use std::alloc::Global;
 use std::test::Fail;
 use tk_base::Mon;
@@ -13,30 +13,39 @@ fn fresh(alloc: Global) -> Result<World, Fail> {
     world(alloc, b"a,5\n", b"b,3\n", &[0, 0])
 }
 
+/// Settles before and after both changes.
+fn both_changes(alloc: Global, world: &mut World) -> Result<(), Fail> {
+    settle(alloc, world)?;
+    play(alloc, world, &[Does::Raise(1, 1), Does::Raise(2, 1)])?;
+    settle(alloc, world)
+}
+
 /// A story of both changes, with a list of events of `serialize`.
 fn listed(alloc: Global) -> Result<Story, Fail> {
     let mut world = fresh(alloc)?;
-    settle(alloc, &mut world)?;
-    play(alloc, &mut world, &[Does::Raise(1, 1), Does::Raise(2, 1)])?;
-    settle(alloc, &mut world)?;
-    let story = world.into_story()?;
-    match serialize(alloc, story) {
+    let done = both_changes(alloc, &mut world);
+    match serialize(alloc, story_of(world, done)?) {
         Ok(story) => Ok(story),
         Err(_) => Err("out of memory")?,
     }
 }
 
-/// What a new world does with its events.
-fn again(alloc: Global, story: &Story) -> Result<Story, Fail> {
-    let mut world = fresh(alloc)?;
+/// Steps the events of a story.
+fn step_all(world: &mut World, story: &Story) -> Result<(), Fail> {
     for event in story.events() {
         let event = event.try_clone()?;
         if world.step(event)? == Moved::Idle {
             return Err("idle")?;
         }
     }
-    let story = world.into_story()?;
-    Ok(story)
+    Ok(())
+}
+
+/// What a new world does with its events.
+fn again(alloc: Global, story: &Story) -> Result<Story, Fail> {
+    let mut world = fresh(alloc)?;
+    let done = step_all(&mut world, story);
+    story_of(world, done)
 }
 
 fn are_same_journals(one: &[Noted], other: &[Noted]) -> bool {
@@ -65,10 +74,17 @@ fn are_same(one: &Story, other: &Story) -> bool {
         && are_same_trails(one.trail(Mon(2)), other.trail(Mon(2)))
 }
 
+/// Whether a story comes back from its events.
+fn comes_back(alloc: Global, story: &Story) -> Result<bool, Fail> {
+    let other = again(alloc, story)?;
+    Ok(are_same(story, &other))
+}
+
 #[test]
 fn its_events_give_the_same_journal_and_trails(rt: HostRuntime) -> Result<(), Fail> {
     let story = listed(rt.alloc())?;
-    let other = again(rt.alloc(), &story)?;
-    assert!(rt; are_same(&story, &other));
+    let same = comes_back(rt.alloc(), &story);
+    drop(story);
+    assert!(rt; same?);
     Ok(())
 }

@@ -7,7 +7,7 @@ use Rattle.tk_alloc_tests.proofs.tests.short_round.Goals as goal
 
 pub short_test-requires-clause-ready : goal.short_test-requires-clause-ready
 short_test-requires-clause-ready g c =
-    two_ready c.in_ok-near.near c.in_ok-table.table c.in_ok-members.members (objects_of c.in_ok-report.report.values) c.in_ok-near.ensures.k c.in_ok-near.ensures.objects c.in_ok-near.ensures.monitors c.in_ok-near.ensures.no_debt
+    two_ready c.in_ok-far.far c.in_ok-table.table c.in_ok-members.members (objects_of c.in_ok-report.report.values) c.in_ok-far.ensures.k c.in_ok-far.ensures.objects c.in_ok-far.ensures.monitors c.in_ok-far.ensures.no_debt
     c.in_ok-table.ensures.objects c.in_ok-table.ensures.monitors c.in_ok-members.ensures (ap objects_of c.in_ok-report.ensures.values) (c.in_ok-table.ensures.zeros 0 1) (c.in_ok-table.ensures.zeros 0 2)
 
 pub short_test-requires-clause-report : goal.short_test-requires-clause-report
@@ -15,38 +15,18 @@ short_test-requires-clause-report g c =
     two_take c.in_ok-table.table c.in_ok-members.members (objects_of c.in_ok-report.report.values) c.in_ok-report.report (pos 0) (pos 3) (pos 0) (pos 0) c.in_ok-members.ensures (ap objects_of c.in_ok-report.ensures.values) c.in_ok-report.ensures.values c.in_ok-report.ensures.border
     (omega arith) (omega arith) (omega (arith, c.in_ok-report.ensures.mon)) (omega (arith, c.in_ok-report.ensures.mon, c.in_ok-table.ensures.monitors)) (c.in_ok-table.ensures.zeros c.in_ok-report.report.mon.0 1) (omega (arith, ints)) (omega (arith, ints))
 
-pub short_test-requires-2-clause-ready : goal.short_test-requires-2-clause-ready
-short_test-requires-2-clause-ready g c =
-    two_ready c.in_ok-far.far c.in_ok-table.table c.in_ok-members.members (objects_of c.in_ok-report.report.values) c.in_ok-far.ensures.k c.in_ok-far.ensures.objects c.in_ok-far.ensures.monitors c.in_ok-far.ensures.no_debt
-    c.in_ok-table.ensures.objects c.in_ok-table.ensures.monitors c.in_ok-members.ensures (ap objects_of c.in_ok-report.ensures.values) (c.in_ok-table.ensures.zeros 0 1) (c.in_ok-table.ensures.zeros 0 2)
-
-pub short_test-requires-2-clause-report : goal.short_test-requires-2-clause-report
-short_test-requires-2-clause-report g c =
-    two_take c.in_ok-table.table c.in_ok-members.members (objects_of c.in_ok-report.report.values) c.in_ok-report.report (pos 0) (pos 3) (pos 0) (pos 0) c.in_ok-members.ensures (ap objects_of c.in_ok-report.ensures.values) c.in_ok-report.ensures.values c.in_ok-report.ensures.border
-    (omega arith) (omega arith) (omega (arith, c.in_ok-report.ensures.mon)) (omega (arith, c.in_ok-report.ensures.mon, c.in_ok-table.ensures.monitors)) (c.in_ok-table.ensures.zeros c.in_ok-report.report.mon.0 1) (omega (arith, ints)) (omega (arith, ints))
-
-pub short-requires-clause-ready : goal.short-requires-clause-ready
-short-requires-clause-ready g c =
+pub is_short-requires-clause-ready : goal.is_short-requires-clause-ready
+is_short-requires-clause-ready g c =
     two_ready c.in_ok-near.near c.in_ok-table.table c.in_ok-members.members (objects_of c.in_ok-report.report.values) c.in_ok-near.ensures.k c.in_ok-near.ensures.objects c.in_ok-near.ensures.monitors c.in_ok-near.ensures.no_debt
     c.in_ok-table.ensures.objects c.in_ok-table.ensures.monitors c.in_ok-members.ensures (ap objects_of c.in_ok-report.ensures.values) (c.in_ok-table.ensures.zeros 0 1) (c.in_ok-table.ensures.zeros 0 2)
 
-pub short-requires-clause-report : goal.short-requires-clause-report
-short-requires-clause-report g c =
+pub is_short-requires-clause-report : goal.is_short-requires-clause-report
+is_short-requires-clause-report g c =
     two_take c.in_ok-table.table c.in_ok-members.members (objects_of c.in_ok-report.report.values) c.in_ok-report.report (pos 0) (pos 3) (pos 0) (pos 0) c.in_ok-members.ensures (ap objects_of c.in_ok-report.ensures.values) c.in_ok-report.ensures.values c.in_ok-report.ensures.border
     (omega arith) (omega arith) (omega (arith, c.in_ok-report.ensures.mon)) (omega (arith, c.in_ok-report.ensures.mon, c.in_ok-table.ensures.monitors)) (c.in_ok-table.ensures.zeros c.in_ok-report.report.mon.0 1) (omega (arith, ints)) (omega (arith, ints))
 
-pub short_with_border-requires-clause-ready : goal.short_with_border-requires-clause-ready
-short_with_border-requires-clause-ready g c =
-    two_ready c.in_ok-near.near c.in_ok-table.table c.in_ok-members.members (objects_of c.in_ok-report.report.values) c.in_ok-near.ensures.k c.in_ok-near.ensures.objects c.in_ok-near.ensures.monitors c.in_ok-near.ensures.no_debt
-    c.in_ok-table.ensures.objects c.in_ok-table.ensures.monitors c.in_ok-members.ensures (ap objects_of c.in_ok-report.ensures.values) (c.in_ok-table.ensures.zeros 0 1) (c.in_ok-table.ensures.zeros 0 2)
-
-pub short_with_border-requires-clause-report : goal.short_with_border-requires-clause-report
-short_with_border-requires-clause-report g c =
-    two_take c.in_ok-table.table c.in_ok-members.members (objects_of c.in_ok-report.report.values) c.in_ok-report.report (pos 0) (pos 3) (pos 0) (pos 0) c.in_ok-members.ensures (ap objects_of c.in_ok-report.ensures.values) c.in_ok-report.ensures.values c.in_ok-report.ensures.border
-    (omega arith) (omega arith) (omega (arith, c.in_ok-report.ensures.mon)) (omega (arith, c.in_ok-report.ensures.mon, c.in_ok-table.ensures.monitors)) (c.in_ok-table.ensures.zeros c.in_ok-report.report.mon.0 1) (omega (arith, ints)) (omega (arith, ints))
-
-pub short_with_border-requires-clause-border : goal.short_with_border-requires-clause-border
-short_with_border-requires-clause-border g c =
-    let fits : FitsSigned w128 c.epsilon.result = omega (arith, ints) in
-    to_z-of_z w128 c.epsilon.result fits ∙ c.epsilon.ensures.value
+pub is_short-requires-clause-border : goal.is_short-requires-clause-border
+is_short-requires-clause-border g c =
+    let fits : FitsSigned w128 c.epsilon-border.result = omega (arith, ints) in
+    to_z-of_z w128 c.epsilon-border.result fits ∙ c.epsilon-border.ensures.value
     ∙ sym (two_border c.in_ok-near.near c.in_ok-table.table c.in_ok-members.members (objects_of c.in_ok-report.report.values) c.in_ok-table.ensures.objects c.in_ok-members.ensures (ap objects_of c.in_ok-report.ensures.values) (c.in_ok-table.ensures.zeros 0 1))
