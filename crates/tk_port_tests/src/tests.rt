@@ -257,22 +257,24 @@ fn exchanged(
     (first, port.turn(), &bytes[..count] == out)
 }
 
+/// Such an exchange with a new port that speaks this version.
+fn greeted(
+    alloc: Global,
+    version: u8,
+    assign: &[u8],
+    out: &[u8],
+) -> Result<(Turn, Turn, bool), Fail>
+    requires { IsVersion version }
+{
+    let mut pipe = Pipe::new(alloc, 256)?;
+    let mut port = port(alloc, b"", version, 64, Vec::new(alloc))?;
+    Ok(exchanged(&mut port, &mut pipe, assign, out))
+}
+
 #[test]
 fn a_port_greets_and_stops_in_each_version(rt: HostRuntime) -> Result<(), Fail> {
-    let alloc = rt.alloc();
-    let mut pipe = Pipe::new(alloc, 256)?;
-    let first = exchanged(
-        &mut port(alloc, b"", 1, 64, Vec::new(alloc))?,
-        &mut pipe,
-        &STOPPED[..25],
-        &GREETED_1,
-    );
-    let second = exchanged(
-        &mut port(alloc, b"", 2, 64, Vec::new(alloc))?,
-        &mut pipe,
-        &ASSIGN_2,
-        &GREETED_2,
-    );
+    let first = greeted(rt.alloc(), 1, &STOPPED[..25], &GREETED_1)?;
+    let second = greeted(rt.alloc(), 2, &ASSIGN_2, &GREETED_2)?;
     let answer = (Turn::Quiet, Turn::Stopped, true);
     assert_eq!(rt; (first, second), (answer, answer));
     Ok(())

@@ -32,48 +32,79 @@ const FILES: [(&str, &str); 3] = [
     ("two.csv", "b,3\n"),
 ];
 
-/// What is told of a run and what it writes, where some reads and puts fail. A number is that of the read or put, from
-/// 1, or 0.
-fn ran(alloc: Global, read: u64, room: usize, put: u64) -> Result<(Vec<u8>, VecSink), Fail> {
+fn words(alloc: Global) -> Result<Vec<String>, Fail> {
     let mut words = Vec::new(alloc);
     for word in WORDS {
         words.push(String::from_str(alloc, word)?)?;
     }
+    Ok(words)
+}
+
+/// The files, of which one read fails: its number, from 1, or 0.
+fn files(alloc: Global, read: u64) -> Result<MapFiles, Fail> {
     let mut list = Vec::new(alloc);
     for (name, content) in FILES {
         let content = content.as_bytes().to_vec(alloc)?;
         list.push((String::from_str(alloc, name)?, content))?;
     }
-    let mut files = MapFiles::new(alloc, list, vec![in alloc; read]?);
-    let mut sink = VecSink::new(alloc, room, vec![in alloc; put]?)?;
-    let status = run(alloc, words.as_slice(), &mut files, &mut sink).into_status();
-    Ok((fault_line(alloc, &status)?, sink))
+    Ok(MapFiles::new(alloc, list, vec![in alloc; read]?))
 }
+
+/// What is told of a run over these.
+fn line(alloc: Global, files: &mut MapFiles, sink: &mut VecSink) -> Result<Vec<u8>, Fail> {
+    let words = words(alloc)?;
+    let status = run(alloc, words.as_slice(), files, sink).into_status();
+    Ok(fault_line(alloc, &status)?)
+}
+
+/// Whether a run tells this line and writes so many bytes of the text, where a read fails, or a put, or the room is too
+/// small. A number is that of the read or put, from 1, or 0.
+fn tells(alloc: Global, fails: (u64, usize, u64), told: &[u8], end: usize) -> Result<bool, Fail> {
+    let (read, room, put) = fails;
+    let mut files = files(alloc, read)?;
+    let mut sink = VecSink::new(alloc, room, vec![in alloc; put]?)?;
+    let line = line(alloc, &mut files, &mut sink)?;
+    let written = sink.written();
+    Ok(line.as_slice() == told && TEXT.starts_with(written) && written.len() == end)
+}
+
+const WHOLE: usize = TEXT.len();
+
+const UNWRITTEN: &[u8] = b"topk: the output cannot be written";
 
 #[test]
 fn two_monitors(rt: HostRuntime) -> Result<(), Fail> {
-    let (line, sink) = ran(rt.alloc(), 0, TEXT.len(), 0)?;
-    assert_eq!(rt; (line.as_slice(), sink.written()), (b"".as_slice(), TEXT));
+    assert!(rt; tells(rt.alloc(), (0, WHOLE, 0), b"", WHOLE)?);
     Ok(())
 }
 
 #[test]
 fn a_failed_read_writes_nothing(rt: HostRuntime) -> Result<(), Fail> {
-    let (line, sink) = ran(rt.alloc(), 1, TEXT.len(), 0)?;
-    let told = line.as_slice() == b"topk: objects.csv: cannot be read".as_slice();
-    assert_eq!(rt; (told, sink.written().len()), (true, 0));
-    let (line, sink) = ran(rt.alloc(), 2, TEXT.len(), 0)?;
-    let told = line.as_slice() == b"topk: one.csv: cannot be read".as_slice();
-    assert_eq!(rt; (told, sink.written().len()), (true, 0));
-    let (line, sink) = ran(rt.alloc(), 3, TEXT.len(), 0)?;
-    let told = line.as_slice() == b"topk: two.csv: cannot be read".as_slice();
-    assert_eq!(rt; (told, sink.written().len()), (true, 0));
+    let objects = tells(
+        rt.alloc(),
+        (1, WHOLE, 0),
+        b"topk: objects.csv: cannot be read",
+        0,
+    )?;
+    let one = tells(
+        rt.alloc(),
+        (2, WHOLE, 0),
+        b"topk: one.csv: cannot be read",
+        0,
+    )?;
+    let two = tells(
+        rt.alloc(),
+        (3, WHOLE, 0),
+        b"topk: two.csv: cannot be read",
+        0,
+    )?;
+    assert_eq!(rt; (objects, one, two), (true, true, true));
     Ok(())
 }
 
 #[test]
 fn a_failed_put_leaves_the_lines_before_it(rt: HostRuntime) -> Result<(), Fail> {
-    let rows = [
+    let ends = [
         (1, 0),
         (2, 28),
         (3, 58),
@@ -82,25 +113,14 @@ fn a_failed_put_leaves_the_lines_before_it(rt: HostRuntime) -> Result<(), Fail> 
         (6, 166),
         (7, 230),
     ];
-    for (put, end) in rows {
-        let (line, sink) = ran(rt.alloc(), 0, TEXT.len(), put)?;
-        let told = line.as_slice() == b"topk: the output cannot be written".as_slice();
-        let written = sink.written();
-        assert_eq!(rt;
-            (told, TEXT.starts_with(written), written.len()),
-            (true, true, end)
-        );
+    for (put, end) in ends {
+        assert!(rt; tells(rt.alloc(), (0, WHOLE, put), UNWRITTEN, end)?);
     }
     Ok(())
 }
 
 #[test]
 fn a_full_sink_keeps_the_first_line(rt: HostRuntime) -> Result<(), Fail> {
-    let (line, sink) = ran(rt.alloc(), 0, 28, 0)?;
-    let told = line.as_slice() == b"topk: the output cannot be written".as_slice();
-    assert_eq!(rt;
-        (told, sink.written()),
-        (true, b"set 1 cut 1:0 2:0 members a\n".as_slice())
-    );
+    assert!(rt; tells(rt.alloc(), (0, 28, 0), UNWRITTEN, 28)?);
     Ok(())
 }

@@ -32,35 +32,41 @@ fn assigned_twice(sessions: &mut Sessions) -> Result<(Moved, Moved), NoMemory> {
     Ok((once, twice))
 }
 
+/// Both of these.
+fn stepped(sessions: &mut Sessions) -> Result<[(Moved, Moved); 2], NoMemory> {
+    let raised = raised_twice(sessions)?;
+    let assigned = assigned_twice(sessions)?;
+    Ok([raised, assigned])
+}
+
 #[test]
 fn a_restart_keeps_the_places_alone(rt: HostRuntime) -> Result<(), Fail> {
     let mut s = sessions(rt.alloc())?;
-    let raised = raised_twice(&mut s)?;
-    let assigned = assigned_twice(&mut s)?;
+    let steps = stepped(&mut s);
     let count = s.count();
-    let parts = s.into_parts();
-    let past = parts.0.len();
-    assert_eq!(rt;
-        (raised, assigned),
-        ((Moved::Yes, Moved::Idle), (Moved::Yes, Moved::Yes))
-    );
-    assert_eq!(rt; (count, past), (3, 2));
+    let past = s.into_parts().0.len();
+    let wanted = [(Moved::Yes, Moved::Idle), (Moved::Yes, Moved::Yes)];
+    assert_eq!(rt; (steps?, count, past), (wanted, 3, 2));
     Ok(())
 }
 
-/// How many stories there are once an order is played behind what happened.
-fn stories_behind(alloc: Global, mut sessions: Sessions) -> Option<usize> {
-    let order = SessionOrder::read(alloc, b"up 1\nrestart\ncheck 1\n").ok()?;
-    sessions.play(&order).ok()?;
+/// Plays an order behind what happened, and tells whether memory was found.
+fn goes_on(sessions: &mut Sessions, order: &SessionOrder) -> bool {
+    raised_twice(sessions).is_ok() && sessions.play(order).is_ok()
+}
+
+/// How many stories there are.
+fn stories_of(alloc: Global, sessions: Sessions) -> Option<usize> {
     let stories = sessions.into_stories(alloc).ok()?;
     Some(stories.len())
 }
 
 #[test]
 fn an_order_goes_on_from_where_sessions_stand(rt: HostRuntime) -> Result<(), Fail> {
+    let order = SessionOrder::read(rt.alloc(), b"up 1\nrestart\ncheck 1\n")?;
     let mut s = sessions(rt.alloc())?;
-    raised_twice(&mut s)?;
-    let count = stories_behind(rt.alloc(), s);
-    assert_eq!(rt; count, Some(3));
+    let done = goes_on(&mut s, &order);
+    let count = stories_of(rt.alloc(), s);
+    assert_eq!(rt; (done, count), (true, Some(3)));
     Ok(())
 }
