@@ -1,7 +1,8 @@
 //! Monitor 1 over a log of the objects a and b, at its end of a connection of run 5 over which these bytes come.
 
-ghost use Rattle.std.specs.Prelude.{◌≡◌, ◌<◌, ◌≤◌, IfOk, length};
+ghost use Rattle.std.specs.Prelude.{◌≡◌, ◌<◌, ◌≤◌, [], IfOk, length};
 ghost use Rattle.tk_frames.specs.Spelling.{IsVersion};
+ghost use Rattle.tk_trail.specs.Setup.{IsSetup};
 ghost use Rattle.tk_port.specs.declared.course.Course.TheVariants as on;
 
 use std::alloc::Global;
@@ -67,18 +68,12 @@ const GREETED_2: [u8; 27] = [
     0, 0, 0, 14, 1, 0, 0, 0, 0, 0, 0, 0, 5, 2, 0, 0, 0, 1, 0, 0, 0, 5, 6, 1, 1, 1, 0,
 ];
 
-/// A port of run 5 over a wire whose calls move so many bytes: monitor 1 over these records of the objects a and b.
-fn port(
-    alloc: Global,
-    records: &[u8],
-    version: u8,
-    piece: usize,
-    fails: Vec<u64>,
-) -> Result<Port<PipeWire>, Fail>
-    requires version { IsVersion version }
-    requires piece { (0 < piece) × (piece ≤ 65536) }
-    ensures course { IfOk result (λ port. port.course ≡ on.Open) }
-    ensures feeder { IfOk result (λ port. length port.monitor.setup.parts ≡ 1) }
+/// Monitor 1 over these records of the objects a and b.
+fn monitor(alloc: Global, records: &[u8]) -> Result<Monitor, Fail>
+    ensures setup { IfOk result (λ m. IsSetup m.setup) }
+    ensures number { IfOk result (λ m. m.setup.number ≡ 1) }
+    ensures feeder { IfOk result (λ m. length m.setup.parts ≡ 1) }
+    ensures trail { IfOk result (λ m. m.trail ≡ []) }
 {
     let names = Catalog::read(alloc, b"a\nb\n")?;
     let part = Part::read(alloc, records, &names)?;
@@ -93,12 +88,29 @@ fn port(
         let parts = logs.parts(alloc, Mon(1))?;
         let from = Places::new(vec![in alloc; 0]?);
         let monitor = Monitor::new(alloc, &settings, Mon(1), parts, &from)?;
-        let wire = PipeWire::new(alloc, 256, piece, fails)?;
-        let port = Port::new(alloc, wire, monitor, 5, version)?;
-        Ok(port)
+        Ok(monitor)
     } else {
         Err("other logs")?
     }
+}
+
+/// A port of run 5 over a wire whose calls move so many bytes: monitor 1 over these records of the objects a and b.
+fn port(
+    alloc: Global,
+    records: &[u8],
+    version: u8,
+    piece: usize,
+    fails: Vec<u64>,
+) -> Result<Port<PipeWire>, Fail>
+    requires version { IsVersion version }
+    requires piece { (0 < piece) × (piece ≤ 65536) }
+    ensures course { IfOk result (λ port. port.course ≡ on.Open) }
+    ensures feeder { IfOk result (λ port. length port.monitor.setup.parts ≡ 1) }
+{
+    let wire = PipeWire::new(alloc, 256, piece, fails)?;
+    let monitor = monitor(alloc, records)?;
+    let port = Port::new(alloc, wire, monitor, 5, version)?;
+    Ok(port)
 }
 
 /// Puts bytes on their way to the port, as far as its wire lets them in.
