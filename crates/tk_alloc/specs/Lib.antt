@@ -7,6 +7,7 @@ pub mod Rounds
 pub mod Search
 pub mod Terms
 pub mod Strain
+pub mod Laws
 pub use Rattle.tk_base.specs.Ascending
 pub use Rattle.tk_base.specs.Objects
 pub use Rattle.tk_base.specs.Pairs

@@ -1,7 +1,7 @@
 -- Levels of objects at one node: which outsiders are broken, and the border over some objects.
 -- The level of object i stands at place i - 1 of a list of levels. Members and resolution sets are
 -- lists of objects in ascending order.
-use Rattle.std.specs.Prelude.{ℕ, ◌-◌, ◌^◌, ◌<◌, ◌≤◌, ℤ, pos, ◌+ℤ◌, unsigned_abs, Bool, false, not, ◌||◌, List, length, map, filter, fold, All, Option, Some, None, unwrap_or, slice_index_or}
+use Rattle.std.specs.Prelude.{ℕ, ◌≡◌, ◌-◌, ◌^◌, ◌<◌, ◌≤◌, ℤ, pos, ◌+ℤ◌, unsigned_abs, Bool, false, not, ◌||◌, List, length, map, filter, fold, All, Option, Some, None, unwrap_or, slice_index_or}
 use Rattle.std.specs.Int.{int_min, int_max}
 use Rattle.std.specs.List.{AllWithin, list_all}
 use Rattle.std.specs.Ordering.{int_cmp, is_lt}
@@ -87,6 +87,11 @@ own_border own members epsilon set =
 -- the resolution set: the members and the failed objects, of a catalogue of n
 abbrev pub resolution : ℕ → List ℕ → List ℕ → List ℕ
 resolution n members failed = filter (λ o. is_in members o || is_in failed o) (objects n)
+
+-- a set is the resolution set of some members and failed objects, in every catalogue that holds these
+abbrev pub IsResolution : List ℕ → List ℕ → List ℕ → Type 0
+IsResolution members failed set =
+    (n : ℕ) → All (λ o. o ≤ n) members → All (λ o. o ≤ n) failed → set ≡ resolution n members failed
 
 -- a walk along an ascending set that has come to an object: the places passed have lesser objects, the others not
 pub record IsPassed (set : List ℕ) (place : ℕ) (o : ℕ) : Type 0 where

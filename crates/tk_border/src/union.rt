@@ -1,6 +1,6 @@
-ghost use Rattle.std.specs.Prelude.{◌≡◌, ℕ, ◌+◌, ◌<◌, ◌≤◌, true, ◌||◌, length, All, IfOk};
+ghost use Rattle.std.specs.Prelude.{◌≡◌, ℕ, ◌+◌, ◌<◌, ◌≤◌, true, ◌||◌, length, IfOk};
 ghost use Rattle.tk_base.specs.Objects.{is_in};
-ghost use Rattle.tk_border.specs.Levels.{resolution as resolution_of, IsPassed};
+ghost use Rattle.tk_border.specs.Levels.{IsPassed, IsResolution};
 
 use crate::extremes::{past, start};
 use std::alloc::Global;
@@ -9,8 +9,7 @@ use tk_base::{NoMemory, Obj, ObjSet};
 /// The members and the failed objects, in one pass over both.
 pub fn resolution(alloc: Global, members: &ObjSet, failed: &ObjSet) -> Result<ObjSet, NoMemory>
     ensures holds { IfOk result (λ s. (o : ℕ) → is_in s o ≡ (is_in members.now o || is_in failed.now o)) }
-    ensures value { IfOk result (λ s. (n : ℕ) → All (λ o. o ≤ n) members.now → All (λ o. o ≤ n) failed.now
-        → s ≡ resolution_of n members.now failed.now) }
+    ensures value { IfOk result (λ s. IsResolution members.now failed.now s) }
 {
     let mut list = Vec::new(alloc);
     let mut i = start(members);

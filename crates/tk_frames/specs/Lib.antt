@@ -6,6 +6,7 @@ pub mod Frame
 pub mod Spelling
 pub mod Reading
 pub mod Size
+pub mod Laws
 pub use Rattle.tk_base.specs.Ascending
 pub use Rattle.tk_base.specs.Pairs
 pub use Rattle.tk_base.specs.Settings

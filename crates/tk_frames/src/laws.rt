@@ -1,16 +1,14 @@
 //! What holds of every frame and every spelling. `encode` writes these spellings, and `next` reads them.
 
-ghost use Rattle.std.specs.Prelude.{◌≡◌, ◌≤◌, ◌++◌, ℕ, List, length};
+ghost use Rattle.std.specs.Prelude.{◌≡◌, ◌≤◌, ℕ, List, length};
 ghost use Rattle.tk_frames.specs.declared.frame.Frame.{Frame};
-ghost use Rattle.tk_frames.specs.declared.answer.Next.TheVariants.{Whole};
 ghost use Rattle.tk_frames.specs.Spelling.{IsVersion, IsFrame, IsSpelling, payload, spelling};
-ghost use Rattle.tk_frames.specs.Answer.{Answers};
 ghost use Rattle.tk_frames.specs.Size.{size_of, IsShort};
+ghost use Rattle.tk_frames.specs.Laws.{NoSpellingBeginsAnother, WhatWasEncodedIsReadAgain};
 
 /// No spelling begins another of the same version: two at the front of the same bytes are one.
 pub fn no_spelling_begins_another()
-    ensures { (version : ℕ) (f g : Frame) (a b x y : List ℕ) → IsVersion version
-        → IsSpelling version f a → IsSpelling version g b → a ++ x ≡ b ++ y → (f ≡ g) × (a ≡ b) }
+    ensures { NoSpellingBeginsAnother }
 {}
 
 /// Each frame has one spelling in a version.
@@ -21,8 +19,7 @@ pub fn each_frame_has_one_spelling()
 
 /// A spelling is answered as its frame, whatever follows it.
 pub fn what_was_encoded_is_read_again()
-    ensures { (version : ℕ) (frame : Frame) (bytes rest : List ℕ) → IsVersion version
-        → IsSpelling version frame bytes → Answers version (bytes ++ rest) (Whole frame (length bytes)) }
+    ensures { WhatWasEncodedIsReadAgain }
 {}
 
 /// How long the spellings of version 1 are.

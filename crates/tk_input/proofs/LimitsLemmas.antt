@@ -10,9 +10,10 @@ use Rattle.tk_base.specs.Objects.{objects}
 use Rattle.tk_base.specs.declared.ids.Mon.{Mon}
 use Rattle.tk_input.specs.Judged.{Assigned, feeders_of, first_at, first_gap, first_crowded, first_great, great_in, great_object, last_monitor, logs_by_monitor, too_great}
 use Rattle.tk_input.specs.Logs.{AreLogs, AreParts, IsObject, LogSet, updates_of, weight_for, weight_of}
+use Rattle.tk_input.specs.Rows.{size_at}
 use Rattle.tk_input.specs.declared.logs.LogsFault.TheVariants.{TooGreat}
 use Rattle.tk_input.proofs.CountLemmas.{position_found, find-found, find_passes}
-use Rattle.tk_input.proofs.SumLemmas.{size_at, weight_for-all}
+use Rattle.tk_input.proofs.SumLemmas.{weight_for-all}
 
 refused : {X : Type 0} (b : Bool) (x : X) → cond b (Some x) None ≡ None → b ≡ false
 refused true x e = absurd (cc)

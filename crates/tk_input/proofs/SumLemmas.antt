@@ -8,6 +8,7 @@ use Rattle.std.proofs.lemmas.List.Sums.{fold_push, sum_by-cons, sum_by_more, sum
 use Rattle.tk_base.specs.Sum.{int_sum}
 use Rattle.std.proofs.lemmas.Slice.Zip.{get_or-zip, length-zip}
 use Rattle.tk_input.specs.Logs.{sum_for, total, weight_for, weight_of, value_of}
+use Rattle.tk_input.specs.Rows.{size_at}
 
 fold-shift : (a : ℤ) (xs : List ℤ) → fold ◌+ℤ◌ a xs ≡ a +ℤ int_sum xs
 fold-shift a [] = omega (arith, ints)
@@ -21,10 +22,6 @@ int_sum-cons x xs = let h = fold-shift (pos 0 +ℤ x) xs in omega (arith, ints, 
 
 pub int_sum-push : (xs : List ℤ) (x : ℤ) → int_sum (xs ++ x ∷ []) ≡ int_sum xs +ℤ x
 int_sum-push xs x = fold_push ◌+ℤ◌ (pos 0) xs x
-
--- the size of a change, if it is of the object
-abbrev pub size_at : ℕ → ℕ × ℤ → ℕ
-size_at o c = cond (c.0 == o) (unsigned_abs c.1) 0
 
 weight_step : (o : ℕ) (c : ℕ × ℤ) (cs : List (ℕ × ℤ)) (b : Bool) → (c.0 == o) ≡ b → weight_for o cs ≡ sum_by (size_at o) cs → weight_for o (c ∷ cs) ≡ size_at o c + sum_by (size_at o) cs
 weight_step o c cs true e later =

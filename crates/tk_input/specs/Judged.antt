@@ -42,6 +42,10 @@ pub record AreCounted (logs : List (List (List (ℕ × ℤ)))) : Type 0 where
   pub crowded : first_crowded logs ≡ None
   pub updates : sum_by updates_of logs ≤ 4000000
 
+-- the logs of some monitors, over n objects
+abbrev pub set_of : List (List (List (ℕ × ℤ))) → ℕ → LogSet
+set_of logs n = record { logs = logs; objects = n }
+
 -- the least object of a monitor whose changes pass the limit in size
 abbrev pub great_object : ℕ → List (List (ℕ × ℤ)) → Option ℕ
 great_object n parts = find (λ o. nat_lt (2 ^ 100) (weight_of parts o)) (objects n)
@@ -73,7 +77,7 @@ judged s =
 
 -- the logs that the parts make over n objects, or the first test that refuses them
 abbrev pub logs_of : Assigned → ℕ → Result LogSet LogsFault
-logs_of parts n = judged (record { logs = logs_by_monitor parts; objects = n })
+logs_of parts n = judged (set_of (logs_by_monitor parts) n)
 
 -- a fault is the one that the parts have, but for want of memory
 abbrev pub Refuses : {A : Type 0} → LogsFault → Result A LogsFault → Type 0

@@ -1,5 +1,5 @@
 -- Files in memory: what each read of them gives.
-use Rattle.std.specs.Prelude.{◌≡◌, ℕ, List, length, map, find, Option, Some, None, option_map, bytes_eq, string_bytes, Bool, true, false, ◌==◌, nat_lt, if◌then◌else◌, Result, Ok, Err, Vec, String}
+use Rattle.std.specs.Prelude.{◌≡◌, ℕ, ◌≤◌, max, List, length, map, find, Option, Some, None, IfSome, option_map, bytes_eq, string_bytes, Bool, true, false, ◌==◌, nat_lt, if◌then◌else◌, Result, Ok, Err, Vec, String}
 use Rattle.std.specs.List.{list_any}
 use Rattle.tk_input.specs.Files.{one_more}
 use Rattle.tk_input.specs.Tallies.{Count}
@@ -36,6 +36,10 @@ abbrev pub Faults : {A : Type 0} → FileFault → Result A FileFault → Type 0
 Faults Failed meant = meant ≡ Err Failed
 Faults TooLong meant = meant ≡ Err TooLong
 Faults NoMemory meant = Unit
+
+-- the most that a read took is no more than it was, or than what is told, where that is
+abbrev pub TakesNoMore : Option (List ℕ) → ℕ → ℕ → Type 0
+TakesNoMore told old new = IfSome told (λ bytes. new ≤ max old (length bytes))
 
 -- how many reads there were after one more: one that finds no memory does not count
 abbrev pub reads_after : {A : Type 0} → Result A FileFault → ℕ → ℕ

@@ -85,6 +85,10 @@ pub record OrderView : Type 0 where
   pub events : List Event
   pub lines : List ℕ
 
+-- these events, with the numbers of their lines
+abbrev pub ordered : List Event → List ℕ → OrderView
+ordered events lines = record { events = events; lines = lines }
+
 -- no event
 abbrev pub nothing_ordered : OrderView
 nothing_ordered = record { events = []; lines = [] }
@@ -101,6 +105,10 @@ event_taken before n (Some event) = Ok (with_event before n event)
 -- the order before with a line, or its fault
 abbrev pub line_added : OrderView → (ℕ × List ℕ) → Result OrderView OrderFault
 line_added before line = event_taken before line.0 (event_in (words line.1))
+
+-- an order is the one before with a line
+abbrev pub AddsLine : ℕ × List ℕ → OrderView → OrderView → Type 0
+AddsLine line before after = line_added before line ≡ Ok after
 
 -- the events of an order file with their lines, or its first line that is none
 abbrev pub order_of : List ℕ → Result OrderView OrderFault

@@ -1,6 +1,6 @@
-ghost use Rattle.std.specs.Prelude.{◌≡◌, ◌≢◌, ℕ, ◌<◌, ◌≤◌, max, [], List, length, IfOk, IfErr, IfSome, IsErrOf, IsOk, Ok, option_map, position, bytes_eq, string_bytes};
+ghost use Rattle.std.specs.Prelude.{◌≡◌, ◌≢◌, ℕ, ◌<◌, ◌≤◌, [], List, length, IfOk, IfErr, IfSome, IsErrOf, IsOk, Ok, option_map, position, bytes_eq, string_bytes};
 ghost use Rattle.tk_input.specs.Files.{HasRisen};
-ghost use Rattle.tk_input.specs.MapFiles.{Faults, content_of, faults_after, files_of, given, read_of, reads_after as reads_then};
+ghost use Rattle.tk_input.specs.MapFiles.{Faults, TakesNoMore, content_of, faults_after, files_of, given, read_of, reads_after as reads_then};
 ghost use Rattle.tk_input.specs.Tallies.{faults_of, longest_of};
 
 use crate::files::{FileFault, Files, MAX_LENGTH};
@@ -124,8 +124,8 @@ impl Files for MapFiles {
             → faults_of self.new.counts other ≡ faults_of self.old.counts other }
         ensures taken { IfOk result (λ v. length v.items ≤ longest_of self.new.counts name.now) }
         ensures kept_taken { longest_of self.old.counts name.now ≤ longest_of self.new.counts name.now }
-        ensures no_more { IfSome (content_of self.old.files name.now)
-            (λ told. longest_of self.new.counts name.now ≤ max (longest_of self.old.counts name.now) (length told)) }
+        ensures no_more { TakesNoMore (content_of self.old.files name.now)
+            (longest_of self.old.counts name.now) (longest_of self.new.counts name.now) }
         ensures other_taken { (other : List ℕ) → other ≢ name.now
             → longest_of self.new.counts other ≡ longest_of self.old.counts other }
     {

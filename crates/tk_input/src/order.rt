@@ -1,5 +1,5 @@
 ghost use Rattle.std.specs.Prelude.{◌≡◌, ◌<◌, IfOk, IfErr, OnOk, Ok, length, slice_get, Some};
-ghost use Rattle.tk_input.specs.Order.{IsFault, IsLineFault, IsReadAs, event_in, event_of_one as of_one, event_of_two as of_two, is_short as is_short_word, k_in, line_added, number_in, order_of, raise_at, retune_at, words};
+ghost use Rattle.tk_input.specs.Order.{AddsLine, IsFault, IsLineFault, IsReadAs, event_in, event_of_one as of_one, event_of_two as of_two, is_short as is_short_word, k_in, line_added, number_in, order_of, ordered, raise_at, retune_at, words};
 ghost use Rattle.tk_input.specs.declared.order.OrderFault.TheVariants.{NoMemory as OutOfMemory};
 
 use crate::event::Event;
@@ -162,10 +162,10 @@ fn take_line(
     number: u32,
     line: &[u8],
 ) -> Result<(), OrderFault>
-    ensures ok { OnOk result (line_added (record { events = events.old.items; lines = lines.old.items }) (number, line.now)
-        ≡ Ok (record { events = events.new.items; lines = lines.new.items })) }
+    ensures ok { OnOk result (AddsLine (number, line.now)
+        (ordered events.old.items lines.old.items) (ordered events.new.items lines.new.items)) }
     ensures err { IfErr result (λ e. IsLineFault e
-        (line_added (record { events = events.old.items; lines = lines.old.items }) (number, line.now))) }
+        (line_added (ordered events.old.items lines.old.items) (number, line.now))) }
     ensures pairs { OnOk result (length events.old.items ≡ length lines.old.items
         → length events.new.items ≡ length lines.new.items) }
 {

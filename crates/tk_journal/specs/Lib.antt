@@ -1,6 +1,11 @@
 pub mod Deciding
 pub mod Entries
 pub mod Laws
+pub mod DealingLaws
+pub mod EndLaws
+pub mod RoundLaws
+pub mod SendingLaws
+pub mod TurnLaws
 pub mod Legal
 pub mod Line
 pub mod Links

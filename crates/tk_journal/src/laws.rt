@@ -1,23 +1,15 @@
-ghost use Rattle.std.specs.Prelude.{◌≡◌, ℕ, ◌<◌, ◌≤◌, ℤ, pos, List, [], ◌∷◌, ◌++◌, length, map, true, false, Some, None};
+ghost use Rattle.std.specs.Prelude.{◌≡◌, ℕ, pos, List, [], ◌∷◌, length, map, true, false, Some};
 ghost use Rattle.std.specs.List.{range_with_len};
-ghost use Rattle.tk_base.specs.Pairs.{objects_of};
 ghost use Rattle.tk_base.specs.Settings.{Setup, IsWithinLimits};
 ghost use Rattle.tk_base.specs.Sum.{int_sum};
-ghost use Rattle.tk_frames.specs.Assigns.{members_of};
 ghost use Rattle.tk_base.specs.History.{EachFrom};
 ghost use Rattle.tk_frames.specs.declared.frame.Frame.{Frame};
-ghost use Rattle.tk_frames.specs.declared.frame.Frame.TheVariants as f;
-ghost use Rattle.tk_alloc.specs.Limit.{CanDeal};
-ghost use Rattle.tk_alloc.specs.Resolving.{objects_over};
-ghost use Rattle.tk_journal.specs.Deciding.{reports_at};
-ghost use Rattle.tk_journal.specs.Laws.{AreFactorsSmall, AreMembers, AreNotLast, AreRoundsCounted, AreSentShort, HasEnded, IsMonitor, IsSetUp, KeepsConstraint, SaysWhatIsDue};
+ghost use Rattle.tk_journal.specs.Laws.{AreFactorsSmall, AreMembers, AreNotLast, AreRoundsCounted, AreSentShort, HasEnded, IsSetUp, KeepsConstraint, SaysWhatIsDue};
 ghost use Rattle.tk_journal.specs.Legal.{Opening, IsLegal, start};
 ghost use Rattle.tk_journal.specs.Publishing.{publications};
-ghost use Rattle.tk_journal.specs.Refusal.{refusal_of};
-ghost use Rattle.tk_journal.specs.Turns.{is_wide, reported};
-ghost use Rattle.tk_journal.specs.Readings.{answer_of, assigns_sent, assigns_to, factor, in_force, is_answer, is_open, members_at, monitors, is_stopped, own, seqs_to, table_at};
+ghost use Rattle.tk_journal.specs.Readings.{answer_of, assigns_sent, factor, is_answer, monitors, is_stopped, own};
 ghost use Rattle.tk_journal.specs.declared.noted.Noted.{Noted};
-ghost use Rattle.tk_journal.specs.declared.noted.Noted.TheVariants as n;
+ghost use Rattle.tk_journal.specs.DealingLaws.{AssignsAreNumbered, EachMonitorIsSentTheMembers, FullRoundCanBeDealtWith, ReportCanBeDealtWith};
 
 /// The factors of an object, the coordinator's own included, sum to zero.
 pub fn factors_sum_to_zero()
@@ -51,22 +43,12 @@ pub fn frames_are_short()
 
 /// A fresh Report that is taken can be dealt with in a short round, or open a full one: no number leaves its bounds.
 pub fn a_report_can_be_dealt_with()
-    ensures { (o : Opening) (j : List Noted) (mon seq : ℕ) (border : ℤ) (failed : List ℕ) (values : List (ℕ × ℤ))
-        → IsSetUp o → IsLegal o j → IsMonitor o.settings mon
-        → refusal_of o.settings j mon (f.Report seq border failed values) ≡ None → seq ≡ assigns_sent mon j
-        → CanDeal (in_force o.settings j) (table_at o.settings j) (members_at j) (objects_of values)
-        (reported mon border values ∷ []) }
+    ensures { ReportCanBeDealtWith }
 {}
 
 /// The Values that end a full round leave reports that it can be dealt with.
 pub fn a_full_round_can_be_dealt_with()
-    ensures { (o : Opening) (j : List Noted) (mon round seq : ℕ) (border : ℤ) (values : List (ℕ × ℤ))
-        → IsSetUp o → IsLegal o j → IsMonitor o.settings mon
-        → refusal_of o.settings j mon (f.Values round seq border values) ≡ None
-        → let now = j ++ n.Got (record { 0 = mon }) (f.Values round seq border values) ∷ [] in
-        is_open o.settings now ≡ false → is_wide o.settings now ≡ false
-        → let reports = reports_at o.settings now in
-        CanDeal (in_force o.settings now) (table_at o.settings now) (members_at now) (objects_over reports) reports }
+    ensures { FullRoundCanBeDealtWith }
 {}
 
 /// The numbers of rounds count up.
@@ -92,14 +74,12 @@ pub fn answers_are_fresh()
 
 /// The last Assign to each monitor names the members.
 pub fn each_monitor_is_sent_the_members()
-    ensures { (o : Opening) (j : List Noted) (mon : ℕ) → IsSetUp o → IsLegal o j → IsMonitor o.settings mon
-        → members_of (assigns_to mon j) ≡ members_at j }
+    ensures { EachMonitorIsSentTheMembers }
 {}
 
 /// The sequence numbers of the Assigns to each monitor count up from 1.
 pub fn assigns_are_numbered()
-    ensures { (o : Opening) (j : List Noted) (mon : ℕ) → IsSetUp o → IsLegal o j → IsMonitor o.settings mon
-        → seqs_to mon j ≡ range_with_len 1 (assigns_sent mon j) }
+    ensures { AssignsAreNumbered }
 {}
 
 /// Publications are numbered from 1.

@@ -1,9 +1,8 @@
 -- The borders that a legal trail sends are at most each member's level, and not far below 0.
-use Rattle.std.proofs.Common.{◌≡◌, ℕ, suc, zero, ◌≤◌, ◌<◌, ◌==◌, ◌&&◌, ◌^◌, ℤ, pos, ◌+ℤ◌, ◌≤ℤ◌, ◌+◌, Bool, true, false, not, List, [], ◌∷◌, ◌++◌, length, Contains, Option, Some, None, refl, sym, ap, ◌∙◌, subst, arith}
+use Rattle.std.proofs.Common.{◌≡◌, ℕ, suc, zero, ◌≤◌, ◌==◌, ◌^◌, ℤ, pos, ◌+ℤ◌, ◌≤ℤ◌, ◌+◌, Bool, true, false, not, List, [], ◌∷◌, ◌++◌, length, Contains, Option, Some, None, refl, sym, ap, ◌∙◌, subst, arith}
 use Rattle.std.specs.Prelude.{neg_ℤ, nat_le, leb, ltb, find, unsigned_abs, unwrap_or, if◌then◌else◌}
 use Rattle.std.specs.List.{list_all}
 use Rattle.std.specs.Option.{option_map}
-use Rattle.std.specs.Int.{int_min}
 use Rattle.std.proofs.lemmas.Bool.{leb-true, ltb-true}
 use Rattle.std.proofs.lemmas.Int.{ints, clamps}
 use Rattle.tk_base.specs.Ascending.{ascends}
@@ -13,7 +12,7 @@ use Rattle.tk_base.specs.Pairs.{value_at}
 use Rattle.tk_base.proofs.HistoryLemmas.{each_carries, each_front}
 use Rattle.tk_border.specs.Levels.{greatest_outside, least_member, lesser, level_at, outside}
 use Rattle.tk_border.proofs.RisingLemmas.{is_in-filter, is_in-objects, is_in-positive}
-use Rattle.tk_frames.specs.Assigns.{Assign, assign_in, members_of, row}
+use Rattle.tk_frames.specs.Assigns.{Assign, members_of, row}
 use Rattle.tk_frames.specs.declared.frame.Frame.{Frame}
 use Rattle.tk_frames.specs.declared.frame.Frame.TheVariants as f
 use Rattle.tk_trail.specs.Bounds.{IsBorderWithin}

@@ -1,16 +1,16 @@
 -- How great what a legal trail holds can be.
-use Rattle.std.proofs.Common.{◌≡◌, ◌==◌, ℕ, suc, zero, ◌+◌, ◌≤◌, ◌<◌, ◌&&◌, ◌||◌, ◌^◌, ℤ, Bool, true, false, not, List, [], ◌∷◌, ◌++◌, length, map, Contains, Option, Some, None, refl, sym, ap, ◌∙◌, subst, arith}
+use Rattle.std.proofs.Common.{◌≡◌, ◌==◌, ℕ, suc, zero, ◌+◌, ◌≤◌, ◌<◌, ◌&&◌, ◌||◌, ◌^◌, ℤ, Bool, true, false, not, List, [], ◌∷◌, ◌++◌, length, Contains, Option, Some, None, refl, sym, ap, ◌∙◌, subst, arith}
 use Rattle.std.specs.Prelude.{All, cond, filter, find, get_or, if◌then◌else◌, nat_le, nat_lt, unsigned_abs}
 use Rattle.std.specs.List.{list_all, zip}
 use Rattle.std.specs.Option.{option_map}
-use Rattle.std.proofs.lemmas.Bool.{and_parts, false≢true, leb-true, ltb-false, ltb-true, true≢false}
+use Rattle.std.proofs.lemmas.Bool.{false≢true, leb-true, ltb-false, ltb-true}
 use Rattle.std.proofs.lemmas.List.{length-map}
 use Rattle.std.proofs.lemmas.List.Elements.{All-cons, All-head, All-nil, All-tail}
 use Rattle.std.proofs.lemmas.List.FromFn.{length-range_with_len}
 use Rattle.tk_base.specs.Ascending.{ascends}
 use Rattle.tk_base.specs.Objects.{is_in, objects}
-use Rattle.tk_border.specs.Levels.{broken, is_above, least_member, level_at, outside, resolution}
-use Rattle.tk_border.proofs.RisingLemmas.{Rises, is_in-filter, is_in-objects, rises-filter, rises-objects}
+use Rattle.tk_border.specs.Levels.{broken, is_above, least_member, level_at, outside}
+use Rattle.tk_border.proofs.RisingLemmas.{Rises, is_in-filter, is_in-objects}
 use Rattle.tk_frames.specs.Size.{IsShort}
 use Rattle.tk_frames.specs.declared.frame.Frame.{Frame}
 use Rattle.tk_frames.specs.declared.frame.Frame.TheVariants as f
@@ -27,9 +27,9 @@ use Rattle.tk_trail.specs.declared.refusal.MonitorRefusal.TheVariants.{BadChange
 use Rattle.tk_trail.proofs.LawLemmas.{allowed_at}
 use Rattle.tk_trail.proofs.LegalLemmas.{and_both, if_none, legal_places, not_refused}
 use Rattle.tk_trail.proofs.LevelsLemmas.{length-levels_of, value-small}
-use Rattle.tk_trail.proofs.MemberLemmas.{contained_is_in, is_in_contained}
+use Rattle.tk_trail.proofs.MemberLemmas.{contained_is_in}
 use Rattle.tk_trail.proofs.SaysLemmas.{law_report, law_settled}
-use Rattle.tk_trail.proofs.SaysLemmas.{law_values, ends_in}
+use Rattle.tk_trail.proofs.SaysLemmas.{ends_in}
 use Rattle.tk_trail.proofs.SendsLemmas.{Sends, sends, last_entry}
 use Rattle.tk_trail.proofs.SendsLemmas.Sends.{Answered, Gathered, Reported, Ended}
 use Rattle.tk_base.specs.History.{EachFrom}

@@ -1,5 +1,5 @@
 -- How great what a monitor sends can be.
-use Rattle.std.specs.Prelude.{ℕ, ◌≤◌, ◌<◌, ◌^◌, ◌≡◌, ℤ, pos, neg_ℤ, ◌≤ℤ◌, unsigned_abs, List, length, Contains, All}
+use Rattle.std.specs.Prelude.{ℕ, ◌≤◌, ◌<◌, ◌^◌, ℤ, pos, neg_ℤ, ◌≤ℤ◌, unsigned_abs, List, length, Contains, All}
 use Rattle.tk_trail.specs.Setup.{MonitorSetup}
 use Rattle.tk_trail.specs.Readings.{level_of, members_at}
 use Rattle.tk_trail.specs.declared.entry.Entry.{Entry}

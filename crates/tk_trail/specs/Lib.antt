@@ -7,6 +7,9 @@ pub mod Slack
 pub mod Says
 pub mod Still
 pub mod Bounds
+pub mod BoundLaws
+pub mod Laws
+pub mod SpeakingLaws
 pub use Rattle.tk_base.specs.History
 pub use Rattle.tk_base.specs.Objects
 pub use Rattle.tk_border.specs.Levels

@@ -1,8 +1,6 @@
 -- What is read of a trail for settling.
-use Rattle.tk_frames.specs.declared.frame.Frame.TheVariants as f
-use Rattle.std.specs.Prelude.{ℕ, ◌≡◌, ◌+◌, ◌==◌, Bool, true, false, not, ◌||◌, nat_lt, List, count_by, cond, length}
+use Rattle.std.specs.Prelude.{ℕ, ◌≡◌, Bool, true, false, not, ◌||◌, nat_lt, List, count_by}
 use Rattle.std.specs.List.{list_any}
-use Rattle.tk_frames.specs.Assigns.{Assign}
 use Rattle.tk_trail.specs.Setup.{MonitorSetup}
 use Rattle.tk_trail.specs.Readings.{assigns_of, places_at, seq_of, sent_by, since_assign}
 use Rattle.tk_trail.specs.declared.entry.Entry.{Entry}

@@ -1,14 +1,10 @@
 // How great what a legal trail holds can be. Each function is there for its clause alone.
-ghost use Rattle.std.specs.Prelude.{ℕ, ℤ, ◌≤◌, ◌^◌, ◌≤ℤ◌, Bool, unsigned_abs, List, ◌∷◌, ◌++◌};
-ghost use Rattle.tk_frames.specs.Size.{IsShort};
-ghost use Rattle.tk_frames.specs.declared.frame.Frame.{Frame};
-ghost use Rattle.tk_frames.specs.declared.frame.Frame.TheVariants as f;
-ghost use Rattle.tk_trail.specs.Bounds.{AreSomeOutsiders, AreSomePlaces, AreWithinLimits, IsBorderWithin};
+ghost use Rattle.std.specs.Prelude.{ℕ, ◌≤◌, ◌^◌, unsigned_abs, List, ◌∷◌, ◌++◌};
 ghost use Rattle.tk_trail.specs.Legal.{Allowed, IsLegal};
 ghost use Rattle.tk_trail.specs.Readings.{value_of_object};
 ghost use Rattle.tk_trail.specs.Setup.{IsSetup, MonitorSetup};
 ghost use Rattle.tk_trail.specs.declared.entry.Entry.{Entry};
-ghost use Rattle.tk_trail.specs.declared.entry.Entry.TheVariants.{Sent, Took};
+ghost use Rattle.tk_trail.specs.BoundLaws.{ReportBorderIsWithinLimits, ReportNamesOutsiders, SentFramesAreShort, SettledPlacesAreWithinLimits, TakenChangesAreWithinLimits, ValuesBorderIsWithinLimits};
 
 /// Each entry is allowed after those in front of it.
 pub fn each_entry_is_allowed()
@@ -24,36 +20,26 @@ pub fn values_are_small()
 
 /// The changes of a taken Assign are of objects of the catalogue, and each is a factor.
 pub fn taken_changes_are_within_limits()
-    ensures { (setup : MonitorSetup) (before after : List Entry) (seq : ℕ) (members : List ℕ) (changes : List (ℕ × ℤ)) →
-        IsLegal setup (before ++ Took (f.Assign seq members changes) ∷ after) → AreWithinLimits setup changes }
+    ensures { TakenChangesAreWithinLimits }
 {}
 
 /// A Settled has a place for each part, none past the most changes that a log may have.
 pub fn settled_places_are_within_limits()
-    ensures { (setup : MonitorSetup) (before after : List Entry) (seq : ℕ) (last : Bool) (places : List ℕ) → IsSetup setup →
-        IsLegal setup (before ++ Sent (f.Settled seq last places) ∷ after) → AreSomePlaces places }
+    ensures { SettledPlacesAreWithinLimits }
 {}
 
 /// A Report names some outsiders.
 pub fn a_report_names_outsiders()
-    ensures { (setup : MonitorSetup) (before after : List Entry) (seq : ℕ) (border : ℤ) (failed : List ℕ)
-        (values : List (ℕ × ℤ))
-        → IsLegal setup (before ++ Sent (f.Report seq border failed values) ∷ after) → AreSomeOutsiders setup before failed }
+    ensures { ReportNamesOutsiders }
 {}
 
 /// A border that is sent is at most the level of each member, and at least -2^113.
 pub fn borders_are_within_limits()
-    ensures report { (setup : MonitorSetup) (before after : List Entry) (seq : ℕ) (border : ℤ) (failed : List ℕ)
-        (values : List (ℕ × ℤ))
-        → IsSetup setup
-        → IsLegal setup (before ++ Sent (f.Report seq border failed values) ∷ after) → IsBorderWithin setup before border }
-    ensures values { (setup : MonitorSetup) (before after : List Entry) (round seq : ℕ) (border : ℤ) (values : List (ℕ × ℤ))
-        → IsSetup setup
-        → IsLegal setup (before ++ Sent (f.Values round seq border values) ∷ after) → IsBorderWithin setup before border }
+    ensures report { ReportBorderIsWithinLimits }
+    ensures values { ValuesBorderIsWithinLimits }
 {}
 
 /// Every frame that a monitor sends fits in both versions: it has no more items than there can be objects.
 pub fn sent_frames_are_short()
-    ensures { (setup : MonitorSetup) (before after : List Entry) (frame : Frame) → IsSetup setup →
-        IsLegal setup (before ++ Sent frame ∷ after) → IsShort frame }
+    ensures { SentFramesAreShort }
 {}

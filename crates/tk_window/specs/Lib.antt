@@ -4,4 +4,5 @@ pub mod TickEnds
 pub mod Ticks
 pub mod Validity
 pub mod Window
+pub mod Laws
 pub use Rattle.tk_base.specs.Sum

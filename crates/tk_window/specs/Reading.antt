@@ -16,6 +16,10 @@ pub record Reading : Type 0 where
   pub closed : List (List (ℕ × ℤ))
   pub last : List (ℕ × ℤ)
 
+-- what was read, of these ticks and these changes
+abbrev pub read_so_far : List (List (ℕ × ℤ)) → List (ℕ × ℤ) → Reading
+read_so_far closed last = record { closed = closed; last = last }
+
 -- one entry more: a mark ends the tick, a change joins it
 abbrev pub grown : Reading → Entry → Reading
 grown r Mark = record { closed = r.closed ++ r.last ∷ []; last = [] }

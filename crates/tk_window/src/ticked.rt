@@ -2,7 +2,7 @@ ghost use Rattle.std.specs.Prelude.{◌≡◌, ◌<◌, ◌≤◌, ◌+◌, ◌^
 ghost use Rattle.csv.specs.Records.{fields_of};
 ghost use Rattle.tk_input.specs.Log.{IsFault};
 ghost use Rattle.tk_input.specs.Logs.{IsObject};
-ghost use Rattle.tk_window.specs.Reading.{IsChange, entry_of, grown};
+ghost use Rattle.tk_window.specs.Reading.{IsChange, entry_of, grown, read_so_far};
 ghost use Rattle.tk_window.specs.Ticks.{AreOver, AreTicks, IsTick, is_mark as is_mark_of, next_entry as next_entry_of};
 ghost use Rattle.tk_window.specs.Window.{changes_at};
 
@@ -70,8 +70,8 @@ fn take_entry(
     last: &mut Changes,
     entry: Option<Change>,
 ) -> Result<(), NoMemory>
-    ensures { OnOk result (record { closed = closed.new.items; last = last.new }
-        ≡ grown (record { closed = closed.old.items; last = last.old }) (entry_of entry)) }
+    ensures { OnOk result (read_so_far closed.new.items last.new
+        ≡ grown (read_so_far closed.old.items last.old) (entry_of entry)) }
 {
     match entry {
         Some(change) => {

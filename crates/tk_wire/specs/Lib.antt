@@ -9,3 +9,4 @@ pub mod PipeWire
 pub mod Ring
 pub mod Store
 pub mod SureWire
+pub mod Laws

@@ -1,5 +1,5 @@
 -- What the values of the code ask for.
-use Rattle.std.specs.Prelude.{ℕ, ◌≡◌, ◌⊎◌, ◌≤◌, All, List, map, option_map}
+use Rattle.std.specs.Prelude.{ℕ, ◌≡◌, ◌⊎◌, ◌≤◌, All, List, map, Option, option_map}
 use Rattle.std.specs.Borrow.{Bor}
 use Rattle.tk_base.specs.declared.ids.Mon.{Mon}
 use Rattle.tk_words.specs.Words.{Asked, CarriageWords, GenerateWords, LiveWords, MultiWords, ReplayWords, SourceWords}
@@ -17,13 +17,18 @@ use Rattle.tk_words.specs.declared.multi.Multi.{Multi}
 abbrev pub asked_logs : List (Mon × Bor (List ℕ)) → List (ℕ × List ℕ)
 asked_logs logs = map (λ log. (log.0.0, log.1.now)) logs
 
+-- the bytes of a word, where there is one
+abbrev pub text_in : Option (Bor (List ℕ)) → Option (List ℕ)
+text_in word = option_map (λ s. s.now) word
+
+-- where a run finds its input, as numbers and bytes
 abbrev pub asked_sources : Sources → SourceWords
 asked_sources r = record {
   k = r.k;
   epsilon = r.epsilon;
   own_weight = r.own_weight;
   objects = r.objects.now;
-  order = option_map (λ s. s.now) r.order;
+  order = text_in r.order;
   width = r.width;
   logs = asked_logs r.logs.items;
 }

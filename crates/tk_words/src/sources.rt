@@ -1,6 +1,6 @@
 ghost use Rattle.std.specs.Prelude.{◌≡◌, Some, None, IfOk, IsErrOf, map, codes, option_map};
 ghost use Rattle.clap.specs.Words.{found_of, rows_of};
-ghost use Rattle.tk_words.specs.Asked.{AreOfMonitors, asked_logs, asked_sources};
+ghost use Rattle.tk_words.specs.Asked.{AreOfMonitors, asked_logs, asked_sources, text_in};
 ghost use Rattle.tk_words.specs.Forms.{logs_in, short_in};
 ghost use Rattle.tk_words.specs.Words as spec;
 ghost use Rattle.tk_words.specs.Words.{logs_of, optional, order_of};
@@ -80,10 +80,10 @@ pub fn sources_with<'a>(
     order: Option<&'a str>,
     width: Option<u64>,
 ) -> Result<Sources<'a>, WordsFault>
-    ensures ok { IfOk result (λ r. spec.sources_with (option_map (λ s. s.now) order.entry) width (rows_of (found_of matches.now))
+    ensures ok { IfOk result (λ r. spec.sources_with (text_in order.entry) width (rows_of (found_of matches.now))
         ≡ Some (asked_sources r)) }
     ensures usage { IsErrOf result WordsFault.Usage
-        → spec.sources_with (option_map (λ s. s.now) order.entry) width (rows_of (found_of matches.now)) ≡ None }
+        → spec.sources_with (text_in order.entry) width (rows_of (found_of matches.now)) ≡ None }
     ensures monitors { IfOk result (λ r. AreOfMonitors r.logs.items) }
 {
     let Some(k) = short(matches, "k") else {

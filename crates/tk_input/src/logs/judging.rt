@@ -1,7 +1,7 @@
 //! The tests that rows of parts must pass, in their order.
 
 ghost use Rattle.std.specs.Prelude.{◌≡◌, ◌<◌, ◌≤◌, ◌^◌, IfOk, IfErr, IsErrOf, OnOk, All, Ok, length, nat_lt, option_map, position, sum_by, ◌==◌};
-ghost use Rattle.tk_input.specs.Judged.{AreCounted, Refuses, first_crowded, first_gap, great_in, great_object, judged};
+ghost use Rattle.tk_input.specs.Judged.{AreCounted, Refuses, first_crowded, first_gap, great_in, great_object, judged, set_of};
 ghost use Rattle.tk_input.specs.Logs.{AreLogs, IsObject, updates_of as updates_at};
 ghost use Rattle.tk_input.specs.Rows.{logs_in};
 
@@ -83,7 +83,7 @@ fn first_great(alloc: Global, row: &[Part], objects: u32) -> Result<Option<Obj>,
 fn great_of(alloc: Global, rows: &[Vec<Part>], objects: u32) -> Result<Option<LogsFault>, NoMemory>
     requires monitors { length rows.now ≤ 64 }
     requires objects { All (λ parts. All (λ part. All (λ c. IsObject objects c.0) part) parts) (logs_in rows.now) }
-    ensures { IfOk result (λ great. great ≡ great_in (record { logs = logs_in rows.now; objects = objects })) }
+    ensures { IfOk result (λ great. great ≡ great_in (set_of (logs_in rows.now) objects)) }
 {
     for (place, row) in rows.iter().enumerate() {
         if let Some(obj) = first_great(alloc, row.as_slice(), objects)? {
@@ -101,12 +101,11 @@ pub fn judge(alloc: Global, rows: &[Vec<Part>], objects: u32) -> Result<(), Logs
     requires monitors { length rows.now ≤ 64 }
     requires objects { All (λ parts. All (λ part. All (λ c. IsObject objects c.0) part) parts) (logs_in rows.now) }
     requires lengths { All (λ parts. All (λ part. length part ≤ 1000000) parts) (logs_in rows.now) }
-    ensures ok { OnOk result (judged (record { logs = logs_in rows.now; objects = objects })
-        ≡ Ok (record { logs = logs_in rows.now; objects = objects })) }
-    ensures err { IfErr result (λ e. Refuses e (judged (record { logs = logs_in rows.now; objects = objects }))) }
+    ensures ok { OnOk result (judged (set_of (logs_in rows.now) objects) ≡ Ok (set_of (logs_in rows.now) objects)) }
+    ensures err { IfErr result (λ e. Refuses e (judged (set_of (logs_in rows.now) objects))) }
     // Memory is wanted only where the tests of the numbers pass.
     ensures room { IsErrOf result LogsFault.NoMemory → AreCounted (logs_in rows.now) }
-    ensures limits { OnOk result (AreLogs (record { logs = logs_in rows.now; objects = objects })) }
+    ensures limits { OnOk result (AreLogs (set_of (logs_in rows.now) objects)) }
 {
     if let Some(mon) = gap_of(rows) {
         return Err(LogsFault::MonitorGap(mon));

@@ -1,9 +1,10 @@
 //! How much each object weighs at a monitor: the sizes of its changes, summed. A weight stands still at the
 //! greatest u128.
 
-ghost use Rattle.std.specs.Prelude.{◌≡◌, ◌+◌, ◌^◌, IfOk, All, EachIndex, if◌then◌else◌, ◌==◌, length, nat_lt, position, slice_index, unsigned_abs};
+ghost use Rattle.std.specs.Prelude.{◌≡◌, ◌+◌, ◌^◌, IfOk, All, EachIndex, length, nat_lt, position, slice_index};
+ghost use Rattle.tk_input.specs.Changes.{pair_of};
 ghost use Rattle.tk_input.specs.Logs.{IsObject, weight_for, weight_of};
-ghost use Rattle.tk_input.specs.Rows.{capped};
+ghost use Rattle.tk_input.specs.Rows.{capped, size_at};
 
 use crate::change::Change;
 use crate::changes::Changes;
@@ -16,7 +17,7 @@ const MAX_WEIGHT: u128 = 1_267_650_600_228_229_401_496_703_205_376;
 fn add_weight(weights: &mut [u128], change: Change)
     requires { IsObject (length weights.old) change.obj.0 }
     ensures { EachIndex weights.new (λ i. slice_index weights.new i
-        ≡ capped (slice_index weights.old i + (if change.obj.0 == i + 1 then unsigned_abs change.by else 0))) }
+        ≡ capped (slice_index weights.old i + size_at (i + 1) (pair_of change))) }
 {
     let place = change.obj.0 as usize - 1;
     weights[place] = weights[place].saturating_add(change.by.unsigned_abs());

@@ -1,7 +1,8 @@
 use Rattle.std.proofs.Common.{◌+◌, ℕ, ℤ, pos, arith, ap}
 use Rattle.std.proofs.lemmas.Option.{get_or_from_slice_get}
 use Rattle.tk_input.specs.Changes.{pair_of}
-use Rattle.tk_input.proofs.SumLemmas.{size_at, weight_for-more}
+use Rattle.tk_input.specs.Rows.{size_at}
+use Rattle.tk_input.proofs.SumLemmas.{weight_for-more}
 use Rattle.tk_input.proofs.logs.weights.weigh.Goals as goal
 
 pub loop-i-preserved : goal.loop-i-preserved
