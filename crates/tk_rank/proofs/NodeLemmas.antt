@@ -1,10 +1,10 @@
 -- The nodes of a tree: parts, what stands at a node, and what a write leaves.
-use Rattle.std.proofs.Common.{◌≡◌, ◌≢◌, ℕ, suc, zero, ◌+◌, ◌-◌, ◌*◌, ◌/◌, ◌^◌, ◌<◌, ◌≤◌, ℤ, List, length, set, drop, Option, None, refl, sym, ap, ap₂, ◌∙◌, subst, arith, inl, inr, get_or, get_or-set_other, get_or-set_same, length-set}
+use Rattle.std.proofs.Common.{◌≡◌, ◌≢◌, ℕ, suc, zero, ◌+◌, ◌-◌, ◌*◌, ◌/◌, ◌^◌, ◌<◌, ◌≤◌, ℤ, List, length, map, set, drop, Option, None, refl, sym, ap, ap₂, ◌∙◌, subst, arith, inl, inr, get_or, get_or-set_other, get_or-set_same, length-set, length-drop}
 use Rattle.std.specs.Int.{IsPowerOfTwo}
 use Rattle.std.specs.List.{range_with_len}
 use Rattle.std.proofs.Math.Nat.{pow-succ', mul-le-mul_left}
 use Rattle.std.proofs.lemmas.Bool.{cases_eq}
-use Rattle.std.proofs.lemmas.List.{get_or-drop, get_or_read, drop-set-lt, drop-set-add}
+use Rattle.std.proofs.lemmas.List.{get_or-drop, get_or-map, length-map, drop-set-lt, drop-set-add}
 use Rattle.tk_border.specs.Levels.{greatest_of}
 use Rattle.tk_border.proofs.RisingLemmas.{range-append}
 use Rattle.tk_rank.specs.Tree.{greater, node_at, width_of, leaves_of, IsMended, IsTree, IsPart, leaf_at, standing}
@@ -15,11 +15,11 @@ use Rattle.tk_rank.proofs.GreatestLemmas.{greatest-one, standing-append}
 pub power_doubles : (h : ℕ) → 2 ^ suc h ≡ 2 ^ h + 2 ^ h
 power_doubles h = pow-succ' 2 h ∙ omega arith
 
--- more than one leaf is twice a power of two
 -- what is read at a node
-pub read_node : (nodes : List (Option ℤ)) (i : ℕ) (x : Option ℤ) → i < length nodes → x ≡ get_or nodes i x → x ≡ node_at nodes i
-read_node nodes i x within is = get_or_read nodes i x within is None
+pub read_node : {N : Type 0} (number : N → Option ℤ) (nodes : List N) (i : ℕ) (x : N) → i < length nodes → x ≡ get_or nodes i x → number x ≡ node_at (map number nodes) i
+read_node number nodes i x within is = sym (get_or-map number nodes i x None within ∙ ap number (sym is))
 
+-- more than one leaf is twice a power of two
 pub split_power : (w : ℕ) → IsPowerOfTwo w → w ≢ 1 → (p : ℕ) × IsPowerOfTwo p × (w ≡ p + p)
 split_power w (zero, e) more = absurd (more e)
 split_power w (suc h, e) more = (2 ^ h, (h, refl), e ∙ power_doubles h)
@@ -34,10 +34,15 @@ node_low n w node first p =
     let low = mul-le-mul_left {m = 1} {n = w} node some in
     omega (arith, p.place, p.within, low)
 
--- what is read at the node of a part
-pub read_part : (nodes : List (Option ℤ)) (w node first : ℕ) (x : Option ℤ) → IsTree nodes → IsPart (width_of nodes) w node first → x ≡ get_or nodes node x → x ≡ node_at nodes node
-read_part nodes w node first x tree part is =
-    read_node nodes node x (omega (arith, node_low (width_of nodes) w node first part, power_positive w part.power, tree.even)) is
+-- the node of a part is one of the nodes
+pub part_within : {N : Type 0} (number : N → Option ℤ) (nodes : List N) (w node first : ℕ) → IsTree (map number nodes) → IsPart (width_of (map number nodes)) w node first → node < length nodes
+part_within number nodes w node first tree part =
+    omega (arith, node_low (width_of (map number nodes)) w node first part, power_positive w part.power, tree.even, length-map nodes number)
+
+-- what is read at it
+pub read_part : {N : Type 0} (number : N → Option ℤ) (nodes : List N) (w node first : ℕ) (x : N) → IsTree (map number nodes) → IsPart (width_of (map number nodes)) w node first → x ≡ get_or nodes node x → number x ≡ node_at (map number nodes) node
+read_part number nodes w node first x tree part is =
+    read_node number nodes node x (part_within number nodes w node first tree part) is
 
 pub node_positive : (n w node first : ℕ) → 0 < n → IsPart n w node first → 0 < node
 node_positive n w zero first some p = absurd (omega (arith, p.place))
@@ -85,6 +90,17 @@ pub half_twice : (w : ℕ) → IsPowerOfTwo w → w ≢ 1 → w / 2 + w / 2 ≡ 
 half_twice w power more = let (p, half, e) = split_power w power more in omega (arith, e)
 
 -- ---- what stands at a node
+
+-- the root is one of the nodes
+pub root_within : {N : Type 0} (number : N → Option ℤ) (nodes : List N) → IsTree (map number nodes) → 1 < length nodes
+root_within number nodes tree = omega (arith, power_positive (width_of (map number nodes)) tree.width, tree.even, length-map nodes number)
+
+-- the node of a leaf is one of the nodes
+pub leaf_within : {N : Type 0} (number : N → Option ℤ) (nodes : List N) (place : ℕ) → IsTree (map number nodes) → place < length (leaves_of (map number nodes)) → length nodes / 2 + place < length nodes
+leaf_within number nodes place tree within =
+    let same = length-map nodes number in
+    let half : length nodes / 2 ≡ width_of (map number nodes) = ap (λ n. n / 2) (sym same) in
+    omega (arith, same, half, tree.even, length-drop (width_of (map number nodes)) (map number nodes))
 
 pub leaf_of_node : (nodes : List (Option ℤ)) (o : ℕ) → leaf_at (leaves_of nodes) o ≡ node_at nodes (width_of nodes + (o - 1))
 leaf_of_node nodes o = get_or-drop (width_of nodes) nodes (o - 1) None

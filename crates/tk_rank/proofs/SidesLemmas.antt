@@ -40,6 +40,16 @@ shifted_on x y small sum =
     let fits : FitsSigned w128 y = omega (arith, ints) in
     ap₂ (λ a b. to_z w128 (of_z w128 (a +ℤ b))) (passed_on x small) (to_z-of_z w128 y fits) ∙ passed_on (x +ℤ y) sum
 
+-- a level with the sign turned moves the other way
+pub turned_moves : (x y z : ℤ) → z ≡ (pos 0 -ℤ x) → unsigned_abs z < 2 ^ 114 → unsigned_abs (x +ℤ y) < 2 ^ 114 → (to_z w128 (of_z w128 z) -ℤ to_z w128 (of_z w128 y)) ≡ (pos 0 -ℤ (x +ℤ y))
+turned_moves x y z is small sum =
+    let fits : FitsSigned w128 y = omega (arith, ints, is) in
+    ap₂ ◌-ℤ◌ (passed_on z small) (to_z-of_z w128 y fits) ∙ omega (arith, ints, is)
+
+pub shifted_back : (x y z : ℤ) → z ≡ (pos 0 -ℤ x) → unsigned_abs z < 2 ^ 114 → unsigned_abs (x +ℤ y) < 2 ^ 114 → to_z w128 (of_z w128 (to_z w128 (of_z w128 z) -ℤ to_z w128 (of_z w128 y))) ≡ (pos 0 -ℤ (x +ℤ y))
+shifted_back x y z is small sum =
+    ap (λ t. to_z w128 (of_z w128 t)) (turned_moves x y z is small sum) ∙ passed_on (pos 0 -ℤ (x +ℤ y)) (omega (arith, ints, sum))
+
 -- ---- one write
 
 -- what stands at a place after a write at another one

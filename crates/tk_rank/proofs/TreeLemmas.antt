@@ -1,5 +1,5 @@
 -- A tree seen as its leaves.
-use Rattle.std.proofs.Common.{◌≡◌, ℕ, suc, zero, ◌+◌, ◌*◌, ◌/◌, ◌^◌, ◌<◌, ◌≤◌, max, ℤ, List, length, get_or, drop, replicate, Option, None, sym, ap, ap₂, ◌∙◌, subst, arith, inl, inr, length-drop}
+use Rattle.std.proofs.Common.{◌≡◌, ℕ, suc, zero, ◌+◌, ◌*◌, ◌/◌, ◌^◌, ◌<◌, ◌≤◌, max, ℤ, List, [], ◌∷◌, length, get_or, drop, replicate, Option, None, refl, sym, ap, ap₂, ◌∙◌, subst, arith, inl, inr, length-drop}
 use Rattle.std.specs.Int.{IsPowerOfTwo}
 use Rattle.std.specs.List.{range_with_len}
 use Rattle.std.proofs.Math.ListN.{get_or-eq_default}
@@ -9,7 +9,7 @@ use Rattle.std.proofs.lemmas.List.{get_or-replicate, drop-replicate, length-repl
 use Rattle.std.proofs.lemmas.Nat.{pow_pos}
 use Rattle.tk_base.specs.Objects.{objects}
 use Rattle.tk_border.specs.Levels.{greatest_of}
-use Rattle.tk_rank.specs.Tree.{greater, node_at, width_of, leaves_of, HasRoom, IsTree, standing}
+use Rattle.tk_rank.specs.Tree.{greater, node_at, nodes_in, width_of, leaves_of, HasRoom, IsTree, standing}
 use Rattle.tk_rank.proofs.NodeLemmas.{node_stands, power_doubles, whole_part}
 
 pub length-leaves : (nodes : List (Option ℤ)) → length nodes ≡ width_of nodes + width_of nodes → length (leaves_of nodes) ≡ width_of nodes
@@ -28,6 +28,11 @@ root_stands nodes tree =
 -- the objects under the whole tree
 pub whole_range : (nodes : List (Option ℤ)) (width first : ℕ) → IsTree nodes → width ≡ width_of nodes → first ≡ 1 → range_with_len first width ≡ objects (length (leaves_of nodes))
 whole_range nodes width first tree w f = ap₂ range_with_len f w ∙ tree_objects nodes tree
+
+-- the nodes are in the wide list where it has some
+pub in_wide : (narrow wide : List (Option ℤ)) → 0 < length wide → nodes_in narrow wide ≡ wide
+in_wide narrow [] some = absurd (omega arith)
+in_wide narrow (x ∷ wide) some = refl
 
 -- ---- room
 

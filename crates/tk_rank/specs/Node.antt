@@ -1,22 +1,17 @@
 -- A number at a node, or none. No public clause cites this file.
-use Rattle.std.specs.Prelude.{◌≡◌, ◌==◌, ◌-◌, ◌^◌, ℤ, pos, negsuc, Bool, true, false, if◌then◌else◌, Option, Some, None}
-use Rattle.std.proofs.Common.{refl, sym, ap}
-use Rattle.std.proofs.lemmas.Bool.{eqb-true}
+use Rattle.std.specs.Prelude.{◌==◌, ◌-◌, ◌^◌, ℕ, ℤ, pos, negsuc, if◌then◌else◌, Option, Some, None}
+use Rattle.tk_rank.specs.declared.narrow.Narrow.{Narrow}
+use Rattle.tk_rank.specs.declared.wide.Wide.{Wide}
 
--- the number that a level stands for; the least of all, -2 ^ 127, stands for none
-abbrev pub number_of : ℤ → Option ℤ
-number_of (pos n) = Some (pos n)
-number_of (negsuc n) = if n == 2 ^ 127 - 1 then None else Some (negsuc n)
+-- what a number of so many bits beside its sign stands for: the least of all for none, each other for itself
+abbrev pub number_in : ℕ → ℤ → Option ℤ
+number_in bits (pos n) = Some (pos n)
+number_in bits (negsuc n) = if n == 2 ^ bits - 1 then None else Some (negsuc n)
 
--- the level that stands for it
-abbrev pub level_of : Option ℤ → ℤ
-level_of None = negsuc (2 ^ 127 - 1)
-level_of (Some z) = z
+-- what a node of 8 bytes stands for
+abbrev pub narrow_number : Narrow → Option ℤ
+narrow_number node = number_in 63 node.number
 
--- each level stands for something else
-pub level_of_number : (z : ℤ) → level_of (number_of z) ≡ z
-level_of_number (pos n) = refl
-level_of_number (negsuc n) = by (n == 2 ^ 127 - 1) refl where
-  by : (b : Bool) → (n == 2 ^ 127 - 1) ≡ b → level_of (if b then None else Some (negsuc n)) ≡ negsuc n
-  by true is = ap negsuc (sym (eqb-true n (2 ^ 127 - 1) is))
-  by false is = refl
+-- what a node of 16 bytes stands for
+abbrev pub wide_number : Wide → Option ℤ
+wide_number node = number_in 127 node.number

@@ -1,5 +1,5 @@
 -- The members and the outsiders in two trees. No public clause cites this file.
-use Rattle.std.specs.Prelude.{◌≡◌, ◌==◌, ℕ, ◌+◌, ◌^◌, ◌<◌, ◌≤◌, ℤ, pos, ◌-ℤ◌, Bool, ◌||◌, nat_lt, if◌then◌else◌, unsigned_abs, List, [], ◌∷◌, length, map, slice_index_or, Option, Some, None, IfSome}
+use Rattle.std.specs.Prelude.{◌≡◌, ◌==◌, ℕ, ◌+◌, ◌-◌, ◌^◌, ◌<◌, ◌≤◌, ℤ, pos, ◌-ℤ◌, Bool, true, ◌||◌, nat_lt, if◌then◌else◌, unsigned_abs, List, [], ◌∷◌, length, map, slice_index_or, slice_set, All, Option, Some, None, IfSome}
 use Rattle.std.specs.List.{range_with_len}
 use Rattle.tk_base.specs.Objects.{is_in}
 use Rattle.tk_border.specs.Levels.{level_at}
@@ -57,3 +57,30 @@ pub record IsKept (levels : List ℤ) (members : List ℕ) (room : ℕ) (tree : 
   pub list_room : length levels ≤ room
   pub tree_room : HasRoom (length levels) tree.room
   pub sides : AreSides levels members tree.leaves outsiders
+
+-- whatever the levels: this is the one of an object that the leaves have as a member's
+abbrev pub IsMemberLevel : List ℕ → List (Option ℤ) → ℕ → ℤ → Type 0
+IsMemberLevel members leaves o level =
+    (levels : List ℤ) → AreMemberLeaves levels members leaves → is_in members o ≡ true → level ≡ level_at levels o
+
+-- the leaves of both trees, the members' first
+abbrev pub BothLeaves : Type 0
+BothLeaves = List (Option ℤ) × List (Option ℤ)
+
+-- whatever the levels: an object has another one, on its side
+abbrev pub Relevels : ℕ → ℤ → List ℕ → BothLeaves → BothLeaves → Type 0
+Relevels o level members old new =
+    (levels : List ℤ) → o ≤ length levels → AreSides levels members old.0 old.1
+    → AreSides (slice_set levels (o - 1) level) members new.0 new.1
+
+-- whatever the levels: the members are outsiders too, by leaves of the outsiders before and after
+abbrev pub Releases : List ℕ → List (Option ℤ) → List (Option ℤ) → List (Option ℤ) → Type 0
+Releases members member_leaves old new =
+    (levels : List ℤ) → All (λ o. o ≤ length levels) members → AreSides levels members member_leaves old
+    → AreOutsiderLeaves levels (is_in []) new
+
+-- whatever the levels: of outsiders alone some are the members now
+abbrev pub Takes : List ℕ → List (Option ℤ) → BothLeaves → Type 0
+Takes members old new =
+    (levels : List ℤ) → All (λ o. o ≤ length levels) members → AreOutsiderLeaves levels (is_in []) old
+    → AreSides levels members new.0 new.1

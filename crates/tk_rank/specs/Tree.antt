@@ -1,9 +1,10 @@
 -- A tournament tree of numbers, some of its leaves empty. No public clause cites this file.
-use Rattle.std.specs.Prelude.{◌≡◌, ℕ, ◌+◌, ◌-◌, ◌*◌, ◌/◌, ◌<◌, ◌≤◌, max, ℤ, Bool, false, List, length, drop, Option, Some, None, slice_index_or, filter, not}
+use Rattle.std.specs.Prelude.{◌≡◌, ℕ, ◌+◌, ◌-◌, ◌*◌, ◌/◌, ◌<◌, ◌≤◌, max, ℤ, Bool, false, List, [], ◌∷◌, length, drop, Option, Some, None, slice_index_or, filter, not}
 use Rattle.std.specs.Int.{int_max, IsPowerOfTwo}
 use Rattle.std.specs.List.{filter_map}
 use Rattle.std.specs.Ordering.{int_cmp, is_lt}
-use Rattle.tk_base.specs.Objects.{is_in}
+use Rattle.tk_base.specs.Objects.{is_in, objects}
+use Rattle.tk_border.specs.Levels.{greatest_of, outside}
 
 -- the greater of two numbers, each of which may be missing
 abbrev pub greater : Option ℤ → Option ℤ → Option ℤ
@@ -36,9 +37,13 @@ pub record TreeView : Type 0 where
 abbrev pub HasRoom : ℕ → ℕ → Type 0
 HasRoom leaves room = (width : ℕ) → IsPowerOfTwo width → width / 2 < max 1 leaves → width + width ≤ room
 
--- an inner node has the greater number of its two children
+-- the greater number of a node's two children
+abbrev pub greater_under : List (Option ℤ) → ℕ → Option ℤ
+greater_under nodes j = greater (node_at nodes (j + j)) (node_at nodes (j + j + 1))
+
+-- an inner node has it
 abbrev pub IsMended : List (Option ℤ) → ℕ → Type 0
-IsMended nodes j = node_at nodes j ≡ greater (node_at nodes (j + j)) (node_at nodes (j + j + 1))
+IsMended nodes j = node_at nodes j ≡ greater_under nodes j
 
 -- a full binary tree: node 1 is the root, the children of j are 2 j and 2 j + 1
 pub record IsTree (nodes : List (Option ℤ)) : Type 0 where
@@ -69,3 +74,25 @@ others_in set some = filter (λ o. not (is_in set o)) some
 -- the numbers of those of some objects that have one
 abbrev pub standing : List (Option ℤ) → List ℕ → List ℤ
 standing leaves list = filter_map (leaf_at leaves) list
+
+-- the objects whose number is above a level
+abbrev pub objects_over : ℤ → List (Option ℤ) → List ℕ
+objects_over level leaves = those_over level leaves (objects (length leaves))
+
+-- the greatest number of all leaves
+abbrev pub greatest_leaf : List (Option ℤ) → Option ℤ
+greatest_leaf leaves = greatest_of (standing leaves (objects (length leaves)))
+
+-- the greatest number of the leaves of objects outside a set
+abbrev pub greatest_leaf_outside : List (Option ℤ) → List ℕ → Option ℤ
+greatest_leaf_outside leaves set = greatest_of (standing leaves (outside (length leaves) set))
+
+-- the nodes of a tree in two lists: those of the wide one, unless it is empty
+abbrev pub nodes_in : List (Option ℤ) → List (Option ℤ) → List (Option ℤ)
+nodes_in narrow [] = narrow
+nodes_in narrow (x ∷ wide) = x ∷ wide
+
+-- some nodes are a tree, and what there is room for in the narrow list is so in the wide one
+pub record IsTreeIn (nodes : List (Option ℤ)) (room wide_room : ℕ) : Type 0 where
+  pub tree : IsTree nodes
+  pub enough : wide_room ≡ room

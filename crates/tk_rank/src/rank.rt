@@ -1,11 +1,11 @@
-ghost use Rattle.std.specs.Prelude.{◌≡◌, ℕ, ◌+◌, ◌-◌, ◌^◌, ◌<◌, ◌≤◌, ℤ, pos, ◌+ℤ◌, ◌≤ℤ◌, unsigned_abs, IsTrue, length, All, IfOk, Some, slice_set};
+ghost use Rattle.std.specs.Prelude.{◌≡◌, ◌+◌, ◌-◌, ◌^◌, ◌<◌, ◌≤◌, ℤ, pos, ◌+ℤ◌, ◌≤ℤ◌, unsigned_abs, IsTrue, length, IfOk, Some, slice_set};
 ghost use Rattle.tk_base.specs.Objects.{is_in};
 ghost use Rattle.tk_border.specs.Levels.{level_at, least_member, greatest_outside, above, border, own_border, holds, AreMembers, AreObjects, AreSmall};
 ghost use Rattle.tk_rank.specs.Rank.{IsRanked};
 
-use crate::node::Node;
 use crate::sides::{
-    are_listed, holds_all, list_members, read_member, release, relevel, seat, seat_of, take,
+    are_listed, holds_all, list_members, number_in, place_of, read_member, release, relevel, seat,
+    seat_of, take,
 };
 use crate::tree::Tree;
 use std::alloc::Global;
@@ -109,11 +109,23 @@ impl Rank {
             ≡ record self.old { levels = slice_set self.old.levels (o.0 - 1) (level_at self.old.levels o.0 +ℤ by) } }
     {
         match self.outsiders.leaf(seat_of(o)) {
-            Some(level) => self.outsiders.set(seat_of(o), Node::of(level + by)),
-            None => {
-                let level = self.level(o);
-                self.set(o, level + by);
-            }
+            Some(level) => self.outsiders.set(seat_of(o), level + by),
+            None => self.shift_member(o, by),
+        }
+    }
+
+    fn shift_member(&mut self, o: Obj, by: i128)
+        requires from_one { 0 < o.0 }
+        requires within { o.0 ≤ length self.old.levels }
+        requires member { IsTrue (is_in self.old.members o.0) }
+        requires size { unsigned_abs (level_at self.old.levels o.0 +ℤ by) < 2 ^ 114 }
+        ensures { self.new
+            ≡ record self.old { levels = slice_set self.old.levels (o.0 - 1) (level_at self.old.levels o.0 +ℤ by) } }
+    {
+        if let Some(place) = place_of(self.list.as_slice(), o) {
+            // Its leaf has the level with the sign turned.
+            let turned = number_in(&self.members, place);
+            self.members.set(place, turned - by);
         }
     }
 

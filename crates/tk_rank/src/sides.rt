@@ -1,12 +1,11 @@
 // The members in one tree and the outsiders in another.
-ghost use Rattle.std.specs.Prelude.{◌≡◌, ◌-◌, ◌^◌, ◌<◌, ◌≤◌, ℤ, pos, true, false, unsigned_abs, IfNone, IfSome, List, [], length, All, Some, None, slice_index, slice_index_or, slice_set, vec_capacity};
+ghost use Rattle.std.specs.Prelude.{◌≡◌, ◌-◌, ◌^◌, ◌<◌, ◌≤◌, ℤ, true, false, unsigned_abs, IfNone, IfSome, [], length, All, Some, None, slice_index, slice_index_or, vec_capacity};
 ghost use Rattle.tk_base.specs.Ascending.{IsAscending, numbers_of};
 ghost use Rattle.tk_base.specs.Objects.{is_in};
-ghost use Rattle.tk_border.specs.Levels.{holds, level_at, AreObjects, AreSmall};
-ghost use Rattle.tk_rank.specs.Sides.{AreMemberLeaves, AreOutsiderLeaves, AreSides, AreSmallLeaves};
-ghost use Rattle.tk_rank.specs.Tree.{leaf_at, HasRoom};
+ghost use Rattle.tk_border.specs.Levels.{holds, AreObjects, AreSmall};
+ghost use Rattle.tk_rank.specs.Sides.{AreOutsiderLeaves, AreSmallLeaves, IsMemberLevel, Releases, Relevels, Takes};
+ghost use Rattle.tk_rank.specs.Tree.{HasRoom};
 
-use crate::node::Node;
 use crate::tree::Tree;
 use tk_base::{Obj, ObjSet};
 
@@ -27,12 +26,12 @@ pub(crate) fn seat(levels: &[i128], outsiders: &mut Tree)
 {
     outsiders.clear(levels.len());
     for i in 0..levels.len() {
-        outsiders.set(i, Node::of(levels[i]));
+        outsiders.set(i, levels[i]);
     }
 }
 
 /// The number at a place where there is one.
-fn number_in(tree: &Tree, place: usize) -> i128
+pub(crate) fn number_in(tree: &Tree, place: usize) -> i128
     requires within { place < length tree.now.leaves }
     requires small { AreSmallLeaves tree.now.leaves }
     ensures value { (x : ℤ) → slice_index_or tree.now.leaves place None ≡ Some x → result ≡ x }
@@ -45,7 +44,7 @@ fn number_in(tree: &Tree, place: usize) -> i128
 }
 
 /// The place of a member, in logarithmic time.
-fn place_of(list: &[Obj], o: Obj) -> Option<usize>
+pub(crate) fn place_of(list: &[Obj], o: Obj) -> Option<usize>
     requires { IsAscending (numbers_of list.now) }
     ensures within { IfSome result (λ i. i < length list.now) }
     ensures found { IfSome result (λ i. slice_index (numbers_of list.now) i ≡ o.0) }
@@ -63,8 +62,7 @@ pub(crate) fn read_member(o: Obj, list: &[Obj], members: &Tree) -> i128
     requires ascends { IsAscending (numbers_of list.now) }
     requires room { length list.now ≤ length members.now.leaves }
     requires small { AreSmallLeaves members.now.leaves }
-    ensures value { (levels : List ℤ) → AreMemberLeaves levels (numbers_of list.now) members.now.leaves
-        → is_in (numbers_of list.now) o.0 ≡ true → result ≡ level_at levels o.0 }
+    ensures value { IsMemberLevel (numbers_of list.now) members.now.leaves o.0 result }
     ensures size { unsigned_abs result < 2 ^ 114 }
 {
     match place_of(list, o) {
@@ -80,16 +78,15 @@ pub(crate) fn relevel(o: Obj, level: i128, list: &[Obj], members: &mut Tree, out
     requires ascends { IsAscending (numbers_of list.now) }
     requires room { length list.now ≤ length members.old.leaves }
     requires size { unsigned_abs level < 2 ^ 114 }
-    ensures sides { (levels : List ℤ) → o.0 ≤ length levels
-        → AreSides levels (numbers_of list.now) members.old.leaves outsiders.old.leaves
-        → AreSides (slice_set levels (o.0 - 1) level) (numbers_of list.now) members.new.leaves outsiders.new.leaves }
+    ensures sides { Relevels o.0 level (numbers_of list.now)
+        (members.old.leaves, outsiders.old.leaves) (members.new.leaves, outsiders.new.leaves) }
     ensures room { members.new.room ≡ members.old.room }
 {
     // Most objects are outsiders: their tree alone is read then.
     if outsiders.leaf(seat_of(o)).is_some() {
-        outsiders.set(seat_of(o), Node::of(level));
+        outsiders.set(seat_of(o), level);
     } else if let Some(place) = place_of(list, o) {
-        members.set(place, Node::of(-level));
+        members.set(place, -level);
     }
 }
 
@@ -99,13 +96,11 @@ pub(crate) fn release(list: &[Obj], members: &Tree, outsiders: &mut Tree)
     requires within { All (λ o. o ≤ length outsiders.old.leaves) (numbers_of list.now) }
     requires room { length list.now ≤ length members.now.leaves }
     requires small { AreSmallLeaves members.now.leaves }
-    ensures { (levels : List ℤ) → All (λ o. o ≤ length levels) (numbers_of list.now)
-        → AreSides levels (numbers_of list.now) members.now.leaves outsiders.old.leaves
-        → AreOutsiderLeaves levels (is_in []) outsiders.new.leaves }
+    ensures { Releases (numbers_of list.now) members.now.leaves outsiders.old.leaves outsiders.new.leaves }
 {
     for place in 0..list.len() {
         let level = -number_in(members, place);
-        outsiders.set(seat_of(list[place]), Node::of(level));
+        outsiders.set(seat_of(list[place]), level);
     }
 }
 
@@ -115,17 +110,15 @@ pub(crate) fn take(new: &ObjSet, members: &mut Tree, outsiders: &mut Tree)
     requires room { HasRoom (length new.now) members.old.room }
     requires within { All (λ o. o ≤ length outsiders.old.leaves) new.now }
     requires small { AreSmallLeaves outsiders.old.leaves }
-    ensures sides { (levels : List ℤ) → All (λ o. o ≤ length levels) new.now
-        → AreOutsiderLeaves levels (is_in []) outsiders.old.leaves
-        → AreSides levels new.now members.new.leaves outsiders.new.leaves }
+    ensures sides { Takes new.now outsiders.old.leaves (members.new.leaves, outsiders.new.leaves) }
     ensures ascends { IsAscending new.now }
     ensures room { members.new.room ≡ members.old.room }
 {
     members.clear(new.len());
     for place in 0..new.len() {
         let seat = seat_of(new.at(place));
-        members.set(place, Node::of(-number_in(outsiders, seat)));
-        outsiders.set(seat, Node::none());
+        members.set(place, -number_in(outsiders, seat));
+        outsiders.remove(seat);
     }
 }
 

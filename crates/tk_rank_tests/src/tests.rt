@@ -71,13 +71,16 @@ fn members_become_more_and_fewer(rt: HostRuntime) -> Result<(), Fail> {
     Ok(())
 }
 
+/// 2^100: above every level here.
+const FAR: i128 = 1_267_650_600_228_229_401_496_703_205_376;
+
 /// Shifts a level of four, and tells it, the least member's level and the greatest outsider's.
 fn shifted<R: Abort>(rt: &R, rank: &mut Rank, o: Obj, by: i128) -> (i128, i128, Option<i128>) {
     assert!(rt; rank.len() == 4);
     assert!(rt; 0 < o.0 && o.0 <= 4);
     let level = rank.level(o);
-    assert!(rt; -1_000 < level && level < 1_000);
-    assert!(rt; -1_000 < by && by < 1_000);
+    assert!(rt; -FAR < level && level < FAR);
+    assert!(rt; -FAR < by && by < FAR);
     rank.shift(o, by);
     (rank.level(o), rank.least_member(), rank.greatest_outsider())
 }
@@ -88,6 +91,43 @@ fn a_member_and_an_outsider_shift(rt: HostRuntime) -> Result<(), Fail> {
     assert_eq!(rt; shifted(&rt, &mut rank, Obj(3), -6), (3, 4, Some(3)));
     assert_eq!(rt; shifted(&rt, &mut rank, Obj(2), -7), (-3, -3, Some(3)));
     assert_eq!(rt; shifted(&rt, &mut rank, Obj(2), 9), (6, 5, Some(3)));
+    Ok(())
+}
+
+/// 2^63: a node of 8 bytes has only numbers that are smaller in size.
+const EDGE: i128 = 9_223_372_036_854_775_808;
+
+#[test]
+fn levels_of_more_than_eight_bytes(rt: HostRuntime) -> Result<(), Fail> {
+    let mut rank = four(&rt, rt.alloc())?;
+    assert_eq!(rt;
+        shifted(&rt, &mut rank, Obj(4), EDGE - 2),
+        (EDGE - 1, 4, Some(EDGE - 1))
+    );
+    assert_eq!(rt; shifted(&rt, &mut rank, Obj(4), 1), (EDGE, 4, Some(EDGE)));
+    assert_eq!(rt; shifted(&rt, &mut rank, Obj(3), -10), (-1, 4, Some(EDGE)));
+    assert_eq!(rt;
+        shifted(&rt, &mut rank, Obj(2), EDGE - 4),
+        (EDGE, 5, Some(EDGE))
+    );
+    assert_eq!(rt;
+        shifted(&rt, &mut rank, Obj(1), -5 - EDGE),
+        (-EDGE, -EDGE, Some(EDGE))
+    );
+    Ok(())
+}
+
+#[test]
+fn far_levels_change_sides(rt: HostRuntime) -> Result<(), Fail> {
+    let last = set(rt.alloc(), &[3, 4])?;
+    let mut rank = four(&rt, rt.alloc())?;
+    assert_eq!(rt;
+        shifted(&rt, &mut rank, Obj(4), -1 - EDGE),
+        (-EDGE, 4, Some(9))
+    );
+    assert_eq!(rt; with_members(&rt, &mut rank, &last), (-EDGE, Some(5)));
+    assert_eq!(rt; shifted(&rt, &mut rank, Obj(4), EDGE + 2), (2, 2, Some(5)));
+    assert_eq!(rt; shown(rt.alloc(), &rank, 4, &[1])?, (2, Some(5), true));
     Ok(())
 }
 

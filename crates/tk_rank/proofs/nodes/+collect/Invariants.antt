@@ -1,4 +1,4 @@
 use Rattle.tk_rank.proofs.nodes.+collect.Given as goal
 
 abbrev pub decreases-collect : goal.decreases-collect
-decreases-collect l = l.part.width
+decreases-collect g l = l.part.width

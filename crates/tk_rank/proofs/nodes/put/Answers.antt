@@ -1,45 +1,58 @@
-use Rattle.std.proofs.Common.{◌≡◌, refl, ℕ, ◌/◌, ◌+◌, ◌*◌, ◌∙◌, sym, ap, ap₂, arith}
-use Rattle.tk_rank.specs.Tree.{greater, node_at}
-use Rattle.tk_rank.proofs.NodeLemmas.{read_node, mending_starts, mending_goes_on, mending_ends, mending_stops, leaves-set, leaves-inner}
+use Rattle.std.proofs.Common.{◌≡◌, ◌<◌, refl, ◌/◌, ◌+◌, ◌∙◌, sym, ap, subst, arith, length, length-set, map, set}
+use Rattle.std.proofs.lemmas.List.{length-map, map-set}
+use Rattle.tk_rank.specs.Tree.{leaves_of, width_of}
+use Rattle.tk_rank.proofs.NodeLemmas.{read_node, leaf_within, mending_starts, mending_goes_on, mending_ends, mending_stops, leaves-set, leaves-inner, IsMending}
 use Rattle.tk_rank.proofs.nodes.put.Goals as goal
 
-doubled : (n : ℕ) → 2 * n ≡ n + n
-doubled n = omega arith
+pub bounds-nodes-child : goal.bounds-nodes-child
+bounds-nodes-child g c = leaf_within g.N.Node.number c.args.nodes.now c.args.place c.requires.tree c.requires.within
 
 pub loop-child-init : goal.loop-child-init
-loop-child-init c = record {
-  mending = mending_starts c.args.nodes.now c.args.place c.args.leaf c.requires.tree c.requires.above c.requires.within;
-  leaves = leaves-set c.args.nodes.now c.args.place c.args.leaf c.requires.above;
-}
+loop-child-init g c =
+    let number = g.N.Node.number in
+    let nodes = c.args.nodes.now in
+    let place = c.args.place in
+    let at = length nodes / 2 + place in
+    let x = number c.args.leaf in
+    let same = length-map nodes number in
+    let half : length nodes / 2 ≡ width_of (map number nodes) = ap (λ n. n / 2) (sym same) in
+    let written = map-set number nodes at c.args.leaf in
+    let within = leaf_within number nodes place c.requires.tree c.requires.within in
+    record {
+      mending = subst (λ list. IsMending list at) (sym written) (mending_starts (map number nodes) at x c.requires.tree (omega (arith, half)) (omega (arith, within, same)));
+      leaves =
+          ap leaves_of written
+          ∙ leaves-set (map number nodes) at x (omega (arith, half))
+          ∙ ap (λ k. set (leaves_of (map number nodes)) k x) (omega (arith, half));
+      size = length-set nodes at c.args.leaf;
+    }
 
 pub loop-child-preserved : goal.loop-child-preserved
-loop-child-preserved c =
+loop-child-preserved g c =
+    let number = g.N.Node.number in
     let nodes = c.loop-child.nodes in
     let child = c.loop-child.child in
     let m = c.loop-child.invariant.mending in
-    let parent = child / 2 in
-    let first = read_node nodes (2 * parent) c.index-nodes-child.result (omega (arith, m.even, m.within)) c.index-nodes-child.is in
-    let second = read_node nodes (2 * parent + 1) c.index-nodes-child-in-loop-child.result (omega (arith, m.even, m.within)) c.index-nodes-child-in-loop-child.is in
-    let greater_read = c.greater-mended.ensures ∙ ap₂ greater first second in
-    let children = ap₂ (λ a b. greater (node_at nodes a) (node_at nodes b)) (doubled parent) (ap (λ n. n + 1) (doubled parent)) in
+    let mended = c.greater_child-mended.result in
+    let written = map-set number nodes (child / 2) mended in
     record {
-      mending = mending_goes_on nodes child parent c.greater-mended.result m (omega arith) refl (greater_read ∙ children);
-      leaves = leaves-inner nodes parent c.greater-mended.result (omega (arith, m.even, m.within)) ∙ c.loop-child.invariant.leaves;
+      mending = subst (λ list. IsMending list (child / 2)) (sym written) (mending_goes_on (map number nodes) child (child / 2) (number mended) m (omega arith) refl c.greater_child-mended.ensures);
+      leaves =
+          ap leaves_of written
+          ∙ leaves-inner (map number nodes) (child / 2) (number mended) (omega (arith, m.even, m.within))
+          ∙ c.loop-child.invariant.leaves;
+      size = length-set nodes (child / 2) mended ∙ c.loop-child.invariant.size;
     }
 
 pub returns-then-is_same-clause-tree : goal.returns-then-is_same-clause-tree
-returns-then-is_same-clause-tree c =
+returns-then-is_same-clause-tree g c =
+    let number = g.N.Node.number in
     let nodes = c.loop-child.nodes in
     let child = c.loop-child.child in
-    let parent = child / 2 in
     let m = c.loop-child.invariant.mending in
-    let read = read_node nodes parent c.index-nodes-child-in-loop-child-2.result (omega (arith, m.even, m.within)) c.index-nodes-child-in-loop-child-2.is in
-    let first = read_node nodes (2 * parent) c.index-nodes-child.result (omega (arith, m.even, m.within)) c.index-nodes-child.is in
-    let second = read_node nodes (2 * parent + 1) c.index-nodes-child-in-loop-child.result (omega (arith, m.even, m.within)) c.index-nodes-child-in-loop-child.is in
-    let greater_read = c.greater-mended.ensures ∙ ap₂ greater first second in
-    let children = ap₂ (λ a b. greater (node_at nodes a) (node_at nodes b)) (doubled parent) (ap (λ n. n + 1) (doubled parent)) in
-    mending_stops nodes child parent c.loop-child.invariant.mending refl
-    (sym read ∙ c.is_same.ensures c.if-is_same.true ∙ greater_read ∙ children)
+    let within : child / 2 < length nodes = omega (arith, m.within, length-map nodes number) in
+    mending_stops (map number nodes) child (child / 2) m refl
+    (sym (read_node number nodes (child / 2) c.index-nodes-child.result within c.index-nodes-child.is) ∙ c.is_same.ensures c.if-is_same.true ∙ c.greater_child-mended.ensures)
 
 pub returns-clause-tree : goal.returns-clause-tree
-returns-clause-tree c = mending_ends c.loop-child.nodes c.loop-child.child c.loop-child.invariant.mending c.loop-child-test.false
+returns-clause-tree g c = mending_ends (map g.N.Node.number c.loop-child.nodes) c.loop-child.child c.loop-child.invariant.mending c.loop-child-test.false

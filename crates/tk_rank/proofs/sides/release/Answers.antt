@@ -1,11 +1,12 @@
 use Rattle.std.proofs.Common.{◌≡◌, ◌∙◌, ◌<◌, ◌≤◌, ap, arith, get_or, length, length-set, pos, ◌-ℤ◌}
+use Rattle.std.proofs.lemmas.Int.{ints}
 use Rattle.std.proofs.lemmas.List.{length-map}
 use Rattle.tk_base.specs.Ascending.{numbers_of}
 use Rattle.tk_base.specs.declared.ids.Obj.{Obj}
 use Rattle.tk_base.proofs.AscendingLemmas.{ascending_positive}
 use Rattle.tk_border.specs.Levels.{level_at}
 use Rattle.tk_rank.proofs.ExchangeLemmas.{release_goes_on}
-use Rattle.tk_rank.proofs.SidesLemmas.{member_here, number_at, turned_back}
+use Rattle.tk_rank.proofs.SidesLemmas.{member_here, number_at, turned, turned_back}
 use Rattle.tk_rank.proofs.sides.release.Goals as goal
 
 pub seat_of-requires : goal.seat_of-requires
@@ -22,7 +23,11 @@ set-requires c =
     let inside : place < length (numbers_of list) = omega (arith, c.loop-place-test.true, length-map list (λ (x : Obj). x.0)) in
     let rise = ascending_positive (numbers_of list) c.requires.ascends place inside in
     let low = c.requires.within place 0 inside in
-    omega (arith, number_at list place c.loop-place-test.true, rise, low, c.seat_of.ensures, c.loop-place.invariant.room)
+    let small = c.number_in-level.ensures.size in
+    record {
+      within = omega (arith, number_at list place c.loop-place-test.true, rise, low, c.seat_of.ensures, c.loop-place.invariant.room);
+      size = rw (turned c.number_in-level.result small) (omega (arith, ints, small));
+    }
 
 pub loop-place-preserved : goal.loop-place-preserved
 loop-place-preserved c =
@@ -34,11 +39,11 @@ loop-place-preserved c =
     let at : get_or n place 0 ≡ o = number_at list place c.loop-place-test.true in
     let some : 0 < o = let rise = ascending_positive n c.requires.ascends place inside in omega (arith, at, rise) in
     record {
-      room = ap length c.set.ensures.leaves ∙ length-set c.loop-place.outsiders.leaves c.seat_of.result c.of.result ∙ c.loop-place.invariant.room;
+      room = ap length c.set.ensures.leaves ∙ length-set c.loop-place.outsiders.leaves c.seat_of.result _ ∙ c.loop-place.invariant.room;
       sides = λ levels all s.
           let low : o ≤ length levels = let there = all place 0 inside in omega (arith, at, there) in
           let read = c.number_in-level.ensures.value (pos 0 -ℤ level_at levels (get_or n place 0)) (member_here levels n c.args.members.now.leaves place inside s.members) in
           let is = turned_back (level_at levels o) c.number_in-level.result c.number_in-level.ensures.size (read ∙ ap (λ q. pos 0 -ℤ level_at levels q) at) in
-          rw (c.set.ensures.leaves, c.seat_of.ensures, c.of.ensures, is)
+          rw (c.set.ensures.leaves, c.seat_of.ensures, is)
           (release_goes_on levels n c.loop-place.outsiders.leaves place o inside at some low (c.loop-place.invariant.sides levels all s));
     }

@@ -14,12 +14,12 @@ returns-then-is_some-clause-sides c levels within s =
     let n = numbers_of c.args.list.now in
     let there : is_some (leaf_at c.args.outsiders.now.leaves o) ≡ true = rw (← c.seat_of.ensures) (ap is_some (sym c.leaf.ensures) ∙ sym c.is_some.ensures ∙ c.if-is_some.true) in
     let here : is_in n o ≡ false = outsider_kept levels (is_in n) c.args.outsiders.now.leaves o c.requires.from_one within s.outsiders there in
-    rw (c.set.ensures.leaves, c.seat_of-then-is_some.ensures, c.of.ensures, passed_on c.args.level c.requires.size)
+    rw (c.set.ensures.leaves, c.seat_of-then-is_some.ensures, passed_on c.args.level c.requires.size)
     (outsider_relevelled levels n c.args.members.now.leaves c.args.outsiders.now.leaves o c.args.level c.requires.ascends c.requires.from_one within here s)
 
 pub returns-in-Some-clause-sides : goal.returns-in-Some-clause-sides
 returns-in-Some-clause-sides c levels within s =
     let o = c.args.o.0 in
     let list = c.args.list.now in
-    rw (c.set-in-Some.ensures.leaves, c.of-in-Some.ensures, turned c.args.level c.requires.size)
+    rw (c.set-in-Some.ensures.leaves, turned c.args.level c.requires.size)
     (member_relevelled levels (numbers_of list) c.args.members.now.leaves c.args.outsiders.now.leaves o c.in-Some.place c.args.level c.requires.ascends c.requires.from_one within (omega (arith, c.in-Some.ensures.within, length-map list (λ (x : Obj). x.0))) c.in-Some.ensures.found s)

@@ -17,16 +17,17 @@ loop-place-preserved c =
     let at : get_or new i 0 ≡ o = sym c.at.ensures.value in
     let some : 0 < o = let rise = ascending_positive new up i inside in omega (arith, at, rise) in
     let low : o ≤ length out = let there = c.requires.within i 0 inside in omega (arith, at, there, c.loop-place.invariant.outsider_room) in
+    let filled : length c.set.new.self.leaves ≡ length m = ap length c.set.ensures.leaves ∙ length-set m i _ in
     record {
-      enough = omega (arith, ap length c.set.ensures.leaves, length-set m i c.of.result, c.loop-place.invariant.enough);
+      enough = omega (arith, filled, c.loop-place.invariant.enough);
       member_room = c.set.ensures.room ∙ c.loop-place.invariant.member_room;
-      outsider_room = ap length c.set-in-loop-place.ensures.leaves ∙ length-set out c.seat_of-seat.result c.none.result ∙ c.loop-place.invariant.outsider_room;
-      small = rw (c.set-in-loop-place.ensures.leaves, c.none.ensures) (small_emptied out c.seat_of-seat.result (omega (arith, c.seat_of-seat.ensures, low, some)) c.loop-place.invariant.small);
+      outsider_room = ap length c.remove.ensures.leaves ∙ length-set out c.seat_of-seat.result None ∙ c.loop-place.invariant.outsider_room;
+      small = rw c.remove.ensures.leaves (small_emptied out c.seat_of-seat.result (omega (arith, c.seat_of-seat.ensures, low, some)) c.loop-place.invariant.small);
       sides = λ levels all s.
           let there : o ≤ length levels = let bound = all i 0 inside in omega (arith, at, bound) in
           let taken = c.loop-place.invariant.sides levels all s in
           let leaf = next_leaf levels new i o m out up inside at some there taken in
           let read : c.number_in.result ≡ level_at levels o = c.number_in.ensures.value (level_at levels o) (ap (λ k. get_or out k None) c.seat_of-seat.ensures ∙ leaf) in
-          rw (c.set.ensures.leaves, c.set-in-loop-place.ensures.leaves, c.of.ensures, c.none.ensures, c.seat_of-seat.ensures, turned c.number_in.result c.number_in.ensures.size, read)
+          rw (c.set.ensures.leaves, c.remove.ensures.leaves, c.seat_of-seat.ensures, turned c.number_in.result c.number_in.ensures.size, read)
           (take_goes_on levels new i o m out inside (omega (arith, inside, c.loop-place.invariant.enough)) at some there taken);
     }

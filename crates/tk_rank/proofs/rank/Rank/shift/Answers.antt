@@ -26,24 +26,24 @@ found c =
 small : (c : goal.After-seat_of-in-Some) → unsigned_abs (level_at (levels c) c.args.o.0 +ℤ c.args.by) < 2 ^ 114
 small c = rw (← c.self.view_is) at c.requires.size
 
-pub of-requires : goal.of-requires
-of-requires c =
+pub set-requires-clause-size : goal.set-requires-clause-size
+set-requires-clause-size c =
     rw ((found c).1, shifted_on (level_at (levels c) c.args.o.0) c.args.by (small_level (levels c) c.args.o.0 c.self.invariant.ranked.small) (small c)) (small c)
 
 -- the outsiders' tree has the new level
-written : (c : goal.After-set) → c.set.new.self.leaves ≡ set c.self.inside.outsiders.leaves (c.args.o.0 - 1) (Some (level_at (levels c.before.before) c.args.o.0 +ℤ c.args.by))
+written : (c : goal.After-set) → c.set.new.self.leaves ≡ set c.self.inside.outsiders.leaves (c.args.o.0 - 1) (Some (level_at (levels c.before) c.args.o.0 +ℤ c.args.by))
 written c =
     let o = c.args.o.0 in
-    let before = c.before.before in
+    let before = c.before in
     let shifted = shifted_on (level_at (levels before) o) c.args.by (small_level (levels before) o c.self.invariant.ranked.small) (small before) in
-    rw (c.set.ensures.leaves, c.seat_of-in-Some.ensures, c.of.ensures, (found before).1, shifted) refl
+    rw (c.set.ensures.leaves, c.seat_of-in-Some.ensures, (found before).1, shifted) refl
 
 -- so all is kept
-kept : (c : goal.After-set) → (levels_of c.self.inside.count (numbers_of c.self.inside.list.items) c.self.inside.members.leaves c.set.new.self.leaves ≡ set (levels c.before.before) (c.args.o.0 - 1) (level_at (levels c.before.before) c.args.o.0 +ℤ c.args.by)) × IsKept (levels_of c.self.inside.count (numbers_of c.self.inside.list.items) c.self.inside.members.leaves c.set.new.self.leaves) (numbers_of c.self.inside.list.items) (vec_capacity c.self.inside.list) c.self.inside.members c.set.new.self.leaves
+kept : (c : goal.After-set) → (levels_of c.self.inside.count (numbers_of c.self.inside.list.items) c.self.inside.members.leaves c.set.new.self.leaves ≡ set (levels c.before) (c.args.o.0 - 1) (level_at (levels c.before) c.args.o.0 +ℤ c.args.by)) × IsKept (levels_of c.self.inside.count (numbers_of c.self.inside.list.items) c.self.inside.members.leaves c.set.new.self.leaves) (numbers_of c.self.inside.list.items) (vec_capacity c.self.inside.list) c.self.inside.members c.set.new.self.leaves
 kept c =
     let r = c.self.inside in
     let o = c.args.o.0 in
-    let before = c.before.before in
+    let before = c.before in
     let members = numbers_of r.list.items in
     let level = level_at (levels before) o +ℤ c.args.by in
     let within : o ≤ length (levels before) = rw (← c.self.view_is) at c.requires.within in
@@ -61,5 +61,5 @@ with_levels r levels = record { levels = levels; members = r.members }
 
 pub returns-in-Some : goal.returns-in-Some
 returns-in-Some c =
-    ap (with_levels (record { levels = levels c.before.before; members = numbers_of c.self.inside.list.items })) (kept c).0
+    ap (with_levels (record { levels = levels c.before; members = numbers_of c.self.inside.list.items })) (kept c).0
     ∙ ap (λ (x : RankView). with_levels x (set x.levels (c.args.o.0 - 1) (level_at x.levels c.args.o.0 +ℤ c.args.by))) c.self.view_is

@@ -1,0 +1,68 @@
+ghost use Rattle.std.specs.Prelude.{◌≡◌, ◌^◌, ◌≤◌, IfSome, IsNone, Some, unsigned_abs};
+ghost use Rattle.tk_rank.specs.Node.{narrow_number, wide_number};
+
+use crate::node::Node;
+use crate::wide::Wide;
+
+/// A number, or none, in 8 bytes.
+#[derive(Clone, Copy, Debug)]
+pub(crate) struct Narrow {
+    /// The least of all stands for none.
+    number: i64,
+}
+
+impl Narrow {
+    /// The number in 8 bytes, unless it takes more.
+    pub fn of(number: i128) -> Option<Narrow>
+        ensures some { IfSome result (λ node. narrow_number node ≡ Some number) }
+        ensures none { IsNone result → 2 ^ 63 ≤ unsigned_abs number }
+    {
+        if number <= i128::from(i64::MIN) || number > i128::from(i64::MAX) {
+            return None;
+        }
+        Some(Narrow {
+            number: number as i64,
+        })
+    }
+
+    /// The same in 16 bytes.
+    pub fn wide(self) -> Wide
+        ensures { wide_number result ≡ narrow_number self }
+    {
+        if self.number == i64::MIN {
+            Wide::none()
+        } else {
+            Wide::of(i128::from(self.number))
+        }
+    }
+}
+
+impl Node for Narrow {
+    ghost number = { narrow_number };
+
+    fn none() -> Narrow {
+        Narrow { number: i64::MIN }
+    }
+
+    fn get(self) -> Option<i128> {
+        if self.number == i64::MIN {
+            None
+        } else {
+            Some(i128::from(self.number))
+        }
+    }
+
+    fn is_same(self, other: Narrow) -> bool {
+        self.number == other.number
+    }
+
+    fn greater(self, other: Narrow) -> Narrow {
+        Narrow {
+            number: self.number.max(other.number),
+        }
+    }
+
+    fn is_over(self, level: i128) -> bool {
+        self.number > i64::MIN && level < i128::from(self.number)
+    }
+}
