@@ -17,7 +17,9 @@ use Rattle.tk_border.proofs.LevelLemmas.{least_none, small_level}
 use Rattle.std.proofs.lemmas.List.Elements.{recursion_from_All, All-map}
 use Rattle.std.specs.List.{AllByRecursion as ByRecursion}
 use Rattle.tk_trail.proofs.MappedLemmas.{mapped_one, mapped_same}
-use Rattle.tk_monitor.specs.Board.{BoardView, IsBoard, AreFactors, assigned, assigned_level, factors_over, values_in}
+use Rattle.tk_monitor.specs.Board.{AreLimited, assigned, assigned_level, values_in}
+use Rattle.tk_monitor.specs.Factors.{factor_in, factors_over}
+use Rattle.tk_monitor.proofs.FactorsLemmas.{got_within, got_all, take_got}
 
 -- one place of a list written
 level_set : (xs : List ℤ) (i o : ℕ) (v : ℤ) (P : ℤ → Type 0) → i < length xs → P v → P (level_at xs o) → P (level_at (set xs i v) o)
@@ -28,42 +30,40 @@ level_set xs i o v P within new old =
     ]
 
 -- value and level of an object change
-pub board_set : (s : BoardView) (i : ℕ) (value level : ℤ) → IsBoard s → i < length s.levels → unsigned_abs value ≤ 2 ^ 100 → unsigned_abs (level -ℤ value) ≤ 2 ^ 112 → IsBoard (record s { values = set s.values i value; levels = set s.levels i level })
-board_set s i value level is within small factor = record {
-  shape = length-set s.values i value ∙ is.shape ∙ sym (length-set s.levels i level);
-  objects = omega (arith, length-set s.levels i level, is.objects);
-  values = λ o. level_set s.values i o value (λ z. unsigned_abs z ≤ 2 ^ 100) (omega (arith, is.shape)) small (is.values o);
-  factors = λ o.
+pub limits_set : (values levels : List ℤ) (i : ℕ) (value level : ℤ) → AreLimited values levels → i < length levels → unsigned_abs value ≤ 2 ^ 100 → unsigned_abs (level -ℤ value) ≤ 2 ^ 112 → AreLimited (set values i value) (set levels i level)
+limits_set values levels i value level is within small factor = record {
+  shape = length-set values i value ∙ is.shape ∙ sym (length-set levels i level);
+  few = omega (arith, length-set levels i level, is.few);
+  value_size = λ o. level_set values i o value (λ z. unsigned_abs z ≤ 2 ^ 100) (omega (arith, is.shape)) small (is.value_size o);
+  factor_size = λ o.
       elim (cases_eq (o - 1) i) [
         | inl same ↦
-            let v : level_at (set s.values i value) o ≡ value = ap (λ k. get_or (set s.values i value) k (pos 0)) same ∙ get_or-set_same s.values i value (pos 0) (omega (arith, is.shape)) in
-            let l : level_at (set s.levels i level) o ≡ level = ap (λ k. get_or (set s.levels i level) k (pos 0)) same ∙ get_or-set_same s.levels i level (pos 0) within in
+            let v : level_at (set values i value) o ≡ value = ap (λ k. get_or (set values i value) k (pos 0)) same ∙ get_or-set_same values i value (pos 0) (omega (arith, is.shape)) in
+            let l : level_at (set levels i level) o ≡ level = ap (λ k. get_or (set levels i level) k (pos 0)) same ∙ get_or-set_same levels i level (pos 0) within in
             rw (v, l) factor
         | inr apart ↦
-            let v : level_at (set s.values i value) o ≡ level_at s.values o = get_or-set_other s.values i (o - 1) value (pos 0) apart in
-            let l : level_at (set s.levels i level) o ≡ level_at s.levels o = get_or-set_other s.levels i (o - 1) level (pos 0) apart in
-            rw (v, l) (is.factors o)
+            let v : level_at (set values i value) o ≡ level_at values o = get_or-set_other values i (o - 1) value (pos 0) apart in
+            let l : level_at (set levels i level) o ≡ level_at levels o = get_or-set_other levels i (o - 1) level (pos 0) apart in
+            rw (v, l) (is.factor_size o)
       ];
-  members = λ k d h. omega (arith, length-set s.levels i level, is.members k d h);
 }
 
 -- the level of an object alone changes
-pub board_level : (s : BoardView) (i : ℕ) (level : ℤ) → IsBoard s → i < length s.levels → unsigned_abs (level -ℤ get_or s.values i (pos 0)) ≤ 2 ^ 112 → IsBoard (record s { levels = set s.levels i level })
-board_level s i level is within factor = record {
-  shape = is.shape ∙ sym (length-set s.levels i level);
-  objects = omega (arith, length-set s.levels i level, is.objects);
-  values = is.values;
-  factors = λ o.
+pub limits_level : (values levels : List ℤ) (i : ℕ) (level : ℤ) → AreLimited values levels → i < length levels → unsigned_abs (level -ℤ get_or values i (pos 0)) ≤ 2 ^ 112 → AreLimited values (set levels i level)
+limits_level values levels i level is within factor = record {
+  shape = is.shape ∙ sym (length-set levels i level);
+  few = omega (arith, length-set levels i level, is.few);
+  value_size = is.value_size;
+  factor_size = λ o.
       elim (cases_eq (o - 1) i) [
         | inl same ↦
-            let v : level_at s.values o ≡ get_or s.values i (pos 0) = ap (λ k. get_or s.values k (pos 0)) same in
-            let l : level_at (set s.levels i level) o ≡ level = ap (λ k. get_or (set s.levels i level) k (pos 0)) same ∙ get_or-set_same s.levels i level (pos 0) within in
+            let v : level_at values o ≡ get_or values i (pos 0) = ap (λ k. get_or values k (pos 0)) same in
+            let l : level_at (set levels i level) o ≡ level = ap (λ k. get_or (set levels i level) k (pos 0)) same ∙ get_or-set_same levels i level (pos 0) within in
             rw (v, l) factor
         | inr apart ↦
-            let l : level_at (set s.levels i level) o ≡ level_at s.levels o = get_or-set_other s.levels i (o - 1) level (pos 0) apart in
-            rw l (is.factors o)
+            let l : level_at (set levels i level) o ≡ level_at levels o = get_or-set_other levels i (o - 1) level (pos 0) apart in
+            rw l (is.factor_size o)
       ];
-  members = λ k d h. omega (arith, length-set s.levels i level, is.members k d h);
 }
 
 -- a board of zeros
@@ -74,17 +74,16 @@ zero_level n o =
       | inr past ↦ get_or_past (replicate n (pos 0)) (o - 1) (pos 0) (omega (arith, length-replicate n (pos 0)))
     ]
 
-pub board_zero : (n : ℕ) → n ≤ 65536 → IsBoard (record { values = replicate n (pos 0); levels = replicate n (pos 0); members = [] })
-board_zero n few = record {
+pub limits_zero : (n : ℕ) → n ≤ 65536 → AreLimited (replicate n (pos 0)) (replicate n (pos 0))
+limits_zero n few = record {
   shape = refl;
-  objects = omega (arith, length-replicate n (pos 0));
-  values = λ o. rw (zero_level n o) (omega (arith, ints));
-  factors = λ o. rw (zero_level n o) (omega (arith, ints));
-  members = λ k d h. absurd (omega arith);
+  few = omega (arith, length-replicate n (pos 0));
+  value_size = λ o. rw (zero_level n o) (omega (arith, ints));
+  factor_size = λ o. rw (zero_level n o) (omega (arith, ints));
 }
 
 -- two lists with the same numbers at each place
-from_places : (xs ys : List ℤ) → length xs ≡ length ys → ((i : ℕ) → i < length xs → get_or xs i (pos 0) ≡ get_or ys i (pos 0)) → xs ≡ ys
+pub from_places : (xs ys : List ℤ) → length xs ≡ length ys → ((i : ℕ) → i < length xs → get_or xs i (pos 0) ≡ get_or ys i (pos 0)) → xs ≡ ys
 from_places [] [] shape same = refl
 from_places [] (y ∷ ys) shape same = absurd (omega arith)
 from_places (x ∷ xs) [] shape same = absurd (omega arith)
@@ -133,16 +132,6 @@ got_object [] i c got = cc
 got_object (x ∷ xs) zero c got = let is : x ≡ c = cc in ap (λ (p : ℕ × ℤ). p.0) is
 got_object (x ∷ xs) (suc i) c got = got_object xs i c got
 
-got_within : (changes : List (ℕ × ℤ)) (i : ℕ) (c : ℕ × ℤ) → slice_get changes i ≡ Some c → i < length changes
-got_within [] i c got = cc
-got_within (x ∷ xs) zero c got = omega arith
-got_within (x ∷ xs) (suc i) c got = omega (arith, got_within xs i c got)
-
-take_got : (changes : List (ℕ × ℤ)) (i : ℕ) (c : ℕ × ℤ) → slice_get changes i ≡ Some c → take (suc i) changes ≡ take i changes ++ c ∷ []
-take_got [] i c got = cc
-take_got (x ∷ xs) zero c got = cc
-take_got (x ∷ xs) (suc i) c got = ap (λ (rest : List (ℕ × ℤ)). x ∷ rest) (take_got xs i c got)
-
 not_before : (changes : List (ℕ × ℤ)) (i : ℕ) (c : ℕ × ℤ) → IsAscending (objects_of changes) → slice_get changes i ≡ Some c → value_at (take i changes) c.0 ≡ None
 not_before changes i c up got =
     let within = got_within changes i c got in
@@ -170,71 +159,59 @@ factor_first true here there given r rest first later = ap Some (first refl)
 factor_first false here there given r rest first later = later
 
 -- the factors of the objects named, by object
-factor_of : (values levels : List ℤ) (changes : List (ℕ × ℤ)) (o : ℕ) → value_at (factors_over values levels changes) o ≡ option_map (λ _. level_at levels o -ℤ level_at values o) (value_at changes o)
-factor_of values levels [] o = refl
-factor_of values levels (c ∷ changes) o =
-    factor_first (c.0 == o) (level_at levels c.0 -ℤ level_at values c.0) (level_at levels o -ℤ level_at values o) c.1 (value_at (factors_over values levels changes) o) (value_at changes o)
-    (λ is. ap (λ q. level_at levels q -ℤ level_at values q) (eqb-true c.0 o is))
-    (factor_of values levels changes o)
+factor_of : (kept changes : List (ℕ × ℤ)) (o : ℕ) → value_at (factors_over kept changes) o ≡ option_map (λ _. factor_in kept o) (value_at changes o)
+factor_of kept [] o = refl
+factor_of kept (c ∷ changes) o =
+    factor_first (c.0 == o) (factor_in kept c.0) (factor_in kept o) c.1 (value_at (factors_over kept changes) o) (value_at changes o)
+    (λ is. ap (factor_in kept) (eqb-true c.0 o is))
+    (factor_of kept changes o)
 
 -- an Assign is undone by the factors that stood before it
-undone_level : (value level now : ℤ) (change back : Option ℤ) → back ≡ option_map (λ _. level -ℤ value) change → now ≡ option_map_or (λ factor. value +ℤ factor) change level → option_map_or (λ factor. value +ℤ factor) back now ≡ level
-undone_level value level now None back none is = ap (λ r. option_map_or (λ factor. value +ℤ factor) r now) none ∙ is
-undone_level value level now (Some factor) back some is = ap (λ r. option_map_or (λ f. value +ℤ f) r now) some ∙ omega (arith, ints)
+undone_level : (value level factor now : ℤ) (change back : Option ℤ) → value ≡ level -ℤ factor → back ≡ option_map (λ _. factor) change → now ≡ option_map_or (λ z. value +ℤ z) change level → option_map_or (λ z. value +ℤ z) back now ≡ level
+undone_level value level factor now None back parts none is = ap (λ r. option_map_or (λ z. value +ℤ z) r now) none ∙ is
+undone_level value level factor now (Some given) back parts some is = ap (λ r. option_map_or (λ z. value +ℤ z) r now) some ∙ omega (arith, ints, parts)
 
-pub assigned_undone : (values levels : List ℤ) (changes : List (ℕ × ℤ)) → assigned values (assigned values levels changes) (factors_over values levels changes) ≡ levels
+pub assigned_undone : (values levels : List ℤ) (kept changes : List (ℕ × ℤ)) → ((o : ℕ) → 1 ≤ o → o ≤ length levels → level_at values o ≡ level_at levels o -ℤ factor_in kept o) → assigned values (assigned values levels changes) (factors_over kept changes) ≡ levels
 unfolding assigned objects
-assigned_undone values levels changes =
+assigned_undone values levels kept changes parts =
     let now = map (assigned_level values levels changes) (range_with_len 1 (length levels)) in
     let size : length now ≡ length levels = length-map-range_with_len (assigned_level values levels changes) 1 (length levels) in
-    ap (λ n. map (assigned_level values now (factors_over values levels changes)) (range_with_len 1 n)) size
-    ∙ mapped_same (level_at levels) (assigned_level values now (factors_over values levels changes)) 1 (length levels)
+    ap (λ n. map (assigned_level values now (factors_over kept changes)) (range_with_len 1 n)) size
+    ∙ mapped_same (level_at levels) (assigned_level values now (factors_over kept changes)) 1 (length levels)
     (λ o low high.
-    undone_level (level_at values o) (level_at levels o) (level_at now o) (value_at changes o) (value_at (factors_over values levels changes) o) (factor_of values levels changes o)
+    undone_level (level_at values o) (level_at levels o) (factor_in kept o) (level_at now o) (value_at changes o) (value_at (factors_over kept changes) o)
+    (parts o low (omega arith))
+    (factor_of kept changes o)
     (get_or-map-range_with_len (assigned_level values levels changes) 1 (length levels) (o - 1) o (pos 0) (omega arith) (omega arith)))
     ∙ all_levels levels (length levels) refl
 
--- factors and values over objects stand under those objects
-pub objects-factors : (values levels : List ℤ) (changes : List (ℕ × ℤ)) → objects_of (factors_over values levels changes) ≡ objects_of changes
-objects-factors values levels [] = refl
-objects-factors values levels (c ∷ changes) = ap (λ (rest : List ℕ). c.0 ∷ rest) (objects-factors values levels changes)
-
+-- values over objects stand under those objects
 pub objects-values : (values : List ℤ) (asked : List ℕ) → objects_of (values_in values asked) ≡ asked
 objects-values values [] = refl
 objects-values values (o ∷ asked) = ap (λ (rest : List ℕ). o ∷ rest) (objects-values values asked)
 
 -- one more of them
-pub factors_more : (values levels : List ℤ) (changes : List (ℕ × ℤ)) (i : ℕ) (c : ℕ × ℤ) → slice_get changes i ≡ Some c → factors_over values levels (take (i + 1) changes) ≡ factors_over values levels (take i changes) ++ (c.0, level_at levels c.0 -ℤ level_at values c.0) ∷ []
-factors_more values levels changes i c got =
-    ap (λ ps. factors_over values levels ps) (ap (λ n. take n changes) (let e : i + 1 ≡ suc i = omega arith in e) ∙ take_got changes i c got)
-    ∙ map-append (λ (p : ℕ × ℤ). (p.0, level_at levels p.0 -ℤ level_at values p.0)) (take i changes) (c ∷ [])
-
 pub values_more : (values : List ℤ) (asked : List ℕ) (i : ℕ) → i < length asked → values_in values (take (i + 1) asked) ≡ values_in values (take i asked) ++ (get_or asked i 0, level_at values (get_or asked i 0)) ∷ []
 values_more values asked i within =
     ap (λ os. values_in values os) (take_more asked i 0 within) ∙ map-append (λ (o : ℕ). (o, level_at values o)) (take i asked) (get_or asked i 0 ∷ [])
 
-got_pair : (changes : List (ℕ × ℤ)) (i : ℕ) (c d : ℕ × ℤ) → slice_get changes i ≡ Some c → get_or changes i d ≡ c
-got_pair [] i c d got = cc
-got_pair (x ∷ xs) zero c d got = cc
-got_pair (x ∷ xs) (suc i) c d got = got_pair xs i c d got
-
 -- the object at a place of some changes
 pub change_within : (changes : List (ℕ × ℤ)) (n i : ℕ) (c : ℕ × ℤ) → All (λ p. p.0 ≤ n) changes → slice_get changes i ≡ Some c → c.0 ≤ n
-change_within changes n i c all got = let is = got_pair changes i c c got in subst (λ (p : ℕ × ℤ). p.0 ≤ n) is (all i c (got_within changes i c got))
+change_within changes n i c all got = got_all (λ p. p.0 ≤ n) changes i c all got
 
 pub change_small : (changes : List (ℕ × ℤ)) (m i : ℕ) (c : ℕ × ℤ) → All (λ p. unsigned_abs p.1 ≤ m) changes → slice_get changes i ≡ Some c → unsigned_abs c.1 ≤ m
-change_small changes m i c all got = let is = got_pair changes i c c got in subst (λ (p : ℕ × ℤ). unsigned_abs p.1 ≤ m) is (all i c (got_within changes i c got))
+change_small changes m i c all got = got_all (λ p. unsigned_abs p.1 ≤ m) changes i c all got
 
 pub change_from_one : (changes : List (ℕ × ℤ)) (i : ℕ) (c : ℕ × ℤ) → IsAscending (objects_of changes) → slice_get changes i ≡ Some c → 1 ≤ c.0
 change_from_one changes i c up got =
     omega (arith, ascending_positive (objects_of changes) up i (omega (arith, length-map changes (λ (p : ℕ × ℤ). p.0), got_within changes i c got)), got_object changes i c got)
 
 -- a level is small
-pub board_small : (s : BoardView) → IsBoard s → All (λ x. unsigned_abs x < 2 ^ 114) s.levels
-board_small s is k d within =
-    let v = is.values (k + 1) in
-    let f = is.factors (k + 1) in
-    let at : level_at s.levels (k + 1) ≡ get_or s.levels k d = ap (λ i. get_or s.levels i (pos 0)) (let e : k + 1 - 1 ≡ k = omega arith in e) ∙ get_or_default s.levels k (pos 0) d within in
+pub limits_small : (values levels : List ℤ) → AreLimited values levels → All (λ x. unsigned_abs x < 2 ^ 114) levels
+limits_small values levels is k d within =
+    let v = is.value_size (k + 1) in
+    let f = is.factor_size (k + 1) in
+    let at : level_at levels (k + 1) ≡ get_or levels k d = ap (λ i. get_or levels i (pos 0)) (let e : k + 1 - 1 ≡ k = omega arith in e) ∙ get_or_default levels k (pos 0) d within in
     omega (arith, ints, v, f, at)
 
 -- without members there is no least one
@@ -269,13 +246,6 @@ small_greatest levels set r small is =
     (recursion_from_All (λ x. unsigned_abs x < 2 ^ 114) (map (level_at levels) (outside (length levels) set))
     (All-map (λ x. unsigned_abs x < 2 ^ 114) (level_at levels) (outside (length levels) set) (λ k d within. small_level levels (get_or (outside (length levels) set) k d) small)))
     is
-
--- the factors that stand are within the limits
-pub factors_limits : (s : BoardView) (changes : List (ℕ × ℤ)) → IsBoard s → All (λ c. c.0 ≤ length s.levels) changes → AreFactors (length s.levels) (factors_over s.values s.levels changes)
-factors_limits s changes is within = record {
-  within = All-map (λ (p : ℕ × ℤ). p.0 ≤ length s.levels) (λ (c : ℕ × ℤ). (c.0, level_at s.levels c.0 -ℤ level_at s.values c.0)) changes within;
-  small = All-map (λ (p : ℕ × ℤ). unsigned_abs p.1 ≤ 2 ^ 112) (λ (c : ℕ × ℤ). (c.0, level_at s.levels c.0 -ℤ level_at s.values c.0)) changes (λ k d below. is.factors (get_or changes k d).0);
-}
 
 -- where something is broken there are members
 none_above : (h : ℕ → ℤ) (os : List ℕ) → filter (λ o. is_above None (h o)) os ≡ []

@@ -19,9 +19,9 @@ use Rattle.tk_trail.proofs.LegalLemmas.{and_both, legal_raised, legal_sent, lega
 use Rattle.tk_trail.proofs.LevelsLemmas.{Same, same-sent, values-same, levels-same, members-same, values-raised, levels-raised, value-raised, value-small, level_at-values_of, share_own, length-levels_of}
 use Rattle.tk_trail.proofs.PlacesLemmas.{places_at-raised, length-places_at}
 use Rattle.tk_trail.proofs.ReadingsLemmas.{assigns_of-raised, seq_of-raised, seq_of-sent, reported-raised, reported-sent, told-raised, told-sent, stopped-raised, stopped-sent}
-use Rattle.tk_monitor.specs.Board.{BoardView}
+use Rattle.tk_monitor.specs.Board.{BoardView, shifted}
 use Rattle.tk_monitor.specs.Trail.{TrailView}
-use Rattle.tk_monitor.specs.Kept.{IsKept, standing_of, phase_of, left_in, next_in, shifted}
+use Rattle.tk_monitor.specs.Kept.{IsKept, standing_of, phase_of, left_in, next_in}
 use Rattle.tk_monitor.specs.Monitored.{checked_at}
 use Rattle.tk_monitor.specs.declared.outcome.Checked.TheVariants.{Reported, ToldEnd, Nothing}
 use Rattle.tk_monitor.specs.declared.phase.Phase.{Phase}

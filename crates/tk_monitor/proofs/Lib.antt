@@ -1,4 +1,6 @@
+pub mod AssignLemmas
 pub mod BoardLemmas
+pub mod FactorsLemmas
 pub mod KeptLemmas
 pub mod TrailLemmas
 pub mod MessageLemmas
@@ -6,3 +8,4 @@ pub mod PartsLemmas
 pub mod RefusalLemmas
 pub mod StartLemmas
 pub mod TakeLemmas
+pub mod ValuesLemmas

@@ -17,8 +17,8 @@ use Rattle.tk_trail.proofs.LevelsLemmas.{share_none, share_own}
 use Rattle.tk_trail.proofs.MappedLemmas.{mapped_one, mapped_same}
 use Rattle.tk_trail.proofs.PlacesLemmas.{places_at-start}
 use Rattle.tk_trail.proofs.ValuesLemmas.{value_of-set, value_of-small, int_sum-cons}
-use Rattle.tk_monitor.specs.Board.{BoardView}
-use Rattle.tk_monitor.specs.Kept.{values_on, shifted, next_in, standing_of}
+use Rattle.tk_monitor.specs.Board.{BoardView, shifted}
+use Rattle.tk_monitor.specs.Kept.{values_on, next_in, standing_of}
 use Rattle.tk_monitor.specs.Start.{StandsAt}
 use Rattle.tk_monitor.proofs.KeptLemmas.{change_object}
 

@@ -1,9 +1,10 @@
 -- The board of a monitor: values, levels and members. No public clause cites this file.
-use Rattle.std.specs.Prelude.{◌≡◌, ℕ, ◌^◌, ◌≤◌, ℤ, ◌+ℤ◌, ◌-ℤ◌, unsigned_abs, List, length, map, All}
+use Rattle.std.specs.Prelude.{◌≡◌, ℕ, ◌-◌, ◌^◌, ◌≤◌, ℤ, ◌+ℤ◌, ◌-ℤ◌, unsigned_abs, slice_set, List, length, map, All}
 use Rattle.std.specs.Option.{option_map_or}
 use Rattle.tk_base.specs.Objects.{objects}
 use Rattle.tk_base.specs.Pairs.{value_at}
 use Rattle.tk_border.specs.Levels.{level_at}
+use Rattle.tk_monitor.specs.Factors.{factor_in}
 
 -- the value and the level of each object, and the members
 pub record BoardView : Type 0 where
@@ -11,12 +12,31 @@ pub record BoardView : Type 0 where
   pub levels : List ℤ
   pub members : List ℕ
 
--- values, factors and members are within the limits
+-- the value of each object: its level without its factor
+unfoldable pub values_under : List ℤ → List (ℕ × ℤ) → List ℤ
+values_under levels kept = map (λ o. level_at levels o -ℤ factor_in kept o) (objects (length levels))
+
+-- a board by its levels, the factors that are kept, and the members
+abbrev pub board_of : List ℤ → List (ℕ × ℤ) → List ℕ → BoardView
+board_of levels kept members = record { values = values_under levels kept; levels = levels; members = members }
+
+-- the board once a change counts
+abbrev pub shifted : BoardView → ℕ × ℤ → BoardView
+shifted s c = record s {
+  values = slice_set s.values (c.0 - 1) (level_at s.values c.0 +ℤ c.1);
+  levels = slice_set s.levels (c.0 - 1) (level_at s.levels c.0 +ℤ c.1);
+}
+
+-- values and factors are within the limits
+pub record AreLimited (values levels : List ℤ) : Type 0 where
+  pub shape : length values ≡ length levels
+  pub few : length levels ≤ 65536
+  pub value_size : (o : ℕ) → unsigned_abs (level_at values o) ≤ 2 ^ 100
+  pub factor_size : (o : ℕ) → unsigned_abs (level_at levels o -ℤ level_at values o) ≤ 2 ^ 112
+
+-- so they are on a board, and its members are objects
 pub record IsBoard (s : BoardView) : Type 0 where
-  pub shape : length s.values ≡ length s.levels
-  pub objects : length s.levels ≤ 65536
-  pub values : (o : ℕ) → unsigned_abs (level_at s.values o) ≤ 2 ^ 100
-  pub factors : (o : ℕ) → unsigned_abs (level_at s.levels o -ℤ level_at s.values o) ≤ 2 ^ 112
+  pub limits : AreLimited s.values s.levels
   pub members : All (λ o. o ≤ length s.levels) s.members
 
 -- an object of a catalogue of n
@@ -35,10 +55,6 @@ assigned_level values levels changes o = option_map_or (λ factor. level_at valu
 
 unfoldable pub assigned : List ℤ → List ℤ → List (ℕ × ℤ) → List ℤ
 assigned values levels changes = map (assigned_level values levels changes) (objects (length levels))
-
--- the factors of the objects that some changes name
-abbrev pub factors_over : List ℤ → List ℤ → List (ℕ × ℤ) → List (ℕ × ℤ)
-factors_over values levels changes = map (λ c. (c.0, level_at levels c.0 -ℤ level_at values c.0)) changes
 
 -- the values of some objects
 abbrev pub values_in : List ℤ → List ℕ → List (ℕ × ℤ)

@@ -1,17 +1,19 @@
 -- What the fields of a monitor keep of its trail. No public clause cites this file.
-use Rattle.std.specs.Prelude.{◌≡◌, ℕ, ◌-◌, ℤ, ◌+ℤ◌, Bool, List, [], length, map, sum_by, Option, slice_get, slice_index_or, slice_index, slice_set, nat_lt, if◌then◌else◌}
+use Rattle.std.specs.Prelude.{◌≡◌, ℕ, ◌-◌, ℤ, Bool, ◌&&◌, not, List, [], length, map, sum_by, Option, slice_get, slice_index_or, slice_index, nat_lt, if◌then◌else◌}
 use Rattle.std.specs.List.{zip}
 use Rattle.tk_base.specs.Objects.{objects}
 use Rattle.tk_frames.specs.declared.frame.Frame.{Frame}
 use Rattle.tk_frames.specs.declared.frame.Frame.TheVariants as f
 use Rattle.tk_input.specs.Logs.{value_of}
-use Rattle.tk_border.specs.Levels.{level_at, broken, border, resolution}
+use Rattle.tk_border.specs.Levels.{broken, border, resolution}
 use Rattle.tk_trail.specs.Setup.{MonitorSetup, IsSetup}
 use Rattle.tk_trail.specs.Readings.{places_at, values_of, levels_of, members_at, seq_of, is_reported, is_end_told, is_stopped}
 use Rattle.tk_trail.specs.Legal.{IsLegal}
 use Rattle.tk_trail.specs.declared.entry.Entry.{Entry}
 use Rattle.tk_monitor.specs.Board.{BoardView, values_in}
 use Rattle.tk_monitor.specs.Trail.{TrailView}
+use Rattle.tk_monitor.specs.declared.outcome.Checked.{Checked}
+use Rattle.tk_monitor.specs.declared.outcome.Checked.TheVariants.{Reported, ToldEnd, Nothing}
 use Rattle.tk_monitor.specs.declared.phase.Phase.{Phase}
 
 -- what a trail gives for the board, and for the phase
@@ -42,13 +44,6 @@ next_in parts next i = slice_get (slice_index_or parts i []) (slice_index next i
 unfoldable pub values_on : ℕ → List (List (ℕ × ℤ)) → List ℕ → List ℤ
 values_on n parts next = map (value_of parts next) (objects n)
 
--- the board once a change counts
-abbrev pub shifted : BoardView → ℕ × ℤ → BoardView
-shifted s c = record s {
-  values = slice_set s.values (c.0 - 1) (level_at s.values c.0 +ℤ c.1);
-  levels = slice_set s.levels (c.0 - 1) (level_at s.levels c.0 +ℤ c.1);
-}
-
 -- the frames that a board and some places give
 unfoldable pub report_on : BoardView → ℕ → Frame
 report_on s seq =
@@ -63,3 +58,10 @@ values_frame s seq round asked = f.Values round seq (border s.levels s.members a
 abbrev pub answer_on : BoardView → ℕ → List ℕ → Bool → Frame
 answer_on s seq next ended =
     if nat_lt 0 (length (broken s.levels s.members)) then report_on s seq else f.Settled seq ended next
+
+-- what a check does of what it looks at: whether a Report may be sent, whether something is broken, whether all
+-- parts are at their ends, and whether that was told
+abbrev pub due_of : Bool → Bool → Bool → Bool → Checked
+due_of may_report broken ended told =
+    if may_report && broken then Reported
+    else (if may_report && not broken && ended && not told then ToldEnd else Nothing)

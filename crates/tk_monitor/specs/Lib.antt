@@ -1,4 +1,5 @@
 pub mod Board
+pub mod Factors
 pub mod Kept
 pub mod Trail
 pub mod Monitored

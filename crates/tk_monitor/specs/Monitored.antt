@@ -1,5 +1,5 @@
 -- A monitor as contracts see it, and what its calls answer.
-use Rattle.std.specs.Prelude.{◌≡◌, ℕ, ◌≤◌, List, [], ◌∷◌, ◌++◌, length, Option, Some, None, Result, Err, IfErr, if◌then◌else◌}
+use Rattle.std.specs.Prelude.{◌≡◌, ℕ, ℤ, ◌≤◌, List, [], ◌∷◌, ◌++◌, length, Option, Some, None, Result, Err, IfErr, if◌then◌else◌}
 use Rattle.tk_base.specs.Settings.{Setup}
 use Rattle.tk_base.specs.declared.ids.Feeder.{Feeder}
 use Rattle.tk_frames.specs.declared.frame.Frame.{Frame}
@@ -21,6 +21,14 @@ pub record MonitorView : Type 0 where
   pub settings : Setup
   pub setup : MonitorSetup
   pub trail : List Entry
+
+-- a monitor of some number over some parts, each from a place of its own, before anything happened to it
+abbrev pub made : Setup → ℕ → List (List (ℕ × ℤ)) → List ℕ → MonitorView
+made settings number parts from = record {
+  settings = settings;
+  setup = record { number = number; objects = settings.objects; parts = parts; from = from };
+  trail = [];
+}
 
 -- a number is one of its feeders
 pub record IsFeederOf (setup : MonitorSetup) (g : ℕ) : Type 0 where

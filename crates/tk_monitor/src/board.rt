@@ -1,41 +1,36 @@
-ghost use Rattle.std.specs.Prelude.{◌≡◌, ◌+◌, ◌-◌, ◌^◌, ◌<◌, ◌≤◌, pos, ◌+ℤ◌, ◌-ℤ◌, unsigned_abs, IsTrue, length, replicate, All, IfOk, nat_lt, slice_set, []};
+ghost use Rattle.std.specs.Prelude.{◌≡◌, ◌+◌, ◌-◌, ◌^◌, ◌<◌, ◌≤◌, pos, ◌+ℤ◌, unsigned_abs, IsTrue, length, replicate, All, IfOk, nat_lt, []};
 ghost use Rattle.tk_border.specs.Levels.{level_at, least_member as least_member_of, greatest_outside as greatest_outside_of, broken, border as border_of, holds};
 ghost use Rattle.tk_trail.specs.Slack.{difference};
-ghost use Rattle.tk_monitor.specs.Board.{IsOneOf, AreFactors, assigned, factors_over, values_in};
+ghost use Rattle.tk_monitor.specs.Board.{IsOneOf, shifted, values_in};
 
+mod assign;
+
+use crate::factors::Factors;
 use std::alloc::Global;
 use std::marker::Model;
-use std::mem;
 use tk_base::{NoMemory, Obj, ObjSet, Pairs};
 use tk_rank::Rank;
 
-/// The value and the level of each object at one monitor, and the members.
-/// Before the first Assign there are none; the trees then stand over object 1, and nobody asks them.
+/// The level of each object at one monitor, its factor, and the members. A value is a level without its factor, so
+/// that a change writes the level alone.
+/// Before the first Assign there are no members; the trees then stand over object 1, and nobody asks them.
 #[derive(Debug, Drop)]
 pub(crate) struct Board {
-    values: Vec<i128>,
     rank: Rank,
+    factors: Factors,
     members: ObjSet,
 }
 
 impl Model for Board {
     ghost use Rattle.std.specs.Prelude.{◌≡◌, ◌<◌, length};
-    ghost use Rattle.tk_monitor.specs.Board.{BoardView, IsBoard};
+    ghost use Rattle.tk_monitor.specs.Board.{BoardView, IsBoard, board_of};
 
     ghost Value = { BoardView };
 
-    ghost view = { λ b. record {
-      values = b.values.items;
-      levels = b.rank.levels;
-      members = b.members;
-    } };
+    ghost view = { λ b. board_of b.rank.levels b.factors b.members };
 
     ghost invariant = { λ b.
-        IsBoard (record {
-          values = b.values.items;
-          levels = b.rank.levels;
-          members = b.members;
-        })
+        IsBoard (board_of b.rank.levels b.factors b.members)
         × (0 < length b.members → b.rank.members ≡ b.members) };
 }
 
@@ -50,13 +45,13 @@ impl Board {
           members = [];
         }) }
     {
-        let values = vec![in alloc; 0; objects as usize]?;
+        let zeros = vec![in alloc; 0; objects as usize]?;
         let mut first = Vec::new(alloc);
         first.push(Obj(1))?;
-        let rank = Rank::new(alloc, values.as_slice(), &ObjSet::new(first).unwrap())?;
+        let rank = Rank::new(alloc, zeros.as_slice(), &ObjSet::new(first).unwrap())?;
         Ok(Board {
-            values,
             rank,
+            factors: Factors::new(alloc),
             members: ObjSet::new(Vec::new(alloc)).unwrap(),
         })
     }
@@ -77,80 +72,21 @@ impl Board {
         self.rank.level(o)
     }
 
-    /// The value of an object.
+    /// The value of an object, in the time of a logarithm of the factors.
     pub fn value(&self, o: Obj) -> i128
         requires { IsOneOf (length self.now.levels) o.0 }
         ensures { result ≡ level_at self.now.values o.0 }
     {
-        self.values[(o.0 - 1) as usize]
-    }
-
-    fn factor(&self, o: Obj) -> i128
-        requires { IsOneOf (length self.now.levels) o.0 }
-        ensures value { result ≡ level_at self.now.levels o.0 -ℤ level_at self.now.values o.0 }
-        ensures small { unsigned_abs result ≤ 2 ^ 112 }
-    {
-        self.rank.level(o) - self.value(o)
+        self.rank.level(o) - self.factors.of(o)
     }
 
     /// Moves value and level of an object.
     pub fn shift(&mut self, o: Obj, by: i128)
         requires object { IsOneOf (length self.old.levels) o.0 }
         requires size { unsigned_abs (level_at self.old.values o.0 +ℤ by) ≤ 2 ^ 100 }
-        ensures { self.new ≡ record self.old {
-          values = slice_set self.old.values (o.0 - 1) (level_at self.old.values o.0 +ℤ by);
-          levels = slice_set self.old.levels (o.0 - 1) (level_at self.old.levels o.0 +ℤ by);
-        } }
+        ensures { self.new ≡ shifted self.old (o.0, by) }
     {
-        let value = self.value(o) + by;
-        self.values[(o.0 - 1) as usize] = value;
         self.rank.shift(o, by);
-    }
-
-    fn set_factor(&mut self, o: Obj, factor: i128)
-        requires object { IsOneOf (length self.old.levels) o.0 }
-        requires size { unsigned_abs factor ≤ 2 ^ 112 }
-        ensures { self.new ≡ record self.old {
-          levels = slice_set self.old.levels (o.0 - 1) (level_at self.old.values o.0 +ℤ factor);
-        } }
-    {
-        let level = self.value(o) + factor;
-        self.rank.set(o, level);
-    }
-
-    /// Takes other members and factors, and hands the old members back.
-    pub fn assign(&mut self, members: ObjSet, changes: &Pairs) -> ObjSet
-        requires members { All (λ o. o ≤ length self.old.levels) members }
-        requires factors { AreFactors (length self.old.levels) changes.now }
-        ensures old { result ≡ self.old.members }
-        ensures within { All (λ o. o ≤ length self.old.levels) result }
-        ensures new { self.new ≡ record self.old {
-          levels = assigned self.old.values self.old.levels changes.now;
-          members = members;
-        } }
-    {
-        for i in 0..changes.len() {
-            let (o, factor) = changes.at(i);
-            self.set_factor(o, factor);
-        }
-        seat(&mut self.rank, &members);
-        mem::replace(&mut self.members, members)
-    }
-
-    /// The present factors of the objects that some changes name.
-    pub fn factors(&self, alloc: Global, changes: &Pairs) -> Result<Pairs, NoMemory>
-        requires { All (λ c. c.0 ≤ length self.now.levels) changes.now }
-        ensures value { IfOk result (λ p. p ≡ factors_over self.now.values self.now.levels changes.now) }
-        ensures limits { IfOk result (λ p. AreFactors (length self.now.levels) p) }
-    {
-        // A field is read for what every board keeps.
-        let _ = &self.members;
-        let mut list = Vec::with_capacity(alloc, changes.len())?;
-        for i in 0..changes.len() {
-            let (o, _) = changes.at(i);
-            list.push((o, self.factor(o)))?;
-        }
-        Ok(Pairs::new(list).unwrap())
     }
 
     /// The values of the objects that are asked for.
@@ -203,16 +139,5 @@ impl Board {
             None => false,
             Some(slack) => slack < 0,
         }
-    }
-}
-
-/// The trees take the members, if there are any.
-fn seat(rank: &mut Rank, members: &ObjSet)
-    requires { All (λ o. o ≤ length rank.old.levels) members.now }
-    ensures levels { rank.new.levels ≡ rank.old.levels }
-    ensures members { 0 < length members.now → rank.new.members ≡ members.now }
-{
-    if members.len() > 0 {
-        rank.set_members(members);
     }
 }

@@ -325,3 +325,22 @@ fn a_collect_is_answered_by_values(rt: HostRuntime) -> Result<(), Fail> {
     assert_eq!(rt; (is_said, level), (true, -3));
     Ok(())
 }
+
+#[test]
+fn values_stay_under_other_factors(rt: HostRuntime) -> Result<(), Fail> {
+    let steps = [
+        assigned(&[(2, -3)]),
+        (Does::Raise, BROKEN),
+        (Does::Assign(2, &[1], &[(1, 2), (2, -9)]), Answer::Taken),
+        (Does::Collect(&[1, 2]), Answer::Taken),
+    ];
+    let answer = Frame::Values {
+        round: 1,
+        seq: 2,
+        border: 2,
+        values: pairs(rt.alloc(), &[(1, 0), (2, 4)])?,
+    };
+    let (is_said, _, level) = says(rt.alloc(), b"b,4\n", &steps, &answer)?;
+    assert_eq!(rt; (is_said, level), (true, -5));
+    Ok(())
+}

@@ -1,8 +1,9 @@
-ghost use Rattle.std.specs.Prelude.{◌≡◌, ◌&&◌, ◌∷◌, ◌++◌, [], true, false, not, Ok, IfOk, OnOk, OnErr, if◌then◌else◌};
+ghost use Rattle.std.specs.Prelude.{◌≡◌, ◌∷◌, ◌++◌, [], true, false, Ok, IfOk, OnOk, OnErr};
 ghost use Rattle.tk_trail.specs.Readings.{at_ends};
 ghost use Rattle.tk_trail.specs.Frames.{report_at, settled_at, report_is_due, end_is_due};
 ghost use Rattle.tk_trail.specs.Legal.{IsLegal, after_check};
 ghost use Rattle.tk_trail.specs.declared.entry.Entry.TheVariants.{Sent};
+ghost use Rattle.tk_monitor.specs.Kept.{due_of};
 ghost use Rattle.tk_monitor.specs.Monitored.{checked_at};
 ghost use Rattle.tk_monitor.specs.declared.outcome.Checked.TheVariants.{Nothing};
 
@@ -13,10 +14,7 @@ use tk_base::NoMemory;
 
 /// What a check sends: a Report where something is broken, or that all parts are at their ends.
 fn due(may_report: bool, broken: bool, ended: bool, told: bool) -> Checked
-    ensures { result ≡ (
-        if may_report && broken then Checked.Reported
-        else (if may_report && not broken && ended && not told then Checked.ToldEnd else Checked.Nothing)
-        ) }
+    ensures { result ≡ due_of may_report broken ended told }
 {
     if may_report && broken {
         return Checked::Reported;

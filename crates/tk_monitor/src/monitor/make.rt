@@ -1,6 +1,7 @@
-ghost use Rattle.std.specs.Prelude.{◌≡◌, [], IfOk};
+ghost use Rattle.std.specs.Prelude.{◌≡◌, IfOk};
 ghost use Rattle.tk_input.specs.Logs.{AreParts, ArePlaces};
 ghost use Rattle.tk_trail.specs.Legal.{IsLegal};
+ghost use Rattle.tk_monitor.specs.Monitored.{made};
 
 use crate::board::Board;
 use crate::monitor::Monitor;
@@ -24,11 +25,7 @@ impl Monitor {
     ) -> Result<Monitor, NoMemory>
         requires parts { AreParts settings.now.objects parts.items }
         requires places { ArePlaces parts.items from.now }
-        ensures ok { IfOk result (λ m. m ≡ record {
-          settings = settings.now;
-          setup = record { number = mon.0; objects = settings.now.objects; parts = parts.items; from = from.now };
-          trail = [];
-        }) }
+        ensures ok { IfOk result (λ m. m ≡ made settings.now mon.0 parts.items from.now) }
         ensures legal { IfOk result (λ m. IsLegal m.setup m.trail) }
     {
         let mut board = Board::new(alloc, settings.objects())?;

@@ -4,7 +4,6 @@ ghost use Rattle.tk_trail.specs.Refusal.{refusal_of as refusal_at};
 ghost use Rattle.tk_trail.specs.Legal.{IsLegal, after_take};
 ghost use Rattle.tk_monitor.specs.Monitored.{AnswersTake};
 
-use crate::answers::assign;
 use crate::messages::values;
 use crate::monitor::Monitor;
 use crate::refusals::{Shown, refusal_of};
@@ -99,7 +98,7 @@ impl Monitor {
         };
         let ended = self.trail.raises() == 0;
         let next = self.next.as_slice();
-        match assign(alloc, &mut self.board, seq, mine, changes, next, ended) {
+        match self.board.assign(alloc, seq, mine, changes, next, ended) {
             Err(_) => Err(took.into_frame()),
             Ok(answer) => {
                 self.phase = self.phase.assigned(seq, self.board.is_broken(), ended);

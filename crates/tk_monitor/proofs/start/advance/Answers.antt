@@ -3,7 +3,8 @@ use Rattle.std.specs.Prelude.{ℤ, FitsSigned, slice_get}
 use Rattle.std.specs.Int.{w128}
 use Rattle.std.proofs.lemmas.Int.{ints, to_z-of_z}
 use Rattle.std.proofs.lemmas.List.{get_or_default, get_or-set_same, length-set, set-set}
-use Rattle.tk_monitor.specs.Kept.{next_in, shifted}
+use Rattle.tk_monitor.specs.Board.{shifted}
+use Rattle.tk_monitor.specs.Kept.{next_in}
 use Rattle.tk_monitor.proofs.KeptLemmas.{change_object}
 use Rattle.tk_monitor.proofs.StartLemmas.{stands_size, stands_step, stands_small}
 use Rattle.tk_monitor.proofs.start.advance.Goals as goal

@@ -4,8 +4,8 @@ use Rattle.std.specs.Int.{w128}
 use Rattle.std.proofs.lemmas.Int.{ints}
 use Rattle.tk_border.specs.Levels.{least_member, greatest_outside}
 use Rattle.tk_trail.specs.Slack.{difference}
-use Rattle.tk_monitor.specs.Board.{BoardView}
-use Rattle.tk_monitor.proofs.BoardLemmas.{board_small, no_members, small_greatest}
+use Rattle.tk_monitor.specs.Board.{BoardView, values_under}
+use Rattle.tk_monitor.proofs.BoardLemmas.{limits_small, no_members, small_greatest}
 use Rattle.tk_monitor.proofs.board.Board.slack.Goals as goal
 
 pub returns-then-len-eq0 : goal.returns-then-len-eq0
@@ -17,7 +17,7 @@ returns-then-len-eq0 c =
 pub overflow_sub-result : goal.overflow_sub-result
 overflow_sub-result c =
     let inside = c.self.inside in
-    let small = board_small (record { values = inside.values.items; levels = inside.rank.levels; members = inside.members }) c.self.invariant.0 in
+    let small = limits_small (values_under inside.rank.levels inside.factors) inside.rank.levels c.self.invariant.0.limits in
     let greatest : greatest_outside inside.rank.levels inside.rank.members ≡ Some c.in_ok-greatest.greatest = sym c.greatest_outsider.ensures ∙ c.in_ok-greatest.was in
     omega (arith, ints, c.least_member.ensures.size, small_greatest inside.rank.levels inside.rank.members c.in_ok-greatest.greatest small greatest)
 
@@ -26,7 +26,7 @@ returns c =
     let inside = c.self.inside in
     let x = c.least_member.result in
     let g = c.in_ok-greatest.greatest in
-    let small = board_small (record { values = inside.values.items; levels = inside.rank.levels; members = inside.members }) c.self.invariant.0 in
+    let small = limits_small (values_under inside.rank.levels inside.factors) inside.rank.levels c.self.invariant.0.limits in
     let some : 0 < length inside.members = omega (arith, c.len.ensures.value, c.if-len-eq0.false) in
     let same : inside.rank.members ≡ inside.members = c.self.invariant.1 some in
     let above : greatest_outside inside.rank.levels inside.rank.members ≡ Some g = sym c.greatest_outsider.ensures ∙ c.in_ok-greatest.was in

@@ -8,7 +8,8 @@ use Rattle.tk_trail.specs.Setup.{MonitorSetup}
 use Rattle.tk_trail.specs.declared.entry.Entry.TheVariants as e
 use Rattle.tk_trail.specs.Legal.{HasNext, place_of, part_length}
 use Rattle.tk_monitor.specs.Trail.{TrailView}
-use Rattle.tk_monitor.specs.Kept.{next_in, shifted}
+use Rattle.tk_monitor.specs.Board.{shifted}
+use Rattle.tk_monitor.specs.Kept.{next_in}
 use Rattle.tk_monitor.specs.Monitored.{MonitorView}
 use Rattle.tk_monitor.proofs.PartsLemmas.{left_less, got_below}
 use Rattle.tk_monitor.proofs.KeptLemmas.{kept_places, kept_next, kept_raised, kept_small, kept_size, kept_broken, kept_ended, change_object}

@@ -70,16 +70,16 @@ entries-sent c =
     let taken = trail ++ e.Took frame ∷ [] in
     let mine : c.in-Ok-Ok.mine ≡ c.args.members = c.in-Ok-Ok.ensures in
     let changes : c.in-Assign.changes ≡ c.args.changes = changes-are c in
-    let now : c.assign.new.board ≡ record inside.board { levels = assigned inside.board.values inside.board.levels c.args.changes; members = c.args.members } =
+    let now : c.assign.new.self ≡ record inside.board { levels = assigned inside.board.values inside.board.levels c.args.changes; members = c.args.members } =
     c.in-Ok.ensures.ok ∙ ap₂ (λ (ps : List (ℕ × ℤ)) (os : List ℕ). record inside.board { levels = assigned inside.board.values inside.board.levels ps; members = os }) changes mine in
-    let stands : c.assign.new.board ≡ standing_of setup taken =
+    let stands : c.assign.new.self ≡ standing_of setup taken =
     now ∙ ap (λ (s : BoardView). record s { levels = assigned s.values s.levels c.args.changes; members = c.args.members }) kept.standing ∙ standing_assigned setup trail c.args.seq c.args.members c.args.changes in
     let ended : (c.raises-ended.result == 0) ≡ at_ends setup taken =
     ap (λ n. n == 0) (c.raises-ended.ensures ∙ c.reserve.ensures.raises) ∙ kept_ends setup inside.trail inside.board inside.next.items inside.phase kept ∙ sym (ends-took setup trail frame) in
     let took : c.in_ok-took.took ≡ frame = c.in_ok-took.ensures.ok in
     let answer : c.in-Ok.answer ≡ answer_at setup taken =
     c.in-Ok.ensures.answer
-    ∙ answer_made setup taken c.assign.new.board c.args.seq c.as_slice-next.result.now (c.raises-ended.result == 0) stands
+    ∙ answer_made setup taken c.assign.new.self c.args.seq c.as_slice-next.result.now (c.raises-ended.result == 0) stands
     (passes.next ∙ sym (seq_of-assign trail c.args.seq c.args.members c.args.changes))
     (c.as_slice-next.ensures.value ∙ kept.places ∙ sym (places_at-took setup trail frame))
     ended in
@@ -100,15 +100,15 @@ invariant_of-self-in-Ok c =
     let taken = trail ++ e.Took frame ∷ [] in
     let mine : c.in-Ok-Ok.mine ≡ c.args.members = c.in-Ok-Ok.ensures in
     let changes : c.in-Assign.changes ≡ c.args.changes = changes-are c in
-    let now : c.assign.new.board ≡ record inside.board { levels = assigned inside.board.values inside.board.levels c.args.changes; members = c.args.members } =
+    let now : c.assign.new.self ≡ record inside.board { levels = assigned inside.board.values inside.board.levels c.args.changes; members = c.args.members } =
     c.in-Ok.ensures.ok ∙ ap₂ (λ (ps : List (ℕ × ℤ)) (os : List ℕ). record inside.board { levels = assigned inside.board.values inside.board.levels ps; members = os }) changes mine in
-    let stands : c.assign.new.board ≡ standing_of setup taken =
+    let stands : c.assign.new.self ≡ standing_of setup taken =
     now ∙ ap (λ (s : BoardView). record s { levels = assigned s.values s.levels c.args.changes; members = c.args.members }) kept.standing ∙ standing_assigned setup trail c.args.seq c.args.members c.args.changes in
     let ended : (c.raises-ended.result == 0) ≡ at_ends setup taken =
     ap (λ n. n == 0) (c.raises-ended.ensures ∙ c.reserve.ensures.raises) ∙ kept_ends setup inside.trail inside.board inside.next.items inside.phase kept ∙ sym (ends-took setup trail frame) in
-    subst (λ (phase : Phase). IsKept setup c.sent.new.self c.assign.new.board inside.next.items phase) (sym c.assigned-self-inside.ensures)
-    (kept_assigned setup inside.trail c.sent.new.self inside.board c.assign.new.board inside.next.items inside.phase c.args.seq c.args.members c.args.changes c.is_broken.result (c.raises-ended.result == 0) kept none now
-    (c.is_broken.ensures ∙ kept_broken setup taken c.assign.new.board stands)
+    subst (λ (phase : Phase). IsKept setup c.sent.new.self c.assign.new.self inside.next.items phase) (sym c.assigned-self-inside.ensures)
+    (kept_assigned setup inside.trail c.sent.new.self inside.board c.assign.new.self inside.next.items inside.phase c.args.seq c.args.members c.args.changes c.is_broken.result (c.raises-ended.result == 0) kept none now
+    (c.is_broken.ensures ∙ kept_broken setup taken c.assign.new.self stands)
     ended
     (entries-sent c)
     (ap (λ (l : TrailView). l.raises) c.sent.ensures ∙ ap (λ (l : TrailView). l.raises) c.took.ensures ∙ c.reserve.ensures.raises))
