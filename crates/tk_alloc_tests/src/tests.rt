@@ -5,6 +5,7 @@ ghost use Rattle.tk_base.specs.Pairs.{objects_of};
 ghost use Rattle.tk_rows.specs.Factors.{factor_at};
 ghost use Rattle.tk_alloc.specs.Resolving.{CanTakePart, IsReady, objects_over, round_border};
 ghost use Rattle.tk_alloc.specs.Rounds.{AreReports, IsOfSize};
+ghost use Rattle.tk_alloc_tests.specs.Pairing.{at_both};
 
 use std::alloc::Global;
 use std::test::Fail;
@@ -82,8 +83,7 @@ fn reallocation(
     two: Pairs,
 ) -> Result<Reallocation, Fail>
     ensures own { IfOk result (λ r. r.own ≡ own) }
-    ensures at { IfOk result (λ r. r.at.items ≡ (record { mon = record { 0 = 1 }; changes = one })
-        ∷ (record { mon = record { 0 = 2 }; changes = two }) ∷ []) }
+    ensures at { IfOk result (λ r. r.at.items ≡ at_both one two) }
 {
     let mut at = Vec::new(alloc);
     at.push(MonChange {

@@ -1,5 +1,6 @@
 -- The connection of one monitor, and a frame that goes over it.
-use Rattle.std.specs.Prelude.{◌≡◌, ◌<◌, ◌-◌, ◌⊎◌, ℕ, List, [], length, set, Bool, true, false, Option, Some, None, slice_get}
+use Rattle.std.specs.Prelude.{◌≡◌, ◌<◌, ◌-◌, ◌⊎◌, ℕ, List, [], length, set, Bool, true, false, Option, Some, None, Result, IfOk, OnOk, slice_get}
+use Rattle.tk_base.specs.declared.memory.NoMemory.{NoMemory}
 use Rattle.tk_frames.specs.declared.frame.Frame.{Frame}
 use Rattle.tk_coord.specs.Coordinator.{CoordinatorView}
 use Rattle.tk_journal.specs.Laws.{IsMonitor}
@@ -67,6 +68,20 @@ abbrev pub MovesUp : ℕ → Frame → Bool → HubView SureView → Line → Hu
 MovesUp mon frame true old before new now = new.coordinator ≡ getting old.coordinator mon frame
 MovesUp mon frame false old before new now = (new.coordinator ≡ old.coordinator) × (left_up mon new now < left_up mon old before)
 
+-- what such a step answers of the next frame of a monitor
+abbrev pub StepsUp : ℕ → Result Bool NoMemory → HubView SureView → Line → HubView SureView → Line → Type 0
+StepsUp mon result old before new now =
+    (frame : Frame)
+    → ComesUp mon old.coordinator before.port.monitor frame
+    → IfOk result (λ took. MovesUp mon frame took old before new now)
+
+-- the coordinator takes the next frame of a monitor
+abbrev pub CarriesUp : ℕ → Result (Unit {0}) NoMemory → HubView SureView → Line → HubView SureView → Type 0
+CarriesUp mon result old before new =
+    (frame : Frame)
+    → ComesUp mon old.coordinator before.port.monitor frame
+    → OnOk result (new.coordinator ≡ getting old.coordinator mon frame)
+
 -- ---- the other way
 
 -- all that was sent to a monitor is written, and given as far as the wire has room
@@ -96,3 +111,17 @@ left_down mon hub line = left_behind (link_at hub.links (mon - 1)) line.port.lin
 abbrev pub MovesDown : ℕ → Frame → Bool → HubView SureView → Line → HubView SureView → Line → Type 0
 MovesDown mon frame true old before new now = now.port.monitor ≡ taking before.port.monitor frame
 MovesDown mon frame false old before new now = (now.port.monitor ≡ before.port.monitor) × (left_down mon new now < left_down mon old before)
+
+-- what such a step answers of the next frame to a monitor
+abbrev pub StepsDown : ℕ → Result Bool NoMemory → HubView SureView → Line → HubView SureView → Line → Type 0
+StepsDown mon result old before new now =
+    (frame : Frame)
+    → ComesDown mon old.coordinator before.port.monitor frame
+    → IfOk result (λ took. MovesDown mon frame took old before new now)
+
+-- a monitor takes the next frame of the coordinator
+abbrev pub CarriesDown : ℕ → Result (Unit {0}) NoMemory → HubView SureView → Line → Line → Type 0
+CarriesDown mon result old before now =
+    (frame : Frame)
+    → ComesDown mon old.coordinator before.port.monitor frame
+    → OnOk result (now.port.monitor ≡ taking before.port.monitor frame)

@@ -1,9 +1,8 @@
 //! A frame that goes from the coordinator to a monitor, as bytes.
 
-ghost use Rattle.std.specs.Prelude.{◌≡◌, IfOk, OnErr, OnOk};
+ghost use Rattle.std.specs.Prelude.{◌≡◌, OnErr, OnOk};
 ghost use Rattle.tk_frames.specs.declared.frame.Frame.{Frame};
-ghost use Rattle.tk_port.specs.Side.{taking};
-ghost use Rattle.tk_bytes.specs.Line.{ComesDown, IsLine, IsSaidTo, IsWrittenTo, KeepsOthers, MovesDown, SaysTo};
+ghost use Rattle.tk_bytes.specs.Line.{CarriesDown, ComesDown, IsLine, IsSaidTo, IsWrittenTo, KeepsOthers, SaysTo, StepsDown};
 
 use crate::line::Line;
 use tk_base::{Mon, NoMemory};
@@ -34,8 +33,7 @@ fn step(hub: &mut Hub<SureWire>, line: &mut Line, mon: Mon) -> Result<bool, NoMe
     requires said { IsSaidTo mon.0 hub.old }
     requires next { (frame : Frame) × ComesDown mon.0 hub.old.coordinator line.old.port.monitor frame }
     ensures line { IsLine mon.0 hub.new line.new }
-    ensures moves { (frame : Frame) → ComesDown mon.0 hub.old.coordinator line.old.port.monitor frame
-        → IfOk result (λ took. MovesDown mon.0 frame took hub.old line.old hub.new line.new) }
+    ensures moves { StepsDown mon.0 result hub.old line.old hub.new line.new }
     ensures err { OnErr result (line.new.port.monitor ≡ line.old.port.monitor) }
     ensures coordinator { hub.new.coordinator ≡ hub.old.coordinator }
     ensures written { IsWrittenTo mon.0 hub.new }
@@ -62,8 +60,7 @@ pub fn carry_down(hub: &mut Hub<SureWire>, line: &mut Line, mon: Mon) -> Result<
     requires line { IsLine mon.0 hub.old line.old }
     requires next { (frame : Frame) × ComesDown mon.0 hub.old.coordinator line.old.port.monitor frame }
     ensures line { IsLine mon.0 hub.new line.new }
-    ensures ok { (frame : Frame) → ComesDown mon.0 hub.old.coordinator line.old.port.monitor frame
-        → OnOk result (line.new.port.monitor ≡ taking line.old.port.monitor frame) }
+    ensures ok { CarriesDown mon.0 result hub.old line.old line.new }
     ensures err { OnErr result (line.new.port.monitor ≡ line.old.port.monitor) }
     ensures coordinator { hub.new.coordinator ≡ hub.old.coordinator }
     ensures others { KeepsOthers mon.0 hub.old hub.new }

@@ -1,13 +1,12 @@
 //! A frame that goes from a monitor to the coordinator, as bytes.
 
-ghost use Rattle.std.specs.Prelude.{◌≡◌, IfOk, OnErr, OnOk};
+ghost use Rattle.std.specs.Prelude.{◌≡◌, OnErr, OnOk};
 ghost use Rattle.tk_frames.specs.declared.frame.Frame.{Frame};
-ghost use Rattle.tk_hub.specs.Desk.{getting};
 ghost use Rattle.tk_port.specs.Port.{IsPort};
 ghost use Rattle.tk_port.specs.declared.course.Course.TheVariants as c;
 ghost use Rattle.tk_trail.specs.Readings.{sent_by};
 ghost use Rattle.tk_end.specs.Link.{Says};
-ghost use Rattle.tk_bytes.specs.Line.{ComesUp, IsLine, IsSaid, KeepsOthers, MovesUp};
+ghost use Rattle.tk_bytes.specs.Line.{CarriesUp, ComesUp, IsLine, IsSaid, KeepsOthers, StepsUp};
 ghost use Rattle.tk_bytes.specs.Way.{IsSure};
 
 use crate::line::Line;
@@ -41,8 +40,7 @@ fn step(hub: &mut Hub<SureWire>, line: &mut Line, mon: Mon) -> Result<bool, NoMe
     requires said { IsSaid (sent_by line.old.port.monitor.trail) line.old.port.link }
     requires next { (frame : Frame) × ComesUp mon.0 hub.old.coordinator line.old.port.monitor frame }
     ensures line { IsLine mon.0 hub.new line.new }
-    ensures moves { (frame : Frame) → ComesUp mon.0 hub.old.coordinator line.old.port.monitor frame
-        → IfOk result (λ took. MovesUp mon.0 frame took hub.old line.old hub.new line.new) }
+    ensures moves { StepsUp mon.0 result hub.old line.old hub.new line.new }
     ensures err { OnErr result (hub.new.coordinator ≡ hub.old.coordinator) }
     ensures port { line.new.port.monitor ≡ line.old.port.monitor }
     ensures written { line.new.port.link.written ≡ line.old.port.link.written }
@@ -70,8 +68,7 @@ pub fn carry_up(hub: &mut Hub<SureWire>, line: &mut Line, mon: Mon) -> Result<()
     requires line { IsLine mon.0 hub.old line.old }
     requires next { (frame : Frame) × ComesUp mon.0 hub.old.coordinator line.old.port.monitor frame }
     ensures line { IsLine mon.0 hub.new line.new }
-    ensures ok { (frame : Frame) → ComesUp mon.0 hub.old.coordinator line.old.port.monitor frame
-        → OnOk result (hub.new.coordinator ≡ getting hub.old.coordinator mon.0 frame) }
+    ensures ok { CarriesUp mon.0 result hub.old line.old hub.new }
     ensures err { OnErr result (hub.new.coordinator ≡ hub.old.coordinator) }
     ensures port { line.new.port.monitor ≡ line.old.port.monitor }
     ensures others { KeepsOthers mon.0 hub.old hub.new }

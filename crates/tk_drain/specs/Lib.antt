@@ -1,10 +1,11 @@
 pub mod Drive
 pub mod Energy
-pub mod Moves
 pub mod Fits
+pub mod Laws
+pub mod Legs
+pub mod Moves
+pub mod Passing
 pub mod Reads
+pub mod Resting
 pub mod Settling
 pub use Rattle.tk_world.specs.Events
-pub mod Legs
-pub mod Resting
-pub mod Passing

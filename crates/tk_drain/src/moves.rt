@@ -1,12 +1,11 @@
 // What each kind of event costs. Each function is there for its clause alone.
-ghost use Rattle.std.specs.Prelude.{ℕ, ◌<◌};
-ghost use Rattle.tk_drain.specs.Energy.{Falls, Local, Shared, energies};
+ghost use Rattle.std.specs.Prelude.{ℕ};
 ghost use Rattle.tk_drain.specs.Moves.{Checks, Ends, Lessens, Lone, LoneOpens, Opens, OpensNext, Plain, Readings, Short, Takes};
+ghost use Rattle.tk_drain.specs.Laws.{EachEventCostsEnergy};
 
 /// What costs no more than is shared leaves less energy.
 pub fn each_event_costs_energy()
-    ensures { (m at cost : ℕ) (s s' : Shared) (local local' : ℕ → Local) → Falls m at cost s s' local local'
-        → energies m s' local' < energies m s local }
+    ensures { EachEventCostsEnergy }
 {}
 
 /// A check that sends lowers the energy, at no cost.

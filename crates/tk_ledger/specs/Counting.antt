@@ -1,5 +1,5 @@
 -- How the code counts, one frame at a time, and the count of a kind by its kind.
-use Rattle.std.specs.Prelude.{ℕ, ◌+◌, ◌-◌, ◌<◌, ◌^◌, ◌==◌, if◌then◌else◌, Option, Some, None}
+use Rattle.std.specs.Prelude.{ℕ, ◌+◌, ◌-◌, ◌<◌, ◌^◌, ◌==◌, ◌≡◌, if◌then◌else◌, List, length, slice_index_or, Option, Some, None}
 use Rattle.tk_base.specs.declared.ids.Mon.{Mon}
 use Rattle.tk_frames.specs.Frame.{kind_of}
 use Rattle.tk_frames.specs.declared.frame.Frame.{Frame}
@@ -44,6 +44,12 @@ with_passed counts (Some frame) = with_one counts (kind_of frame)
 -- a frame of one monitor, as passed over the links of another
 abbrev pub passed_over : Mon → Frame → ℕ → Option Frame
 passed_over from frame mon = if from.0 == mon then Some frame else None
+
+-- the count of each monitor takes what passed there
+abbrev pub CountEach : (ℕ → Option Frame) → List Counts → List Counts → Type 0
+CountEach passed old new =
+    (i : ℕ) → i < length old
+    → slice_index_or new i none ≡ with_passed (slice_index_or old i none) (passed (i + 1))
 
 -- each count of turns can take one more
 pub record HasRoundRoom (rounds : Rounds) : Type 0 where

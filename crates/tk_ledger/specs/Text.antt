@@ -60,6 +60,10 @@ abbrev pub line_with : Option (List (List (List ℕ))) → List (List ℕ) → B
 line_with None names = line_at names
 line_with (Some ends) names = ticked_at ends names
 
+-- the lines of the publications as one text
+abbrev pub text_by : Option (List (List (List ℕ))) → List (List ℕ) → List Noted → List ℕ
+text_by ends names journal = concat (lines_by (line_with ends names) journal)
+
 -- ---- the ledger
 
 -- a count of each kind, to the end of the line

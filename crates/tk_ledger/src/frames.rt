@@ -3,7 +3,7 @@
 ghost use Rattle.std.specs.Prelude.{◌≡◌, ℕ, ◌+◌, ◌-◌, ◌<◌, ◌^◌, length, map, slice_index_or, IfOk, sum_by};
 ghost use Rattle.std.specs.List.{range_with_len};
 ghost use Rattle.tk_ledger.specs.Ledger.{bytes_in as bytes_of, counts_of, frames_at, passed_at};
-ghost use Rattle.tk_ledger.specs.Counting.{HasRoom, count_of, none, passed_over, with_one, with_passed};
+ghost use Rattle.tk_ledger.specs.Counting.{CountEach, HasRoom, count_of, none, passed_over, with_one};
 
 use crate::counts::{Counts, PerMonitor};
 use std::alloc::Global;
@@ -30,8 +30,7 @@ fn count_kind(counts: &mut Counts, kind: Kind)
 fn count_frame(per: &mut [Counts], mon: Mon, frame: &Frame)
     requires { (i : ℕ) → HasRoom (slice_index_or per.old i none) }
     ensures length { length per.new ≡ length per.old }
-    ensures each { (i : ℕ) → i < length per.old
-        → slice_index_or per.new i none ≡ with_passed (slice_index_or per.old i none) (passed_over mon frame.now (i + 1)) }
+    ensures each { CountEach (passed_over mon frame.now) per.old per.new }
 {
     let place = mon.0 as usize;
     if 0 < place && place <= per.len() {
@@ -42,8 +41,7 @@ fn count_frame(per: &mut [Counts], mon: Mon, frame: &Frame)
 fn count_entry(per: &mut [Counts], entry: &Noted)
     requires { (i : ℕ) → HasRoom (slice_index_or per.old i none) }
     ensures length { length per.new ≡ length per.old }
-    ensures each { (i : ℕ) → i < length per.old
-        → slice_index_or per.new i none ≡ with_passed (slice_index_or per.old i none) (passed_at (i + 1) entry.now) }
+    ensures each { CountEach (λ mon. passed_at mon entry.now) per.old per.new }
 {
     match entry {
         Noted::Got(mon, frame) => count_frame(per, *mon, frame.get()),

@@ -1,10 +1,11 @@
 ghost use Rattle.std.specs.Prelude.{◌≡◌, ◌++◌, [], length, option_map, unwrap_or, IfOk, OnOk, OnErr, IsErrOf};
-ghost use Rattle.std.specs.List.{concat, All};
+ghost use Rattle.std.specs.List.{All};
+ghost use Rattle.std.specs.Option.{option_copied};
 ghost use Rattle.tk_base.specs.History.{last_of};
 ghost use Rattle.tk_input.specs.Files.{HasRisen};
 ghost use Rattle.tk_input.specs.Sink.{Grows, GrowsByFront};
 ghost use Rattle.tk_ledger.specs.Printing.{AreNamed, print_faults};
-ghost use Rattle.tk_ledger.specs.Text.{is_tuned, ledger_text, line_at, line_with, lines_by, lines_of, monitors_text, sets_text, summary_of, text_of, ticked_at, ticked_text_of, ticks_text, totals_text};
+ghost use Rattle.tk_ledger.specs.Text.{is_tuned, ledger_text, line_at, line_with, lines_of, monitors_text, sets_text, summary_of, text_by, text_of, ticked_at, ticked_text_of, ticks_text, totals_text};
 ghost use Rattle.tk_window.specs.TickEnds.{ticks_at};
 ghost use Rattle.tk_ledger.specs.declared.printing.PrintFault.TheVariants.{NoMemory as OutOfMemory, WriteFailed as NotWritten};
 
@@ -165,7 +166,7 @@ fn line_by(
 ) -> Result<Option<Vec<u8>>, NoMemory>
     requires { AreNamed (length names.now) entry.now }
     ensures { IfOk result (λ line. option_map (λ l. l.items) line
-        ≡ line_with (option_map (λ t. t.now) ticks.entry) names.now tuned entry.now) }
+        ≡ line_with (option_copied ticks.entry) names.now tuned entry.now) }
 {
     match ticks {
         None => line_in(alloc, entry, names, tuned),
@@ -182,10 +183,10 @@ fn print_publications<O: Sink>(
     out: &mut O,
 ) -> Result<(), PrintFault>
     requires { All (AreNamed (length names.now)) journal.now }
-    ensures ok { let lines = lines_by (line_with (option_map (λ t. t.now) ticks.entry) names.now) journal.now in
-        OnOk result (Grows (O.written out.old) (O.written out.new) (concat lines)) }
-    ensures err { let lines = lines_by (line_with (option_map (λ t. t.now) ticks.entry) names.now) journal.now in
-        OnErr result (GrowsByFront (O.written out.old) (O.written out.new) (concat lines)) }
+    ensures ok { OnOk result (Grows (O.written out.old) (O.written out.new)
+        (text_by (option_copied ticks.entry) names.now journal.now)) }
+    ensures err { OnErr result (GrowsByFront (O.written out.old) (O.written out.new)
+        (text_by (option_copied ticks.entry) names.now journal.now)) }
     ensures failed { IsErrOf result PrintFault.WriteFailed → HasRisen (O.fault_count out.old) (O.fault_count out.new) }
     ensures counted { O.fault_count out.new ≡ print_faults result (O.fault_count out.old) }
 {

@@ -43,6 +43,10 @@ pub record MultiOrderView : Type 0 where
   pub events : List MultiEvent
   pub lines : List ℕ
 
+-- these events, with the numbers of their lines
+abbrev pub ordered : List MultiEvent → List ℕ → MultiOrderView
+ordered events lines = record { events = events; lines = lines }
+
 -- no event
 abbrev pub nothing_ordered : MultiOrderView
 nothing_ordered = record { events = []; lines = [] }
@@ -59,6 +63,10 @@ event_taken before n (Some event) = Ok (with_event before n event)
 -- the order before with a line, or its fault
 abbrev pub line_added : MultiOrderView → (ℕ × List ℕ) → Result MultiOrderView OrderFault
 line_added before line = event_taken before line.0 (event_in (words line.1))
+
+-- an order is the one before with a line
+abbrev pub AddsLine : ℕ × List ℕ → MultiOrderView → MultiOrderView → Type 0
+AddsLine line before after = line_added before line ≡ Ok after
 
 -- the events of an order file with their lines, or its first line that is none
 abbrev pub multi_order_of : List ℕ → Result MultiOrderView OrderFault

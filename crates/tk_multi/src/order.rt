@@ -1,6 +1,6 @@
 ghost use Rattle.std.specs.Prelude.{◌≡◌, ◌<◌, IfOk, IfErr, OnOk, Ok, Some, length, slice_get};
-ghost use Rattle.tk_input.specs.Order.{number_in, words};
-ghost use Rattle.tk_multi.specs.Order.{IsFault, event_in, event_of_two as event_meant, line_added, multi_order_of, query_number as query_meant, raise_in};
+ghost use Rattle.tk_input.specs.Order.{words};
+ghost use Rattle.tk_multi.specs.Order.{AddsLine, IsFault, event_in, event_of_two as event_meant, line_added, multi_order_of, ordered, query_number as query_meant, raise_in};
 
 use crate::event::MultiEvent;
 use std::alloc::Global;
@@ -79,10 +79,10 @@ fn take_line(
     number: u32,
     line: &[u8],
 ) -> Result<(), OrderFault>
-    ensures ok { OnOk result (line_added (record { events = events.old.items; lines = lines.old.items }) (number, line.now)
-        ≡ Ok (record { events = events.new.items; lines = lines.new.items })) }
+    ensures ok { OnOk result (AddsLine (number, line.now)
+        (ordered events.old.items lines.old.items) (ordered events.new.items lines.new.items)) }
     ensures err { IfErr result (λ e. IsFault e
-        (line_added (record { events = events.old.items; lines = lines.old.items }) (number, line.now))) }
+        (line_added (ordered events.old.items lines.old.items) (number, line.now))) }
     ensures pairs { OnOk result (length events.old.items ≡ length lines.old.items
         → length events.new.items ≡ length lines.new.items) }
 {

@@ -1,3 +1,4 @@
 pub mod Chain
+pub mod Laws
 pub mod Order
 pub mod Sessions

@@ -29,6 +29,11 @@ pub record AreTaken (link : KeptLink) (frames : List Frame) (odd : Option Receiv
   pub count : place ≡ length frames
   pub next_is : slice_get link.sent place ≡ next
 
+-- what is found of each link behind the frames that were taken from it
+abbrev pub FindsBehind : Mon → Direction → Option Received → ℕ → Option Frame → Result (Unit {0}) JoinFault → Type 0
+FindsBehind mon direction odd place next result =
+    (link : KeptLink) (frames : List Frame) → AreTaken link frames odd place next → Finds mon direction link result
+
 -- each trail is legal over what its monitor was made of
 abbrev pub AreTrailsLegal : List MonEnd → Type 0
 AreTrailsLegal ends = (k : ℕ) (end : MonEnd) → slice_get ends k ≡ Some end → IsLegalTrail end.monitor.setup end.monitor.trail

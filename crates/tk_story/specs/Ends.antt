@@ -11,7 +11,7 @@ use Rattle.tk_journal.specs.Legal.{opened, start}
 use Rattle.tk_journal.specs.Links.{frames_from, frames_to}
 use Rattle.tk_journal.specs.Readings.{monitors as numbers}
 use Rattle.tk_journal.specs.declared.noted.Noted.{Noted}
-use Rattle.tk_monitor.specs.Monitored.{MonitorView}
+use Rattle.tk_monitor.specs.Monitored.{MonitorView, made}
 use Rattle.tk_trail.specs.Readings.{sent_by, taken_by}
 use Rattle.tk_trail.specs.declared.entry.Entry.{Entry}
 use Rattle.tk_story.specs.Odd.{IsOddDown, IsOddUp}
@@ -127,11 +127,11 @@ abbrev pub as_made : MonitorView → MonitorView
 as_made monitor = record monitor { trail = [] }
 
 abbrev pub made_for : Setup → LogSet → List (List ℕ) → ℕ → MonitorView
-made_for settings logs from mon = record {
-  settings = settings;
-  setup = record { number = mon; objects = settings.objects; parts = parts_of logs.logs mon; from = places_of from mon };
-  trail = [];
-}
+made_for settings logs from mon = made settings mon (parts_of logs.logs mon) (places_of from mon)
+
+-- all of them, ascending
+abbrev pub all_made_for : Setup → LogSet → List (List ℕ) → List MonitorView
+all_made_for settings logs from = map (made_for settings logs from) (numbers settings)
 
 -- ends of one run: the coordinator was made with these settings, and its journal begins with the start; logs and
 -- starting places are of these settings; and the monitors are 1 to m, made with the settings, their parts and places
@@ -141,7 +141,7 @@ pub record AreOfOneRun (coordinator : CoordEnd) (ends : List MonEnd) (logs : Log
   pub objects : logs.objects ≡ settings.objects
   pub logged : length logs.logs ≡ settings.monitors
   pub starts : IsCut logs.logs from
-  pub monitors : map (λ end. as_made end.monitor) ends ≡ map (made_for settings logs from) (numbers settings)
+  pub monitors : map (λ end. as_made end.monitor) ends ≡ all_made_for settings logs from
 
 -- the lists of ends, as a story
 abbrev pub joined : KeptEnds → LogSet → List (List ℕ) → StoryView

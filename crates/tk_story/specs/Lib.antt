@@ -1,10 +1,14 @@
 pub mod Comparing
 pub mod Ends
+pub mod JoinedLaws
 pub mod Kept
+pub mod KeptLaws
 pub mod Links
 pub mod Moments
 pub mod Odd
+pub mod RestingLaws
 pub mod Story
+pub mod ValidityLaws
 pub use Rattle.tk_base.specs.Settings
 pub use Rattle.tk_input.specs.Logs
 pub use Rattle.tk_trail.specs.Legal

@@ -1,10 +1,11 @@
 -- A finished story: settings, logs, starting places, the coordinator's journal, and each monitor's trail.
-use Rattle.std.specs.Prelude.{ℕ, ◌-◌, ◌≡◌, List, [], length, slice_index_or}
+use Rattle.std.specs.Prelude.{ℕ, ◌-◌, ◌≡◌, List, [], length, map, slice_index_or}
 use Rattle.tk_base.specs.Settings.{Setup, IsWithinLimits}
 use Rattle.tk_input.specs.Logs.{AreLogs, IsCut, LogSet, parts_of, places_of}
 use Rattle.tk_journal.specs.Laws.{IsMonitor}
 use Rattle.tk_journal.specs.Legal.{IsLegal, start}
 use Rattle.tk_journal.specs.declared.noted.Noted.{Noted}
+use Rattle.tk_monitor.specs.Monitored.{MonitorView}
 use Rattle.tk_trail.specs.Legal.{IsLegal as IsLegalTrail}
 use Rattle.tk_trail.specs.Setup.{MonitorSetup}
 use Rattle.tk_trail.specs.declared.entry.Entry.{Entry}
@@ -16,6 +17,16 @@ pub record StoryView : Type 0 where
   pub from : List (List ℕ)
   pub journal : List Noted
   pub trails : List (List Entry)
+
+-- the story that nodes tell: the coordinator's journal, and the trail of each monitor
+abbrev pub story_over : Setup → LogSet → List (List ℕ) → List Noted → List MonitorView → StoryView
+story_over settings logs from journal monitors = record {
+  settings = settings;
+  logs = logs;
+  from = from;
+  journal = journal;
+  trails = map (λ m. m.trail) monitors;
+}
 
 -- what a monitor of the story is made of, and its trail
 abbrev pub setup_of : StoryView → ℕ → MonitorSetup

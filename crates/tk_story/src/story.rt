@@ -1,6 +1,6 @@
-ghost use Rattle.std.specs.Prelude.{◌≡◌, ◌-◌, ◌<◌, ◌≤◌, length, map, Some, slice_get};
+ghost use Rattle.std.specs.Prelude.{◌≡◌, ◌-◌, ◌<◌, ◌≤◌, Some, slice_get};
 ghost use Rattle.tk_journal.specs.Kinds.{turns_of};
-ghost use Rattle.tk_story.specs.Story.{IsStory};
+ghost use Rattle.tk_story.specs.Story.{IsStory, story_over};
 
 mod join;
 
@@ -25,30 +25,19 @@ pub struct Story {
 }
 
 impl Model for Story {
-    ghost use Rattle.std.specs.Prelude.{◌≡◌, map};
+    ghost use Rattle.std.specs.Prelude.{◌≡◌};
     ghost use Rattle.tk_story.specs.Kept.{KeptStory};
-    ghost use Rattle.tk_story.specs.Story.{IsStory};
+    ghost use Rattle.tk_story.specs.Story.{IsStory, story_over};
 
     ghost Value = { KeptStory };
 
     ghost view = { λ s. record {
-      story = record {
-        settings = s.settings;
-        logs = s.logs;
-        from = s.from;
-        journal = s.coordinator.journal;
-        trails = map (λ m. m.trail) s.monitors.items;
-      };
+      story = story_over s.settings s.logs s.from s.coordinator.journal s.monitors.items;
       events = s.events.items;
     } };
 
-    ghost invariant = { λ s. IsStory (record {
-      settings = s.settings;
-      logs = s.logs;
-      from = s.from;
-      journal = s.coordinator.journal;
-      trails = map (λ m. m.trail) s.monitors.items;
-    }) × (s.coordinator.settings ≡ s.settings) };
+    ghost invariant = { λ s. IsStory (story_over s.settings s.logs s.from s.coordinator.journal s.monitors.items)
+        × (s.coordinator.settings ≡ s.settings) };
 }
 
 impl Story {
@@ -62,20 +51,8 @@ impl Story {
         events: Vec<Event>,
     ) -> Story
         requires settings { coordinator.settings ≡ settings }
-        requires story { IsStory (record {
-          settings = settings;
-          logs = logs;
-          from = from;
-          journal = coordinator.journal;
-          trails = map (λ m. m.trail) monitors.items;
-        }) }
-        ensures story { result.story ≡ record {
-          settings = settings;
-          logs = logs;
-          from = from;
-          journal = coordinator.journal;
-          trails = map (λ m. m.trail) monitors.items;
-        } }
+        requires story { IsStory (story_over settings logs from coordinator.journal monitors.items) }
+        ensures story { result.story ≡ story_over settings logs from coordinator.journal monitors.items }
         ensures events { result.events ≡ events.items }
     {
         Story {

@@ -3,8 +3,7 @@
 ghost use Rattle.std.specs.Prelude.{◌≡◌, ◌≤◌, length, map, IfOk};
 ghost use Rattle.tk_input.specs.Logs.{IsCut, IsMonitor};
 ghost use Rattle.tk_journal.specs.Legal.{IsLegal, start};
-ghost use Rattle.tk_journal.specs.Readings.{monitors};
-ghost use Rattle.tk_story.specs.Ends.{AreOfOneRun, as_made, made_for};
+ghost use Rattle.tk_story.specs.Ends.{AreOfOneRun, all_made_for, as_made, made_for};
 
 mod joins;
 
@@ -125,7 +124,7 @@ fn end_of(monitor: Monitor, stop: bool) -> Result<MonEnd, Fail>
 /// The ends of monitor 1, which raised a change or not, and of monitor 2, which received a Stop too early or not.
 fn pair(alloc: Global, run: &Run, raises: bool, stop: bool) -> Result<Vec<MonEnd>, Fail>
     ensures { IfOk result (λ ends. map (λ end. as_made end.monitor) ends.items
-        ≡ map (made_for run.now.settings run.now.logs run.now.from) (monitors run.now.settings)) }
+        ≡ all_made_for run.now.settings run.now.logs run.now.from) }
 {
     let one = monitor(alloc, run, 1, raises)?;
     let one = end_of(one, false)?;

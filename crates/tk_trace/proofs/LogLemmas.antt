@@ -16,7 +16,8 @@ use Rattle.tk_input.specs.Logs.{AreLogs, AreParts, IsObject, LogSet, updates_of,
 use Rattle.tk_input.specs.declared.logs.LogsFault.{LogsFault}
 use Rattle.tk_input.specs.declared.logs.LogsFault.TheVariants.{MonitorGap, TooGreat, TooManyFeeders, TooManyUpdates}
 use Rattle.tk_input.proofs.LimitsLemmas.{passed as within}
-use Rattle.tk_input.proofs.SumLemmas.{size_at, weight_for-all, weight_of-part}
+use Rattle.tk_input.specs.Rows.{size_at}
+use Rattle.tk_input.proofs.SumLemmas.{weight_for-all, weight_of-part}
 use Rattle.tk_frames.specs.Reading.{◌>>=◌}
 use Rattle.tk_frames.proofs.BytesLemmas.{IsBytes}
 use Rattle.tk_frames.proofs.ExactLemmas.{IsExact, exact_both, exact_fact}

@@ -1,10 +1,11 @@
 -- What is answered of bytes that should be a trace of a run to its end.
 use Rattle.std.specs.Prelude.{◌≡◌, ◌⊎◌, ℕ, List, [], Result, Ok, Err}
+use Rattle.tk_input.specs.Logs.{beginnings}
 use Rattle.tk_story.specs.Story.{IsStory, StoryView}
-use Rattle.tk_verify.specs.Recorded.{Finds, ReachesItsEnd, recorded as told_by}
+use Rattle.tk_verify.specs.Recorded.{Finds, IsFinished, ReachesItsEnd, recorded as told_by}
 use Rattle.tk_verify.specs.declared.finding.Finding.{Finding}
 use Rattle.tk_verify.specs.declared.finding.Finding.TheVariants as f
-use Rattle.tk_trace.specs.Recorded.{Recorded}
+use Rattle.tk_trace.specs.Recorded.{Recorded, recorded_of}
 use Rattle.tk_trace.specs.Spelling.{IsTrace}
 use Rattle.tk_trace.specs.declared.fault.ParseFault.{ParseFault}
 use Rattle.tk_trace.specs.declared.fault.ParseFault.TheVariants as p
@@ -15,6 +16,12 @@ use Rattle.tk_trace.specs.declared.trace_fault.TraceFault.TheVariants as t
 -- the story that a recorded run tells from its beginning, legal or not
 abbrev pub told : Recorded → StoryView
 told r = told_by r.settings r.logs r.journal r.trails
+
+-- where the bytes are the trace of a legal story from the beginning of its logs to its end, this holds
+abbrev pub OnFinishedTrace : List ℕ → Type 0 → Type 0
+OnFinishedTrace bytes Fact =
+    (names : List (List ℕ)) (s : StoryView)
+    → IsTrace bytes (recorded_of names s) → s.from ≡ beginnings s.logs → IsStory s → IsFinished s.journal → Fact
 
 -- the bytes are a trace of a run, and this is found of its story
 pub record IsFoundIn (bytes : List ℕ) (finding : Finding) : Type 0 where

@@ -1,5 +1,6 @@
 pub mod Assigned
 pub mod Checked
+pub mod Laws
 pub mod Reading
 pub mod Recorded
 pub mod Spelling

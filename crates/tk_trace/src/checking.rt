@@ -1,12 +1,10 @@
 //! A trace, read and checked.
 
-ghost use Rattle.std.specs.Prelude.{ℕ, ◌≡◌, ◌⊎◌, List, [], true, IfOk, IfErr, OnOk};
-ghost use Rattle.tk_base.specs.History.{last_of};
-ghost use Rattle.tk_journal.specs.Publishing.{publications};
-ghost use Rattle.tk_story.specs.Story.{IsStory, StoryView};
+ghost use Rattle.std.specs.Prelude.{ℕ, ◌≡◌, ◌⊎◌, List, [], IfOk, IfErr};
+ghost use Rattle.tk_story.specs.Story.{IsStory};
 ghost use Rattle.tk_input.specs.Logs.{beginnings};
-ghost use Rattle.tk_verify.specs.Recorded.{ReachesItsEnd, is_final};
-ghost use Rattle.tk_trace.specs.Checked.{Faults, IsKeptOf, Refuses, told};
+ghost use Rattle.tk_verify.specs.Recorded.{IsFinished, ReachesItsEnd};
+ghost use Rattle.tk_trace.specs.Checked.{Faults, IsKeptOf, OnFinishedTrace, Refuses, told};
 ghost use Rattle.tk_trace.specs.Recorded.{recorded, recorded_of};
 ghost use Rattle.tk_trace.specs.Spelling.{IsRecorded, IsTrace};
 ghost use Rattle.tk_trace.specs.declared.trace_fault.TraceFault.{TraceFault as Fault};
@@ -23,7 +21,7 @@ use tk_verify::verify;
 fn checked(alloc: Global, run: Recording) -> Result<Trace, TraceFault>
     requires { IsRecorded (recorded run) }
     ensures kept { IfOk result (IsKeptOf (recorded run)) }
-    ensures succeeds { IsStory (told (recorded run)) → is_final (last_of (publications (recorded run).journal)) ≡ true
+    ensures succeeds { IsStory (told (recorded run)) → IsFinished (recorded run).journal
         → IfErr result (λ e. e ≡ Memory) }
     ensures found { (bytes : List ℕ) → IsTrace bytes (recorded run) → IfErr result (λ e. (e ≡ Memory) ⊎ Faults bytes e) }
     ensures exact { (bytes : List ℕ) → IsTrace bytes (recorded run) → (fault : Fault) → Faults bytes fault
@@ -53,9 +51,7 @@ pub fn read(alloc: Global, bytes: &[u8]) -> Result<Trace, TraceFault>
     ensures legal { IfOk result (λ t. IsStory t.story.story) }
     ensures finished { IfOk result (λ t. ReachesItsEnd t.story.story) }
     // Every trace of such a story is read, unless there is no memory.
-    ensures succeeds { (names : List (List ℕ)) (s : StoryView) → IsTrace bytes.now (recorded_of names s)
-        → s.from ≡ beginnings s.logs → IsStory s → is_final (last_of (publications s.journal)) ≡ true
-        → IfErr result (λ e. e ≡ Memory) }
+    ensures succeeds { OnFinishedTrace bytes.now (IfErr result (λ e. e ≡ Memory)) }
     // Else what is wrong with the bytes is told, exactly where it is wrong, unless there is no memory.
     ensures found { IfErr result (λ e. (e ≡ Memory) ⊎ Faults bytes.now e) }
     ensures exact { (fault : Fault) → Faults bytes.now fault → Refuses fault result }

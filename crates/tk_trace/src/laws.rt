@@ -2,13 +2,11 @@
 
 ghost use Rattle.std.specs.Prelude.{◌≡◌, ℕ, List, Ok};
 ghost use Rattle.tk_input.specs.Catalog.{catalog_from, catalog_of};
-ghost use Rattle.tk_input.specs.Logs.{beginnings};
-ghost use Rattle.tk_story.specs.Story.{IsStory, StoryView};
-ghost use Rattle.tk_verify.specs.Recorded.{ReachesItsEnd};
 ghost use Rattle.tk_trace.specs.Checked.{Faults};
-ghost use Rattle.tk_trace.specs.Recorded.{Recorded, recorded_of};
+ghost use Rattle.tk_trace.specs.Recorded.{Recorded};
 ghost use Rattle.tk_trace.specs.Spelling.{IsTrace};
 ghost use Rattle.tk_trace.specs.declared.trace_fault.TraceFault.{TraceFault as Fault};
+ghost use Rattle.tk_trace.specs.Laws.{FinishedRunIsFaultless};
 
 use tk_verify::{nothing_is_found_of_a_finished_story, one_finding};
 
@@ -33,8 +31,7 @@ pub fn one_fault()
 
 /// Nothing is wrong with the trace of a legal story from the beginning of its logs to its end.
 pub fn nothing_is_wrong_with_a_finished_run()
-    ensures { (bytes : List ℕ) (names : List (List ℕ)) (s : StoryView) (fault : Fault) → IsTrace bytes (recorded_of names s)
-        → s.from ≡ beginnings s.logs → IsStory s → ReachesItsEnd s → Faults bytes fault → ⊥ }
+    ensures { FinishedRunIsFaultless }
 {
     nothing_is_found_of_a_finished_story();
 }

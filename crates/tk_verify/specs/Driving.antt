@@ -1,5 +1,9 @@
 -- How a node is driven over a record of its history. No public clause cites this file.
-use Rattle.std.specs.Prelude.{◌<◌, ◌≡◌, List, ◌∷◌, ◌++◌, length, ⊤}
+use Rattle.std.specs.Prelude.{◌<◌, ◌≡◌, ℕ, List, ◌∷◌, ◌++◌, length, ⊤, Result, OnOk}
+use Rattle.tk_base.specs.declared.memory.NoMemory.{NoMemory as Refused}
+use Rattle.tk_base.specs.Settings.{Setup}
+use Rattle.tk_journal.specs.Legal.{IsLegal, start}
+use Rattle.tk_journal.specs.declared.noted.Noted.{Noted}
 use Rattle.tk_verify.specs.Faults.{IsFirstFault}
 use Rattle.tk_verify.specs.declared.halt.Halt.{Halt}
 use Rattle.tk_verify.specs.declared.halt.Halt.TheVariants.{NotLegal, NoMemory}
@@ -26,6 +30,15 @@ pub record Leads {A : Type 0} (Legal : List A → Type 0) (seen : List A) (entry
   pub legal : Legal now
   pub ahead : GoesOn seen now
   pub moved : (rest : List A) → Legal (seen ++ entry ∷ rest) → Grew seen now (seen ++ entry ∷ rest)
+
+-- what a node does at a place of a record, unless it did so much already
+abbrev pub LeadsAt : {A : Type 0} → (List A → Type 0) → ℕ → A → List A → List A → Result (Unit {0}) Refused → Type 0
+LeadsAt {A} Legal place entry old new result =
+    (seen : List A) → IsDriven Legal seen old → length seen ≡ place → OnOk result (Leads Legal seen entry new)
+
+-- so does a coordinator of some settings
+abbrev pub JournalLeads : Setup → List Noted → Noted → List Noted → Type 0
+JournalLeads settings = Leads (IsLegal (start settings))
 
 -- why a driving halts over a history
 abbrev pub Halts : {A : Type 0} → (List A → Type 0) → List A → Halt → Type 0

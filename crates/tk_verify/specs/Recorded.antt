@@ -79,6 +79,10 @@ abbrev pub is_final : Option Publication → Bool
 is_final None = false
 is_final (Some publication) = publication.last
 
+-- the last publication of a journal is the final one
+abbrev pub IsFinished : List Noted → Type 0
+IsFinished journal = is_final (last_of (publications journal)) ≡ true
+
 -- a legal story whose last publication is not the final one
 pub record IsNotFinal (s : StoryView) : Type 0 where
   pub story : IsStory s

@@ -7,10 +7,9 @@ use Rattle.tk_input.specs.Logs.{IsCut, LogSet}
 use Rattle.tk_journal.specs.Laws.{IsMonitor}
 use Rattle.tk_journal.specs.Legal.{IsLegal, start}
 use Rattle.tk_journal.specs.Publishing.{publications}
-use Rattle.tk_journal.specs.Readings.{monitors}
 use Rattle.tk_monitor.specs.Monitored.{MonitorView}
 use Rattle.tk_trail.specs.Legal.{IsLegal as IsLegalTrail}
-use Rattle.tk_story.specs.Ends.{as_made, made_for}
+use Rattle.tk_story.specs.Ends.{all_made_for, as_made}
 use Rattle.tk_story.specs.Kept.{KeptStory}
 use Rattle.tk_story.specs.Story.{IsStory, StoryView, setup_of, trail_of}
 use Rattle.tk_story.specs.declared.ends.join_fault.JoinFault.{JoinFault}
@@ -39,12 +38,16 @@ AreLegalTrails s = (mon : ℕ) → IsMonitor s.settings mon → IsLegalTrail (se
 abbrev pub driven_story : List (List ℕ) → Setup → LogSet → CoordinatorView → List MonitorView → StoryView
 driven_story from settings logs coordinator nodes = recorded_from from settings logs coordinator.journal (map (λ m. m.trail) nodes)
 
+-- a finding is want of memory, or what is found of a record
+abbrev pub Reveals : StoryView → Finding → Type 0
+Reveals s finding = (finding ≡ f.NoMemory) ⊎ Finds s finding
+
 -- nodes that were driven over a record: their histories are legal
 pub record AreDriven (settings : Setup) (logs : LogSet) (from : List (List ℕ)) (coordinator : CoordinatorView) (nodes : List MonitorView) : Type 0 where
   pub agreed : AreAgreed settings logs
   pub cut : IsCut logs.logs from
   pub settings_is : coordinator.settings ≡ settings
-  pub made : map as_made nodes ≡ map (made_for settings logs from) (monitors settings)
+  pub made : map as_made nodes ≡ all_made_for settings logs from
   pub legal : IsLegal (start settings) coordinator.journal
   pub trails : AreLegalTrails (driven_story from settings logs coordinator nodes)
 

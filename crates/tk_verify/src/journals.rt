@@ -1,13 +1,12 @@
 // A coordinator driven over its recorded journal.
-ghost use Rattle.std.specs.Prelude.{ℕ, ◌≡◌, ◌≢◌, ◌↔◌, List, IsTrue, IfOk, IfErr, OnOk, Some, length, slice_get};
+ghost use Rattle.std.specs.Prelude.{◌≡◌, ◌≢◌, ◌↔◌, IsTrue, IfOk, IfErr, OnOk, Some, slice_get};
 ghost use Rattle.tk_base.specs.History.{last_of};
 ghost use Rattle.tk_journal.specs.Legal.{IsLegal, start};
 ghost use Rattle.tk_journal.specs.Publishing.{publications};
-ghost use Rattle.tk_journal.specs.declared.noted.Noted.{Noted as Said};
 ghost use Rattle.tk_journal.specs.declared.noted.Noted.TheVariants as n;
 ghost use Rattle.tk_journal.specs.declared.refusal.CoordRefusal.TheVariants.{NoMemory as Memory};
 ghost use Rattle.tk_journal.specs.declared.refusal.RetuneRefusal.TheVariants.{NoMemory as NoRoom};
-ghost use Rattle.tk_verify.specs.Driving.{Halts, IsDriven, Leads};
+ghost use Rattle.tk_verify.specs.Driving.{Halts, JournalLeads, LeadsAt};
 ghost use Rattle.tk_verify.specs.Recorded.{is_final};
 
 use crate::halt::Halt;
@@ -42,7 +41,7 @@ fn unless_room(refusal: RetuneRefusal) -> Result<(), NoMemory>
 fn take(coordinator: &mut Coordinator, mon: Mon, frame: &Frame) -> Result<(), NoMemory>
     requires { IsLegal (start coordinator.old.settings) coordinator.old.journal }
     ensures settings { coordinator.new.settings ≡ coordinator.old.settings }
-    ensures leads { OnOk result (Leads (IsLegal (start coordinator.old.settings))
+    ensures leads { OnOk result (JournalLeads coordinator.old.settings
         coordinator.old.journal (n.Got mon frame.now) coordinator.new.journal) }
 {
     if mon.0 == 0 || mon.0 > coordinator.settings().monitors() {
@@ -58,7 +57,7 @@ fn take(coordinator: &mut Coordinator, mon: Mon, frame: &Frame) -> Result<(), No
 fn retune(coordinator: &mut Coordinator, k: u32, epsilon: i128) -> Result<(), NoMemory>
     requires { IsLegal (start coordinator.old.settings) coordinator.old.journal }
     ensures settings { coordinator.new.settings ≡ coordinator.old.settings }
-    ensures leads { OnOk result (Leads (IsLegal (start coordinator.old.settings))
+    ensures leads { OnOk result (JournalLeads coordinator.old.settings
         coordinator.old.journal (n.Tuned k epsilon) coordinator.new.journal) }
 {
     if epsilon < 0 {
@@ -74,7 +73,7 @@ fn retune(coordinator: &mut Coordinator, k: u32, epsilon: i128) -> Result<(), No
 fn hand_in(coordinator: &mut Coordinator, noted: &Noted) -> Result<(), NoMemory>
     requires { IsLegal (start coordinator.old.settings) coordinator.old.journal }
     ensures settings { coordinator.new.settings ≡ coordinator.old.settings }
-    ensures leads { OnOk result (Leads (IsLegal (start coordinator.old.settings))
+    ensures leads { OnOk result (JournalLeads coordinator.old.settings
         coordinator.old.journal noted.now coordinator.new.journal) }
 {
     match noted {
@@ -89,9 +88,8 @@ fn hand_in(coordinator: &mut Coordinator, noted: &Noted) -> Result<(), NoMemory>
 fn reach(coordinator: &mut Coordinator, place: usize, noted: &Noted) -> Result<(), NoMemory>
     requires { IsLegal (start coordinator.old.settings) coordinator.old.journal }
     ensures settings { coordinator.new.settings ≡ coordinator.old.settings }
-    ensures leads { (seen : List Said) → IsDriven (IsLegal (start coordinator.old.settings)) seen coordinator.old.journal
-        → length seen ≡ place
-        → OnOk result (Leads (IsLegal (start coordinator.old.settings)) seen noted.now coordinator.new.journal) }
+    ensures leads { LeadsAt (IsLegal (start coordinator.old.settings)) place noted.now
+        coordinator.old.journal coordinator.new.journal result }
 {
     if place < coordinator.journal().len() {
         return Ok(());

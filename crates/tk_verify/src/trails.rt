@@ -1,14 +1,12 @@
 // Monitors driven over their recorded trails.
-ghost use Rattle.std.specs.Prelude.{ℕ, ◌≡◌, ◌≢◌, ◌↔◌, ◌≤◌, [], List, IsTrue, IfOk, IfErr, OnOk, Some, length, map, slice_get};
+ghost use Rattle.std.specs.Prelude.{◌≡◌, ◌≢◌, ◌↔◌, [], IsTrue, IfOk, IfErr, OnOk, Some, length, slice_get};
 ghost use Rattle.tk_frames.specs.declared.frame.Frame.{Frame as Told};
 ghost use Rattle.tk_input.specs.Logs.{IsCut, IsMonitor};
-ghost use Rattle.tk_journal.specs.Readings.{monitors};
 ghost use Rattle.tk_story.specs.Ends.{as_made, made_for};
 ghost use Rattle.tk_trail.specs.Legal.{IsLegal};
-ghost use Rattle.tk_trail.specs.declared.entry.Entry.{Entry as Said};
 ghost use Rattle.tk_trail.specs.declared.entry.Entry.TheVariants as e;
 ghost use Rattle.tk_trail.specs.declared.refusal.MonitorRefusal.TheVariants.{NoMemory as Memory};
-ghost use Rattle.tk_verify.specs.Driving.{Halts, IsDriven, Leads};
+ghost use Rattle.tk_verify.specs.Driving.{Halts, Leads, LeadsAt};
 ghost use Rattle.tk_verify.specs.Recorded.{AreAgreed};
 
 use crate::halt::Halt;
@@ -87,8 +85,7 @@ fn hand_in(monitor: &mut Monitor, feeders: u32, entry: &Entry) -> Result<(), NoM
 fn reach(monitor: &mut Monitor, feeders: u32, place: usize, entry: &Entry) -> Result<(), NoMemory>
     requires { feeders ≡ length monitor.old.setup.parts }
     ensures made { as_made monitor.new ≡ as_made monitor.old }
-    ensures leads { (seen : List Said) → IsDriven (IsLegal monitor.old.setup) seen monitor.old.trail → length seen ≡ place
-        → OnOk result (Leads (IsLegal monitor.old.setup) seen entry.now monitor.new.trail) }
+    ensures leads { LeadsAt (IsLegal monitor.old.setup) place entry.now monitor.old.trail monitor.new.trail result }
 {
     if place < monitor.trail().len() {
         return Ok(());

@@ -1,14 +1,10 @@
-ghost use Rattle.std.specs.Prelude.{ℕ, ◌≡◌, ◌⊎◌, List, [], None, true, IfOk, IfErr, OnOk, length, map};
-ghost use Rattle.tk_base.specs.History.{last_of};
+ghost use Rattle.std.specs.Prelude.{◌≡◌, ◌⊎◌, List, [], None, IfOk, IfErr, OnOk, length, map};
 ghost use Rattle.tk_input.specs.Logs.{IsCut};
-ghost use Rattle.tk_journal.specs.Legal.{IsLegal, start};
-ghost use Rattle.tk_journal.specs.Publishing.{publications};
-ghost use Rattle.tk_journal.specs.Readings.{monitors};
 ghost use Rattle.tk_journal.specs.declared.noted.Noted.{Noted as Said};
-ghost use Rattle.tk_story.specs.Ends.{as_made, made_for};
+ghost use Rattle.tk_story.specs.Ends.{all_made_for, as_made};
 ghost use Rattle.tk_story.specs.Story.{IsStory};
-ghost use Rattle.tk_verify.specs.Verifying.{AreDriven, AreLegalTrails, Judges, driven_story, is_found, is_unjoined};
-ghost use Rattle.tk_verify.specs.Recorded.{AreAgreed, Answers, Finds, ReachesItsEnd, is_final, recorded, recorded_from, trails_in};
+ghost use Rattle.tk_verify.specs.Verifying.{AreDriven, AreLegalTrails, Judges, Reveals, driven_story, is_found, is_unjoined};
+ghost use Rattle.tk_verify.specs.Recorded.{AreAgreed, Answers, Finds, IsFinished, ReachesItsEnd, recorded, recorded_from, trails_in};
 ghost use Rattle.tk_verify.specs.declared.finding.Finding.{Finding as Found};
 ghost use Rattle.tk_verify.specs.declared.finding.Finding.TheVariants.{NoMemory as Memory};
 
@@ -66,14 +62,12 @@ fn drive_monitors(
     requires agreed { AreAgreed settings.now logs.now }
     requires cut { IsCut logs.now.logs from.now }
     requires trails { length trails.now ≡ settings.now.monitors }
-    ensures made { IfOk result (λ ms. map as_made ms.items
-        ≡ map (made_for settings.now logs.now from.now) (monitors settings.now)) }
+    ensures made { IfOk result (λ ms. map as_made ms.items ≡ all_made_for settings.now logs.now from.now) }
     ensures trails { IfOk result (λ ms. map (λ m. m.trail) ms.items ≡ trails_in trails.now) }
     ensures legal { (journal : List Said)
         → OnOk result (AreLegalTrails (recorded_from from.now settings.now logs.now journal (trails_in trails.now))) }
     ensures found { (journal : List Said)
-        → IfErr result (λ e. (e ≡ Memory)
-        ⊎ Finds (recorded_from from.now settings.now logs.now journal (trails_in trails.now)) e) }
+        → IfErr result (Reveals (recorded_from from.now settings.now logs.now journal (trails_in trails.now))) }
 {
     let mut monitors = Vec::new(alloc);
     for j in 0..settings.monitors() {
@@ -182,7 +176,7 @@ pub fn verify(
     ensures finished { OnOk result (ReachesItsEnd (recorded settings logs journal.now (trails_in trails.now))) }
     // Every record of such a story gives it, unless there is no memory.
     ensures succeeds { IsStory (recorded settings logs journal.now (trails_in trails.now))
-        → is_final (last_of (publications journal.now)) ≡ true → IfErr result (λ e. e ≡ Memory) }
+        → IsFinished journal.now → IfErr result (λ e. e ≡ Memory) }
     // Else what is found is told, exactly where it is found, unless there is no memory.
     ensures found { IfErr result (λ e. (e ≡ Memory) ⊎ Finds (recorded settings logs journal.now (trails_in trails.now)) e) }
     ensures exact { (finding : Found) → Finds (recorded settings logs journal.now (trails_in trails.now)) finding

@@ -1,12 +1,13 @@
 pub mod Diary
 pub mod Events
+pub mod Laws
 pub mod Nodes
 pub mod Order
 pub mod Runs
 pub mod Seats
+pub mod Serializing
 pub mod Work
 pub mod World
-pub mod Serializing
 pub use Rattle.tk_input.specs.Event
 pub use Rattle.tk_story.specs.Kept
 pub use Rattle.tk_story.specs.Moments

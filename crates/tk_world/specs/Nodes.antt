@@ -1,5 +1,5 @@
 -- A coordinator and its monitors as a world sees them, and what a step of one of them leaves.
-use Rattle.std.specs.Prelude.{ℕ, ◌≡◌, ◌+◌, ◌-◌, ◌≤◌, pos, List, [], ◌++◌, length, map, set, slice_get, slice_index_or, Some, None}
+use Rattle.std.specs.Prelude.{ℕ, ◌≡◌, ◌+◌, ◌-◌, ◌≤◌, pos, List, ◌++◌, length, map, set, slice_get, slice_index_or, Some, None}
 use Rattle.tk_base.specs.Settings.{Setup}
 use Rattle.tk_base.specs.declared.ids.Feeder.{Feeder}
 use Rattle.tk_base.specs.declared.ids.Mon.{Mon}
@@ -13,7 +13,7 @@ use Rattle.tk_journal.specs.Readings.{monitors}
 use Rattle.tk_journal.specs.Refusal.{refusal_of}
 use Rattle.tk_journal.specs.declared.noted.Noted.{Noted}
 use Rattle.tk_journal.specs.declared.noted.Noted.TheVariants as n
-use Rattle.tk_monitor.specs.Monitored.{MonitorView, Raises}
+use Rattle.tk_monitor.specs.Monitored.{MonitorView, Raises, made}
 use Rattle.tk_monitor.specs.declared.outcome.Raised.{Raised}
 use Rattle.tk_trail.specs.Legal.{after_check, after_take}
 use Rattle.tk_trail.specs.Readings.{sent_by}
@@ -51,6 +51,10 @@ checked monitor = record monitor { trail = after_check monitor.setup monitor.tra
 
 abbrev pub having_taken : MonitorView → Frame → MonitorView
 having_taken monitor frame = record monitor { trail = after_take monitor.setup monitor.trail frame }
+
+-- a check at a seat
+abbrev pub ChecksAt : ℕ → NodesView → NodesView → Seat → Type 0
+ChecksAt mon old new seat = new ≡ with_seat old mon (record seat { monitor = checked seat.monitor })
 
 -- a raise at a seat
 pub record RaisesAt (mon : ℕ) (feeder : Feeder) (raised : Raised) (old new : NodesView) (seat : Seat) : Type 0 where
@@ -92,16 +96,16 @@ retuned nodes k epsilon = record nodes { coordinator = with_input nodes.coordina
 -- a monitor that has taken and sent nothing, from its places of a cut on
 abbrev pub fresh_seat : Setup → LogSet → List (List ℕ) → ℕ → Seat
 fresh_seat settings logs from mon = record {
-  monitor = record {
-    settings = settings;
-    setup = record { number = mon; objects = settings.objects; parts = parts_of logs.logs mon; from = places_of from mon };
-    trail = [];
-  };
+  monitor = made settings mon (parts_of logs.logs mon) (places_of from mon);
   taken = 0;
   got = 0;
 }
 
+-- those of all monitors
+abbrev pub fresh_seats : Setup → LogSet → List (List ℕ) → List Seat
+fresh_seats settings logs from = map (fresh_seat settings logs from) (monitors settings)
+
 -- nodes in which nothing has happened but the opening
 pub record IsFresh (nodes : NodesView) (logs : LogSet) (from : List (List ℕ)) : Type 0 where
   pub journal : nodes.coordinator.journal ≡ opened (start nodes.coordinator.settings)
-  pub seats : nodes.seats ≡ map (fresh_seat nodes.coordinator.settings logs from) (monitors nodes.coordinator.settings)
+  pub seats : nodes.seats ≡ fresh_seats nodes.coordinator.settings logs from

@@ -1,7 +1,7 @@
-ghost use Rattle.std.specs.Prelude.{◌≡◌, IfOk, map};
+ghost use Rattle.std.specs.Prelude.{◌≡◌, IfOk};
 ghost use Rattle.tk_journal.specs.Legal.{opened, start};
 ghost use Rattle.tk_journal.specs.Readings.{monitors};
-ghost use Rattle.tk_world.specs.Nodes.{fresh_seat};
+ghost use Rattle.tk_world.specs.Nodes.{fresh_seats};
 ghost use Rattle.tk_world.specs.World.{CanRun};
 
 use crate::nodes::Nodes;
@@ -31,7 +31,7 @@ impl Direct {
         requires { CanRun settings logs.now from.now }
         ensures settings { IfOk result (λ d. d.coordinator.settings ≡ settings) }
         ensures journal { IfOk result (λ d. d.coordinator.journal ≡ opened (start settings)) }
-        ensures seats { IfOk result (λ d. d.seats.items ≡ map (fresh_seat settings logs.now from.now) (monitors settings)) }
+        ensures seats { IfOk result (λ d. d.seats.items ≡ fresh_seats settings logs.now from.now) }
     {
         Ok(Direct {
             seats: new_seats(alloc, &settings, logs, from)?,

@@ -1,19 +1,16 @@
 // Laws of stories and their events. Each function is there for its clause alone.
-ghost use Rattle.std.specs.Prelude.{ℕ, ◌≡◌, List, Some, length};
-ghost use Rattle.tk_base.specs.Settings.{Setup, IsWithinLimits};
-ghost use Rattle.tk_input.specs.Logs.{AreLogs, IsCut, LogSet};
+ghost use Rattle.std.specs.Prelude.{◌≡◌, List, Some};
 ghost use Rattle.tk_input.specs.declared.event.Event.{Event};
 ghost use Rattle.tk_world.specs.Events.{CanOnlyChange, after, begin, next_of};
 ghost use Rattle.tk_story.specs.Story.{IsStory, StoryView};
 ghost use Rattle.tk_story.specs.Moments.{AreMembersValid, IsStill};
 ghost use Rattle.tk_world.specs.Order.{events_of};
 ghost use Rattle.tk_world.specs.Runs.{RunsBy};
+ghost use Rattle.tk_world.specs.Laws.{BeginningIsAStory, EventsTellOneStory, ReachedStoryRuns, RunLeadsToItsStory};
 
 /// The opening alone is a story.
 pub fn a_beginning_is_a_story()
-    ensures { (settings : Setup) (logs : LogSet) (from : List (List ℕ)) → IsWithinLimits settings → AreLogs logs
-        → logs.objects ≡ settings.objects → length logs.logs ≡ settings.monitors → IsCut logs.logs from
-        → IsStory (begin settings logs from) }
+    ensures { BeginningIsAStory }
 {}
 
 /// What happens next in a story leaves a story.
@@ -37,12 +34,9 @@ pub fn where_nothing_moves_the_members_are_valid()
 pub fn one_story()
     ensures reached { (b s t : StoryView) (events : List Event) → after (Some b) events ≡ Some s
         → after (Some b) events ≡ Some t → s ≡ t }
-    ensures runs { (s : StoryView) (events : List Event) → IsStory s → RunsBy s events
-        → after (Some (begin s.settings s.logs s.from)) events ≡ Some s }
-    ensures reads { (s : StoryView) (events : List Event) → IsStory s
-        → after (Some (begin s.settings s.logs s.from)) events ≡ Some s → RunsBy s events }
-    ensures alone { (s t : StoryView) (events : List Event) → IsStory s → IsStory t → s.settings ≡ t.settings
-        → s.logs ≡ t.logs → s.from ≡ t.from → RunsBy s events → RunsBy t events → s ≡ t }
+    ensures runs { RunLeadsToItsStory }
+    ensures reads { ReachedStoryRuns }
+    ensures alone { EventsTellOneStory }
 {}
 
 /// Each story is reached: the events of its order lead there from its beginning, by the reader's form and by `after`.

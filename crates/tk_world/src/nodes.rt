@@ -1,7 +1,7 @@
 ghost use Rattle.std.specs.Prelude.{◌≡◌, None, IfOk, OnErr, OnOk, map};
 ghost use Rattle.tk_journal.specs.Refusal.{retune_refusal_of};
 ghost use Rattle.tk_monitor.specs.Monitored.{IsFeederOf};
-ghost use Rattle.tk_world.specs.Nodes.{AtSeat, CanGoDown, CanGoUp, GoesDown, GoesUp, HasSeat, NodesView, RaisesAt, checked, retuned, with_seat};
+ghost use Rattle.tk_world.specs.Nodes.{AtSeat, CanGoDown, CanGoUp, ChecksAt, GoesDown, GoesUp, HasSeat, NodesView, RaisesAt, retuned};
 
 use std::alloc::Global;
 use tk_base::{Feeder, Mon, NoMemory};
@@ -39,8 +39,7 @@ pub trait Nodes {
     /// Checks a monitor, which sends what is due.
     fn check(&mut self, mon: Mon) -> Result<(), NoMemory>
         requires { HasSeat (seen self.old) mon.0 }
-        ensures ok { OnOk result (AtSeat (seen self.old) mon.0 (λ seat.
-            seen self.new ≡ with_seat (seen self.old) mon.0 (record seat { monitor = checked seat.monitor }))) }
+        ensures ok { OnOk result (AtSeat (seen self.old) mon.0 (ChecksAt mon.0 (seen self.old) (seen self.new))) }
         ensures err { OnErr result (seen self.new ≡ seen self.old) };
 
     /// The coordinator takes the next frame of a monitor.

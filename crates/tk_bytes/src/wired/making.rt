@@ -3,7 +3,7 @@ ghost use Rattle.tk_frames.specs.Spelling.{IsVersion};
 ghost use Rattle.tk_journal.specs.Laws.{IsMonitor};
 ghost use Rattle.tk_journal.specs.Legal.{inputs_of};
 ghost use Rattle.tk_journal.specs.Readings.{monitors};
-ghost use Rattle.tk_world.specs.Nodes.{IsFresh, fresh_seat};
+ghost use Rattle.tk_world.specs.Nodes.{IsFresh, fresh_seat, fresh_seats};
 ghost use Rattle.tk_world.specs.World.{CanRun};
 ghost use Rattle.tk_bytes.specs.Greeting.{AreMade, CanJoin, SeatsOne};
 ghost use Rattle.tk_bytes.specs.Wired.{IsWalked, seat_of};
@@ -77,7 +77,7 @@ fn new_lines(
     requires none { AreMade 0 hub.old [] }
     ensures made { IfOk result (λ lines. AreMade plan.now.settings.now.monitors hub.new lines.items) }
     ensures seats { IfOk result (λ lines. map seat_of lines.items
-        ≡ map (fresh_seat plan.now.settings.now plan.now.logs.now plan.now.from.now) (monitors plan.now.settings.now)) }
+        ≡ fresh_seats plan.now.settings.now plan.now.logs.now plan.now.from.now) }
     ensures coordinator { OnOk result (hub.new.coordinator ≡ hub.old.coordinator) }
 {
     let count = plan.settings.monitors();

@@ -2,6 +2,7 @@
 
 ghost use Rattle.std.specs.Prelude.{◌≡◌, ◌≤ℤ◌, pos, [], ◌∷◌, length, IfOk};
 ghost use Rattle.tk_rows.specs.Factors.{factor_at};
+ghost use Rattle.tk_coord_tests.specs.Pairing.{at_both};
 
 use super::{Said, ended, factors, leads, play};
 use std::alloc::Global;
@@ -32,8 +33,7 @@ fn only_a(alloc: Global) -> Result<ObjSet, Fail>
 /// These factors at the coordinator and at two monitors.
 fn reallocation(alloc: Global, own: Pairs, one: Pairs, two: Pairs) -> Result<Reallocation, Fail>
     ensures own { IfOk result (λ r. r.own ≡ own) }
-    ensures at { IfOk result (λ r. r.at.items ≡ (record { mon = record { 0 = 1 }; changes = one })
-        ∷ (record { mon = record { 0 = 2 }; changes = two }) ∷ []) }
+    ensures at { IfOk result (λ r. r.at.items ≡ at_both one two) }
 {
     let mut at = Vec::new(alloc);
     at.push(MonChange {

@@ -1,13 +1,13 @@
 // What was received on a link beside what was sent there.
-ghost use Rattle.std.specs.Prelude.{ℕ, List, length, ◌≡◌, ◌↔◌, IsTrue, IfOk, IfErr, IsErr, OnOk, Some, slice_get};
+ghost use Rattle.std.specs.Prelude.{length, ◌≡◌, ◌↔◌, IsTrue, IfOk, IfErr, IsErr, OnOk, Some, slice_get};
 ghost use Rattle.std.specs.Option.{option_copied, option_map};
 ghost use Rattle.tk_frames.specs.declared.frame.Frame.{Frame};
 ghost use Rattle.tk_journal.specs.Laws.{IsMonitor};
 ghost use Rattle.tk_journal.specs.Links.{frames_to, got_from as got_from_entry};
 ghost use Rattle.tk_trail.specs.Legal.{IsLegal};
 ghost use Rattle.tk_trail.specs.Readings.{sent_by, taken_in as taken_in_entry};
-ghost use Rattle.tk_story.specs.Comparing.{AreTaken, AreTrailsLegal, Finds, IsDifference};
-ghost use Rattle.tk_story.specs.Ends.{AreOrdered, KeptLink, TellsDifference, down_link, kept_by, odd_from as odd_of, up_link};
+ghost use Rattle.tk_story.specs.Comparing.{AreTrailsLegal, Finds, FindsBehind, IsDifference};
+ghost use Rattle.tk_story.specs.Ends.{AreOrdered, TellsDifference, down_link, kept_by, odd_from as odd_of, up_link};
 ghost use Rattle.tk_story.specs.declared.ends.join_fault.Direction.TheVariants.{UpLink, DownLink};
 ghost use Rattle.tk_story.specs.declared.ends.received.Received.TheVariants as r;
 
@@ -82,9 +82,7 @@ fn check_odd(
     sent: Option<&Frame>,
     odd: Option<&Received>,
 ) -> Result<(), JoinFault>
-    ensures { (link : KeptLink) (frames : List Frame)
-        → AreTaken link frames (option_copied odd.entry) place (option_copied sent.entry)
-        → Finds way.mon way.direction link result }
+    ensures { FindsBehind way.mon way.direction (option_copied odd.entry) place (option_copied sent.entry) result }
 {
     match odd {
         None => Ok(()),
