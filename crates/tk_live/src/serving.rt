@@ -48,7 +48,7 @@ pub fn live<R: Threads + Wait + Sync, F: Files, N: Net, G: Gate + Sync, O: Sink>
         Err(WordsFault::Usage) => return Outcome::unstarted(Status::Usage),
         Err(WordsFault::NoMemory) => return Outcome::unstarted(Status::NoMemory),
     };
-    match load(alloc, &words.sources, files) {
+    match load(rt, alloc, &words.sources, files) {
         Ok(input) => Outcome::of(live_over(rt, alloc, input, words.frames, net, run, gate, out)),
         Err(status) => Outcome::unstarted(status),
     }

@@ -1,3 +1,4 @@
+mod BatchLemmas
 mod Examples
 mod FaultLemmas
 mod LoadLemmas
@@ -5,6 +6,7 @@ mod LogsLemmas
 mod MakingLemmas
 mod MultiLemmas
 mod NumberedLemmas
+mod PartsLemmas
 mod ReadLemmas
 mod RetuneLemmas
 mod SessionLemmas

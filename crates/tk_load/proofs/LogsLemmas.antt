@@ -18,7 +18,7 @@ use Rattle.tk_load.specs.Reads.{AreKept, FileReads, IsRead, Reads, ReadsLogs, Te
 use Rattle.tk_load.specs.declared.status.Status.{Status}
 use Rattle.tk_load.specs.declared.status.Status.TheVariants as s
 use Rattle.tk_load.proofs.FaultLemmas.{tells_on}
-use Rattle.tk_load.proofs.ReadLemmas.{gave_told, read_after, read_before}
+use Rattle.tk_load.proofs.ReadLemmas.{gave_told, read_before}
 
 bind_same : {A B C E : Type 0} (r : Result A E) (p : A → Result C E) (q : A → Result B E) (f : B → Result C E) → ((x : A) → p x ≡ and_then f (q x)) → and_then p r ≡ and_then f (and_then q r)
 bind_same (Ok x) p q f same = same x
@@ -69,18 +69,20 @@ pub none_so_far : (reads : FileReads) (width : Option ℕ) (names : List (List �
 none_so_far reads width names = record { logs = []; are_of = refl; read = λ i d within. absurd (omega (arith, within)); value = through_none (log_added width names) [] }
 
 -- later counts do not undo it
-later : {F : Type 0} (files : FilesOf F) (a b c : F) (logs : List (ℕ × File)) → AreKept files b c
-    → All (λ (log : ℕ × File). IsRead (reads_by files a b) log.1) logs → All (λ (log : ℕ × File). IsRead (reads_by files a c) log.1) logs
-later files a b c logs kept read = λ i d within. read_before files a b c (get_or logs i d).1 (read i d within) kept
+pub so_far_later : {F : Type 0} (files : FilesOf F) (a b c : F) (width : Option ℕ) (names : List (List ℕ)) (words : List (ℕ × List ℕ)) (parts : Sources) → AreKept files b c
+    → SoFar (reads_by files a b) width names words parts → SoFar (reads_by files a c) width names words parts
+so_far_later files a b c width names words parts next so_far = record {
+  logs = so_far.logs;
+  are_of = so_far.are_of;
+  read = λ i d within. read_before files a b c (get_or so_far.logs i d).1 (so_far.read i d within) next;
+  value = so_far.value;
+}
 
-module _ {F : Type 0} (files : FilesOf F) (a b c : F) (width : Option ℕ) (names : List (List ℕ)) (words : List (ℕ × List ℕ)) (parts : Sources) (mon : ℕ) (name : List ℕ)
-    (count : ℕ) (counted : count ≡ count_of parts) (first : AreKept files a b) (next : AreKept files b c) (so_far : SoFar (reads_by files a b) width names words parts) where
+module _ (reads : FileReads) (width : Option ℕ) (names : List (List ℕ)) (words : List (ℕ × List ℕ)) (parts : Sources) (mon : ℕ) (name : List ℕ)
+    (count : ℕ) (counted : count ≡ count_of parts) (so_far : SoFar reads width names words parts) where
   -- a log whose file was read, among those before
-  read_one : (content : Option (List ℕ)) → IsRead (reads_by files b c) (record { name = name; content = content }) → All (λ (log : ℕ × File). IsRead (reads_by files a c) log.1) (so_far.logs ++ (mon, record { name = name; content = content }) ∷ [])
-  read_one content read =
-      All-push (λ (log : ℕ × File). IsRead (reads_by files a c) log.1) so_far.logs (mon, record { name = name; content = content })
-      (later files a b c so_far.logs next so_far.read)
-      (read_after files a b c (record { name = name; content = content }) first read next)
+  read_one : (content : Option (List ℕ)) → IsRead reads (record { name = name; content = content }) → All (λ (log : ℕ × File). IsRead reads log.1) (so_far.logs ++ (mon, record { name = name; content = content }) ∷ [])
+  read_one content read = All-push (λ (log : ℕ × File). IsRead reads log.1) so_far.logs (mon, record { name = name; content = content }) so_far.read read
 
   are_one : (content : Option (List ℕ)) → map log_of (so_far.logs ++ (mon, record { name = name; content = content }) ∷ []) ≡ words ++ (mon, name) ∷ []
   are_one content = map-append log_of so_far.logs ((mon, record { name = name; content = content }) ∷ []) ∙ ap (λ (logs : List (ℕ × List ℕ)). logs ++ (mon, name) ∷ []) so_far.are_of
@@ -94,27 +96,27 @@ module _ {F : Type 0} (files : FilesOf F) (a b c : F) (width : Option ℕ) (name
       ∙ through_one (log_added width names) parts log []
       ∙ alone (log_added width names) (log_added width names parts log)
 
-  pub so_far_next : {B : Type 0} (shown : B → Expansion) (log : B) → Reads (reads_by files b c) name shown (changes_after count width names) (Ok log)
-      → SoFar (reads_by files a c) width names (words ++ (mon, name) ∷ []) (parts ++ (record { 0 = mon }, shown log) ∷ [])
-  so_far_next shown log reads = record {
-    logs = so_far.logs ++ (mon, record { name = name; content = reads.content }) ∷ [];
-    are_of = are_one reads.content;
-    read = read_one reads.content reads.read;
-    value = value_one reads.content ∙ ap (and_then (λ (changes : Expansion). Ok (parts ++ (record { 0 = mon }, changes) ∷ []))) (subst (λ (n : ℕ). changes_after n width names (record { name = name; content = reads.content }) ≡ Ok (shown log)) counted reads.meets);
+  pub so_far_next : {B : Type 0} (shown : B → Expansion) (log : B) → Reads reads name shown (changes_after count width names) (Ok log)
+      → SoFar reads width names (words ++ (mon, name) ∷ []) (parts ++ (record { 0 = mon }, shown log) ∷ [])
+  so_far_next shown log given = record {
+    logs = so_far.logs ++ (mon, record { name = name; content = given.content }) ∷ [];
+    are_of = are_one given.content;
+    read = read_one given.content given.read;
+    value = value_one given.content ∙ ap (and_then (λ (changes : Expansion). Ok (parts ++ (record { 0 = mon }, changes) ∷ []))) (subst (λ (n : ℕ). changes_after n width names (record { name = name; content = given.content }) ≡ Ok (shown log)) counted given.meets);
   }
 
   -- a log that is refused, whatever logs come behind it
-  pub logs_refused : {A B : Type 0} (view : A → Sources) (shown : B → Expansion) (status : Status) (rest all : List (ℕ × List ℕ)) → all ≡ (words ++ (mon, name) ∷ []) ++ rest → Reads (reads_by files b c) name shown (changes_after count width names) (Err status)
-      → ReadsLogs (reads_by files a c) all view (logs_in width names) (Err status)
-  logs_refused view shown status rest all is reads =
-      let log : ℕ × File = (mon, record { name = name; content = reads.content }) in
+  pub logs_refused : {A B : Type 0} (view : A → Sources) (shown : B → Expansion) (status : Status) (rest all : List (ℕ × List ℕ)) → all ≡ (words ++ (mon, name) ∷ []) ++ rest → Reads reads name shown (changes_after count width names) (Err status)
+      → ReadsLogs reads all view (logs_in width names) (Err status)
+  logs_refused view shown status rest all is given =
+      let log : ℕ × File = (mon, record { name = name; content = given.content }) in
       let front = so_far.logs ++ log ∷ [] in
-      let told_of = tells_on status (changes_after (count_of parts) width names log.1) (λ changes. Ok (parts ++ (record { 0 = mon }, changes) ∷ [])) (subst (λ (n : ℕ). Tells status (changes_after n width names log.1)) counted reads.meets) in record {
-        logs = front ++ unread (files.content a) rest;
-        are_of = map-append log_of front (unread (files.content a) rest) ∙ ap (λ (logs : List (ℕ × List ℕ)). logs ++ map log_of (unread (files.content a) rest)) (are_one reads.content) ∙ ap (λ (logs : List (ℕ × List ℕ)). (words ++ (mon, name) ∷ []) ++ logs) (names_unread (files.content a) rest) ∙ sym is;
-        read = All-append (λ (log : ℕ × File). IsRead (reads_by files a c) log.1) front (unread (files.content a) rest) (read_one reads.content reads.read) (read_unread (reads_by files a c) rest);
-        meets = subst (λ (m : Result Sources Fault). Tells status m) (sym (through-append (log_added width names) [] front (unread (files.content a) rest) ∙ ap (and_then (λ mid. through (log_added width names) mid (unread (files.content a) rest))) (value_one reads.content)))
-            (tells_on status (log_added width names parts log) (λ mid. through (log_added width names) mid (unread (files.content a) rest)) told_of);
+      let told_of = tells_on status (changes_after (count_of parts) width names log.1) (λ changes. Ok (parts ++ (record { 0 = mon }, changes) ∷ [])) (subst (λ (n : ℕ). Tells status (changes_after n width names log.1)) counted given.meets) in record {
+        logs = front ++ unread reads.told rest;
+        are_of = map-append log_of front (unread reads.told rest) ∙ ap (λ (logs : List (ℕ × List ℕ)). logs ++ map log_of (unread reads.told rest)) (are_one given.content) ∙ ap (λ (logs : List (ℕ × List ℕ)). (words ++ (mon, name) ∷ []) ++ logs) (names_unread reads.told rest) ∙ sym is;
+        read = All-append (λ (log : ℕ × File). IsRead reads log.1) front (unread reads.told rest) (read_one given.content given.read) (read_unread reads rest);
+        meets = subst (λ (m : Result Sources Fault). Tells status m) (sym (through-append (log_added width names) [] front (unread reads.told rest) ∙ ap (and_then (λ mid. through (log_added width names) mid (unread reads.told rest))) (value_one given.content)))
+            (tells_on status (log_added width names parts log) (λ mid. through (log_added width names) mid (unread reads.told rest)) told_of);
       }
 
 -- no memory is found, whatever the logs give

@@ -112,3 +112,20 @@ reads_further view view' meant next reads name x answer given meets = record {
   read = given.read;
   meets = meets_after view' (meant (record { name = name; content = given.content })) (view x) (next (record { name = name; content = given.content })) answer given.meets (meets given.content);
 }
+
+-- what a file gave in a read before others, and after others
+pub reads_before : {F A V : Type 0} (files : FilesOf F) (a b c : F) (name : List ℕ) (view : A → V) (meant : File → Result V Fault) (answer : Result A Status)
+    → AreKept files b c → Reads (reads_by files a b) name view meant answer → Reads (reads_by files a c) name view meant answer
+reads_before files a b c name view meant answer next given = record {
+  content = given.content;
+  read = read_before files a b c (record { name = name; content = given.content }) given.read next;
+  meets = given.meets;
+}
+
+pub reads_after : {F A V : Type 0} (files : FilesOf F) (a b c : F) (name : List ℕ) (view : A → V) (meant : File → Result V Fault) (answer : Result A Status)
+    → AreKept files a b → AreKept files b c → Reads (reads_by files b c) name view meant answer → Reads (reads_by files a c) name view meant answer
+reads_after files a b c name view meant answer first next given = record {
+  content = given.content;
+  read = read_after files a b c (record { name = name; content = given.content }) first given.read next;
+  meets = given.meets;
+}

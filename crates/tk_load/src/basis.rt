@@ -12,6 +12,8 @@ use crate::reading::{names_of, read};
 use crate::settings::{Limits, settings_by, width_by};
 use crate::status::Status;
 use std::alloc::Global;
+use std::marker::Sync;
+use std::thread::Threads;
 use tk_base::{Mon, Settings};
 use tk_input::{Catalog, Files, Logs};
 use tk_window::TickEnds;
@@ -72,7 +74,8 @@ fn limits_of(alloc: Global, words: &Sources<'_>, names: &Catalog) -> Result<Limi
 }
 
 /// Reads what the words name but the order, in the order of work: the objects, the settings and the width, the logs.
-pub fn load_basis<F: Files>(
+pub fn load_basis<R: Threads + Sync, F: Files>(
+    rt: &R,
     alloc: Global,
     words: &Sources<'_>,
     files: &mut F,
@@ -91,7 +94,7 @@ pub fn load_basis<F: Files>(
         Ok(limits) => limits,
         Err(status) => return Err(status),
     };
-    let parts = match parts_of(alloc, words.logs.as_slice(), &names, width, files) {
+    let parts = match parts_of(rt, alloc, words.logs.as_slice(), &names, width, files) {
         Ok(parts) => parts,
         Err(status) => return Err(status),
     };

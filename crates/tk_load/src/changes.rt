@@ -1,17 +1,22 @@
-ghost use Rattle.std.specs.Prelude.{◌≡◌, ◌+◌, ◌≤◌, IfOk, All, length};
+ghost use Rattle.std.specs.Prelude.{◌≡◌, ◌+◌, ◌≤◌, Ok, Result, IfOk, All, length};
 ghost use Rattle.tk_input.specs.Judged.{last_monitor};
 ghost use Rattle.tk_input.specs.Logs.{IsObject};
-ghost use Rattle.tk_load.specs.Input.{changes_after, changes_in, ends_with, greatest_monitor, joined, logs_in, together};
-ghost use Rattle.tk_load.specs.Reads.{AreKept, Meets, Reads, ReadsLogs, reads_by};
+ghost use Rattle.tk_load.specs.Faults.{Fault, after};
+ghost use Rattle.tk_load.specs.Input.{counted, ends_with, greatest_monitor, joined, logs_in, together};
+ghost use Rattle.tk_load.specs.Reads.{AreKept, Meets, ReadsLogs, reads_by};
 ghost use Rattle.tk_load.specs.Whole.{IsWidth};
 ghost use Rattle.tk_window.specs.Expanded.{expansion_of, sources_of};
 ghost use Rattle.tk_window.specs.TickEnds.{last_source, parts_in};
 ghost use Rattle.tk_window.specs.Ticks.{AreOver};
+ghost use Rattle.tk_window.specs.Window.{Expansion};
 ghost use Rattle.tk_words.specs.Asked.{AreOfMonitors, asked_logs};
 
-use crate::reading::{bad_file, bad_whole, log_by, read};
+use crate::batch::next_logs;
+use crate::reading::{bad_file, bad_whole};
 use crate::status::{InputKind, Status};
 use std::alloc::Global;
+use std::marker::Sync;
+use std::thread::Threads;
 use tk_base::{Mon, NoMemory};
 use tk_input::{Catalog, Files, Logs, LogsFault, Part};
 use tk_window::{Expanded, TickEnds};
@@ -25,56 +30,32 @@ pub struct Together {
     pub ends: Option<TickEnds>,
 }
 
-/// One log, read, parsed, and expanded where a window goes over it.
-fn read_part<F: Files>(
+/// A log, refused where there are too many changes with those before it.
+fn next_part(
     alloc: Global,
-    names: &Catalog,
-    width: Option<u32>,
-    files: &mut F,
-    file: &str,
-) -> Result<Expanded, Status>
-    requires { IsWidth width }
-    ensures objects { IfOk result (λ e. AreOver (length names.now) e.part) }
-    ensures most { IfOk result (λ e. length e.part ≤ 1000000) }
-    ensures read { Reads (reads_by F.Files files.old files.new) file.now expansion_of (changes_in width names.now) result }
-    ensures kept { AreKept F.Files files.old files.new }
-{
-    match read(alloc, files, file) {
-        Ok(bytes) => log_by(alloc, bytes.as_slice(), names, width, file),
-        Err(status) => Err(status),
-    }
-}
-
-/// One log, refused where there are too many changes with those before it.
-fn next_part<F: Files>(
-    alloc: Global,
-    names: &Catalog,
-    width: Option<u32>,
-    files: &mut F,
     file: &str,
     before: usize,
+    log: Result<Expanded, Status>,
 ) -> Result<Expanded, Status>
-    requires width { IsWidth width }
     requires before { before ≤ 4000000 }
-    ensures objects { IfOk result (λ e. AreOver (length names.now) e.part) }
-    ensures most { IfOk result (λ e. length e.part ≤ 1000000) }
+    ensures same { IfOk result (λ e. log ≡ Ok e) }
     ensures few { IfOk result (λ e. before + length e.part ≤ 4000000) }
-    ensures read { Reads (reads_by F.Files files.old files.new)
-        file.now expansion_of (changes_after before width names.now) result }
-    ensures kept { AreKept F.Files files.old files.new }
+    ensures meets { (m : Result Expansion Fault) → Meets expansion_of m log
+        → Meets expansion_of (after m (counted before file.now)) result }
 {
-    let log = match read_part(alloc, names, width, files, file) {
+    let log = match log {
         Ok(log) => log,
         Err(status) => return Err(status),
     };
-    if before + log.part.len() > MAX_UPDATES {
+    if log.part.len() > MAX_UPDATES - before {
         return Err(bad_file(alloc, file, 0, InputKind::TooManyUpdates));
     }
     Ok(log)
 }
 
-/// Each log in the order of the words.
-pub fn parts_of<F: Files>(
+/// Each log in the order of the words. Those of a batch are parsed side by side.
+pub fn parts_of<R: Threads + Sync, F: Files>(
+    rt: &R,
     alloc: Global,
     words: &[(Mon, &str)],
     names: &Catalog,
@@ -93,13 +74,17 @@ pub fn parts_of<F: Files>(
 {
     let mut parts = Vec::new(alloc);
     let mut updates = 0;
-    for (mon, file) in words {
-        let log = match next_part(alloc, names, width, files, file, updates) {
-            Ok(log) => log,
-            Err(status) => return Err(status),
-        };
-        updates += log.part.len();
-        parts.push((*mon, log))?;
+    while parts.len() < words.len() {
+        let logs = next_logs(rt, alloc, names, width, files, &words[parts.len()..])?;
+        for log in logs {
+            let (mon, file) = words[parts.len()];
+            let log = match next_part(alloc, file, updates, log) {
+                Ok(log) => log,
+                Err(status) => return Err(status),
+            };
+            updates += log.part.len();
+            parts.push((mon, log))?;
+        }
     }
     Ok(parts)
 }

@@ -8,6 +8,8 @@ use crate::basis::{Basis, load_basis};
 use crate::retunes::read_order;
 use crate::status::Status;
 use std::alloc::Global;
+use std::marker::Sync;
+use std::thread::Threads;
 use tk_base::Settings;
 use tk_input::{Catalog, Files, Logs, Order};
 use tk_window::TickEnds;
@@ -25,7 +27,12 @@ pub struct Input {
 }
 
 /// Reads all that the words name, in the order of work: the objects, the settings and the width, the logs, the order.
-pub fn load<F: Files>(alloc: Global, words: &Sources<'_>, files: &mut F) -> Result<Input, Status>
+pub fn load<R: Threads + Sync, F: Files>(
+    rt: &R,
+    alloc: Global,
+    words: &Sources<'_>,
+    files: &mut F,
+) -> Result<Input, Status>
     requires { AreOfMonitors words.now.logs.items }
     ensures named { IfOk result (λ input. catalog_from input.names ≡ Ok input.names) }
     ensures agreed { IfOk result (λ input. AreAgreed input.names input.settings input.logs) }
@@ -37,7 +44,7 @@ pub fn load<F: Files>(alloc: Global, words: &Sources<'_>, files: &mut F) -> Resu
         settings,
         logs,
         ends,
-    } = match load_basis(alloc, words, files) {
+    } = match load_basis(rt, alloc, words, files) {
         Ok(basis) => basis,
         Err(status) => return Err(status),
     };

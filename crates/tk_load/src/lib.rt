@@ -8,6 +8,7 @@
 #![tactic(auto)]
 
 mod basis;
+mod batch;
 mod changes;
 mod generate;
 mod input;

@@ -12,6 +12,8 @@ use crate::reading::{bad_file, bad_whole, read};
 use crate::settings::kind_of;
 use crate::status::{InputKind, Status};
 use std::alloc::Global;
+use std::marker::Sync;
+use std::thread::Threads;
 use tk_base::Mon;
 use tk_input::{Catalog, CatalogFault, Files, Logs, OrderFault};
 use tk_multi::{Alone, MultiFault, MultiOrder, Queries, each_alone};
@@ -54,7 +56,8 @@ fn read_queries<F: Files>(alloc: Global, files: &mut F, file: &str) -> Result<Qu
 }
 
 /// The logs of all monitors together.
-fn all_logs<F: Files>(
+fn all_logs<R: Threads + Sync, F: Files>(
+    rt: &R,
     alloc: Global,
     words: &[(Mon, &str)],
     names: &Catalog,
@@ -65,7 +68,7 @@ fn all_logs<F: Files>(
         (asked_logs words.now) (λ logs. logs) (all_logs_in names.now) result }
     ensures kept { AreKept F.Files files.old files.new }
 {
-    let parts = match parts_of(alloc, words, names, None, files) {
+    let parts = match parts_of(rt, alloc, words, names, None, files) {
         Ok(parts) => parts,
         Err(status) => return Err(status),
     };
@@ -133,7 +136,8 @@ fn read_order<F: Files>(
 
 /// Reads all that the words name, in the order of work: the objects, the queries, the logs, what each query runs over
 /// alone, the order.
-pub fn load_multi<F: Files>(
+pub fn load_multi<R: Threads + Sync, F: Files>(
+    rt: &R,
     alloc: Global,
     words: &Multi<'_>,
     files: &mut F,
@@ -152,7 +156,7 @@ pub fn load_multi<F: Files>(
         Ok(queries) => queries,
         Err(status) => return Err(status),
     };
-    let logs = match all_logs(alloc, words.logs.as_slice(), &names, files) {
+    let logs = match all_logs(rt, alloc, words.logs.as_slice(), &names, files) {
         Ok(logs) => logs,
         Err(status) => return Err(status),
     };

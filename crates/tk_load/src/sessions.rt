@@ -14,6 +14,8 @@ use crate::reading::{bad_file, read};
 use crate::retunes::retune_fault;
 use crate::status::{InputKind, Status};
 use std::alloc::Global;
+use std::marker::Sync;
+use std::thread::Threads;
 use tk_base::{Feeder, Mon, Settings};
 use tk_input::{Catalog, Files, Logs, OrderFault};
 use tk_session::{SessionLine, SessionOrder};
@@ -166,7 +168,8 @@ fn read_order<F: Files>(
 }
 
 /// Reads all that the words name, in the order of work: the objects, the settings and the width, the logs, the order.
-pub fn load_sessions<F: Files>(
+pub fn load_sessions<R: Threads + Sync, F: Files>(
+    rt: &R,
     alloc: Global,
     words: &Sources<'_>,
     files: &mut F,
@@ -181,7 +184,7 @@ pub fn load_sessions<F: Files>(
         settings,
         logs,
         ..
-    } = match load_basis(alloc, words, files) {
+    } = match load_basis(rt, alloc, words, files) {
         Ok(basis) => basis,
         Err(status) => return Err(status),
     };

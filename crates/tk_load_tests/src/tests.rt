@@ -1,7 +1,9 @@
 //! Words over files in memory, and the line that is told of them; an empty line where there is an input.
 
 use std::alloc::Global;
+use std::marker::Sync;
 use std::test::Fail;
+use std::thread::Threads;
 use tk_base::Mon;
 use tk_frames::Frame;
 use tk_input::MapFiles;
@@ -38,23 +40,47 @@ fn status_of<I: Drop>(outcome: Result<I, Status>) -> Status {
 }
 
 /// What is told of these words, which spaces part.
-fn told_of(alloc: Global, words: &str, files: &mut MapFiles) -> Result<Vec<u8>, Fail> {
+fn told_of<R: Threads + Sync>(
+    rt: &R,
+    alloc: Global,
+    words: &str,
+    files: &mut MapFiles,
+) -> Result<Vec<u8>, Fail> {
     let mut list = Vec::new(alloc);
     for word in words.split_whitespace() {
         list.push(String::from_str(alloc, word)?)?;
     }
     let status = match read(alloc, list.as_slice()) {
-        Ok(Command::Replay(words)) => status_of(load(alloc, &words.sources, files)),
+        Ok(Command::Replay(words)) => status_of(load(rt, alloc, &words.sources, files)),
         Ok(Command::Generate(words)) => status_of(make(alloc, &words)),
-        Ok(Command::Live(words)) => status_of(load(alloc, &words.sources, files)),
-        Ok(Command::Multi(words)) => status_of(load_multi(alloc, &words, files)),
-        Ok(Command::Sessions(words)) => status_of(load_sessions(alloc, &words, files)),
-        Ok(Command::Trace(words)) => status_of(load(alloc, &words.sources, files)),
+        Ok(Command::Live(words)) => status_of(load(rt, alloc, &words.sources, files)),
+        Ok(Command::Multi(words)) => status_of(load_multi(rt, alloc, &words, files)),
+        Ok(Command::Sessions(words)) => status_of(load_sessions(rt, alloc, &words, files)),
+        Ok(Command::Trace(words)) => status_of(load(rt, alloc, &words.sources, files)),
         Ok(Command::Check(_)) => Status::Usage,
         Err(WordsFault::Usage) => Status::Usage,
         Err(WordsFault::NoMemory) => Status::NoMemory,
     };
     Ok(fault_line(alloc, &status)?)
+}
+
+/// The first row, words behind these and the line that is told of them, of which something else is told.
+fn first_wrong<R: Threads + Sync>(
+    rt: &R,
+    alloc: Global,
+    front: &str,
+    rows: &[(&str, &str)],
+    files: &mut MapFiles,
+) -> Result<Option<usize>, Fail> {
+    for i in 0..rows.len() {
+        let (words, line) = rows[i];
+        let words = format!(in alloc; "{front} {words}")?;
+        let told = told_of(rt, alloc, words.as_str(), files)?;
+        if told.as_slice() != line.as_bytes() {
+            return Ok(Some(i));
+        }
+    }
+    Ok(None)
 }
 
 fn small_files(alloc: Global) -> Result<MapFiles, Fail> {
@@ -162,11 +188,8 @@ fn what_is_refused_is_told(rt: HostRuntime) -> Result<(), Fail> {
         ),
     ];
     let mut files = small_files(rt.alloc())?;
-    for (words, line) in rows {
-        let words = format!(in rt.alloc(); "replay --epsilon 0 {words}")?;
-        let told = told_of(rt.alloc(), words.as_str(), &mut files)?;
-        assert_eq!(rt; told.as_slice(), line.as_bytes(), "{words}");
-    }
+    let wrong = first_wrong(&rt, rt.alloc(), "replay --epsilon 0", &rows, &mut files)?;
+    assert_eq!(rt; wrong, None);
     Ok(())
 }
 
@@ -211,11 +234,8 @@ fn of_two_faults_the_first_in_the_order_of_work_is_told(rt: HostRuntime) -> Resu
         ),
     ];
     let mut files = small_files(rt.alloc())?;
-    for (words, line) in rows {
-        let words = format!(in rt.alloc(); "replay --epsilon 0 {words}")?;
-        let told = told_of(rt.alloc(), words.as_str(), &mut files)?;
-        assert_eq!(rt; told.as_slice(), line.as_bytes(), "{words}");
-    }
+    let wrong = first_wrong(&rt, rt.alloc(), "replay --epsilon 0", &rows, &mut files)?;
+    assert_eq!(rt; wrong, None);
     Ok(())
 }
 
@@ -244,11 +264,8 @@ fn what_a_generated_run_refuses_is_told(rt: HostRuntime) -> Result<(), Fail> {
         ),
     ];
     let mut files = small_files(rt.alloc())?;
-    for (words, line) in rows {
-        let words = format!(in rt.alloc(); "gen --seed 7 {words}")?;
-        let told = told_of(rt.alloc(), words.as_str(), &mut files)?;
-        assert_eq!(rt; told.as_slice(), line.as_bytes(), "{words}");
-    }
+    let wrong = first_wrong(&rt, rt.alloc(), "gen --seed 7", &rows, &mut files)?;
+    assert_eq!(rt; wrong, None);
     Ok(())
 }
 
@@ -280,11 +297,8 @@ fn what_a_live_run_refuses_is_told(rt: HostRuntime) -> Result<(), Fail> {
         ),
     ];
     let mut files = small_files(rt.alloc())?;
-    for (words, line) in rows {
-        let words = format!(in rt.alloc(); "live --k 1 --epsilon 0 {words}")?;
-        let told = told_of(rt.alloc(), words.as_str(), &mut files)?;
-        assert_eq!(rt; told.as_slice(), line.as_bytes(), "{words}");
-    }
+    let wrong = first_wrong(&rt, rt.alloc(), "live --k 1 --epsilon 0", &rows, &mut files)?;
+    assert_eq!(rt; wrong, None);
     Ok(())
 }
 
@@ -317,56 +331,62 @@ fn what_befalls_links_is_told(rt: HostRuntime) -> Result<(), Fail> {
     Ok(())
 }
 
-#[test]
-fn what_is_too_long_is_told(rt: HostRuntime) -> Result<(), Fail> {
-    let alloc = rt.alloc();
-    let mut list = Vec::new(alloc);
+/// A log of the most changes, one of one more, a file that is too long, and an order of five sessions.
+fn great_files(alloc: Global) -> Result<MapFiles, Fail> {
+    let mut files = Vec::new(alloc);
     let objects = b"a\n".to_vec(alloc)?;
-    list.push((String::from_str(alloc, "a.csv")?, objects))?;
+    files.push((String::from_str(alloc, "a.csv")?, objects))?;
     let mut changes = Vec::new(alloc);
     for _ in 0..1_000_000 {
         changes.extend_from_slice(b"a,1\n")?;
     }
-    list.push((String::from_str(alloc, "most.csv")?, changes.clone()?))?;
+    files.push((String::from_str(alloc, "most.csv")?, changes.clone()?))?;
     changes.extend_from_slice(b"a,1\n")?;
-    list.push((String::from_str(alloc, "more.csv")?, changes))?;
+    files.push((String::from_str(alloc, "more.csv")?, changes))?;
     let restarts = b"retune 0 0\nrestart\nrestart\nrestart\nrestart\n".to_vec(alloc)?;
-    list.push((String::from_str(alloc, "five.txt")?, restarts))?;
+    files.push((String::from_str(alloc, "five.txt")?, restarts))?;
     let long = vec![in alloc; b'a'; 67_108_865]?;
-    list.push((String::from_str(alloc, "long.csv")?, long))?;
-    let mut files = MapFiles::new(alloc, list, Vec::new(alloc));
+    files.push((String::from_str(alloc, "long.csv")?, long))?;
+    Ok(MapFiles::new(alloc, files, Vec::new(alloc)))
+}
+
+#[test]
+fn what_is_too_long_is_told(rt: HostRuntime) -> Result<(), Fail> {
     let rows = [
         (
-            "replay",
             "long.csv 1=most.csv",
             "topk: long.csv: the file is too long",
         ),
+        ("a.csv 1=more.csv", "topk: more.csv: too many records"),
+        // of logs that are read together the first fault in the order of the words is told
         (
-            "replay",
-            "a.csv 1=more.csv",
+            "a.csv 1=more.csv 2=long.csv",
             "topk: more.csv: too many records",
         ),
         (
-            "replay",
+            "a.csv 1=most.csv 2=long.csv 3=more.csv",
+            "topk: long.csv: the file is too long",
+        ),
+        (
             "a.csv 1=most.csv 1=most.csv 1=most.csv 2=most.csv 3=more.csv",
             "topk: more.csv: too many records",
         ),
         (
-            "replay",
             "a.csv 1=most.csv 1=most.csv 1=most.csv 2=most.csv 3=most.csv",
             "topk: most.csv: too many changes",
         ),
-        // five sessions; the retune past the limits comes after their count
-        (
-            "sessions",
-            "a.csv --order five.txt 1=most.csv",
-            "topk: five.txt: too many changes",
-        ),
     ];
-    for (command, words, line) in rows {
-        let words = format!(in alloc; "{command} --k 1 --epsilon 0 --objects {words}")?;
-        let told = told_of(alloc, words.as_str(), &mut files)?;
-        assert_eq!(rt; told.as_slice(), line.as_bytes(), "{words}");
-    }
+    // five sessions; the retune past the limits comes after their count
+    let sessions = [(
+        "a.csv --order five.txt 1=most.csv",
+        "topk: five.txt: too many changes",
+    )];
+    let mut files = great_files(rt.alloc())?;
+    let replay = "replay --k 1 --epsilon 0 --objects";
+    let wrong = first_wrong(&rt, rt.alloc(), replay, &rows, &mut files)?;
+    assert_eq!(rt; wrong, None);
+    let front = "sessions --k 1 --epsilon 0 --objects";
+    let wrong = first_wrong(&rt, rt.alloc(), front, &sessions, &mut files)?;
+    assert_eq!(rt; wrong, None);
     Ok(())
 }

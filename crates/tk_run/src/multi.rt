@@ -14,6 +14,8 @@ use crate::headline::a_finished_run_is_sound;
 use crate::outcome::Outcome;
 use crate::titled::print_titled;
 use std::alloc::Global;
+use std::marker::Sync;
+use std::thread::Threads;
 use tk_base::NoMemory;
 use tk_input::{Catalog, Files, Sink};
 use tk_ledger::PrintFault;
@@ -57,7 +59,8 @@ fn print_queries<O: Sink>(
 }
 
 /// Serves `multi`. Nothing is written before the input stands and every story is over.
-pub fn serve_queries<F: Files, O: Sink>(
+pub fn serve_queries<R: Threads + Sync, F: Files, O: Sink>(
+    rt: &R,
     alloc: Global,
     words: &Multi<'_>,
     files: &mut F,
@@ -76,7 +79,7 @@ pub fn serve_queries<F: Files, O: Sink>(
         logs,
         alones,
         order,
-    } = match load_multi(alloc, words, files) {
+    } = match load_multi(rt, alloc, words, files) {
         Ok(input) => input,
         Err(status) => return Outcome::ended(alloc, status),
     };

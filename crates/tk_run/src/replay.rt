@@ -12,6 +12,8 @@ ghost use Rattle.tk_words.specs.Words.Asked.{Replays};
 use crate::outcome::Outcome;
 use crate::playing::{Played, story_of};
 use std::alloc::Global;
+use std::marker::Sync;
+use std::thread::Threads;
 use tk_input::{Catalog, Files, Sink};
 use tk_ledger::{PrintFault, print, print_ticked};
 use tk_load::{Status, load};
@@ -41,7 +43,8 @@ fn print_with<O: Sink>(
 
 /// Serves `replay`, and `window`, whose logs are expanded when they are read. Nothing is written before the input stands
 /// and its story is over.
-pub fn replay<F: Files, O: Sink>(
+pub fn replay<R: Threads + Sync, F: Files, O: Sink>(
+    rt: &R,
     alloc: Global,
     words: &Replay<'_>,
     files: &mut F,
@@ -57,7 +60,7 @@ pub fn replay<F: Files, O: Sink>(
     ensures without { (result.status ≡ Done → ⊥) → IsWithout result }
     ensures unwritten { result.status ≡ NotWritten → HasRisen (O.fault_count out.old) (O.fault_count out.new) }
 {
-    let input = match load(alloc, &words.sources, files) {
+    let input = match load(rt, alloc, &words.sources, files) {
         Ok(input) => input,
         Err(status) => return Outcome::ended(alloc, status),
     };

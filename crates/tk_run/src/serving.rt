@@ -14,12 +14,15 @@ use crate::replay::replay;
 use crate::sessions::serve_sessions;
 use crate::trace::serve_trace;
 use std::alloc::Global;
+use std::marker::Sync;
+use std::thread::Threads;
 use tk_input::{Files, Sink};
 use tk_load::Status;
 use tk_words::{Command, WordsFault, read};
 
 /// Serves all commands but `live`. The words come without the program's name.
-pub fn run<F: Files, O: Sink>(
+pub fn run<R: Threads + Sync, F: Files, O: Sink>(
+    rt: &R,
     alloc: Global,
     words: &[String],
     files: &mut F,
@@ -37,13 +40,13 @@ pub fn run<F: Files, O: Sink>(
     ensures unwritten { result.status ≡ NotWritten → HasRisen (O.fault_count out.old) (O.fault_count out.new) }
 {
     match read(alloc, words) {
-        Ok(Command::Replay(words)) => replay(alloc, &words, files, out),
+        Ok(Command::Replay(words)) => replay(rt, alloc, &words, files, out),
         Ok(Command::Generate(words)) => generate(alloc, &words, out),
         // A live run has a call of its own.
         Ok(Command::Live(_)) => Outcome::ended(alloc, Status::Usage),
-        Ok(Command::Multi(words)) => serve_queries(alloc, &words, files, out),
-        Ok(Command::Sessions(words)) => serve_sessions(alloc, &words, files, out),
-        Ok(Command::Trace(words)) => serve_trace(alloc, &words, files, out),
+        Ok(Command::Multi(words)) => serve_queries(rt, alloc, &words, files, out),
+        Ok(Command::Sessions(words)) => serve_sessions(rt, alloc, &words, files, out),
+        Ok(Command::Trace(words)) => serve_trace(rt, alloc, &words, files, out),
         Ok(Command::Check(file)) => serve_check(alloc, file, files, out),
         Err(WordsFault::Usage) => Outcome::ended(alloc, Status::Usage),
         Err(WordsFault::NoMemory) => Outcome::ended(alloc, Status::NoMemory),

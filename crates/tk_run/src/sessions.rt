@@ -17,6 +17,8 @@ use crate::outcome::Outcome;
 use crate::titled::print_titled;
 use itoa::Buffer;
 use std::alloc::Global;
+use std::marker::Sync;
+use std::thread::Threads;
 use tk_base::{NoMemory, Settings};
 use tk_input::{Catalog, Files, Logs, Sink};
 use tk_ledger::PrintFault;
@@ -100,7 +102,8 @@ fn print_sessions<O: Sink>(
 }
 
 /// Serves `sessions`. Nothing is written before the input stands and all its sessions are over.
-pub fn serve_sessions<F: Files, O: Sink>(
+pub fn serve_sessions<R: Threads + Sync, F: Files, O: Sink>(
+    rt: &R,
     alloc: Global,
     words: &Sources<'_>,
     files: &mut F,
@@ -115,7 +118,7 @@ pub fn serve_sessions<F: Files, O: Sink>(
     ensures without { (result.status ≡ Done → ⊥) → IsWithout result }
     ensures unwritten { result.status ≡ NotWritten → HasRisen (O.fault_count out.old) (O.fault_count out.new) }
 {
-    let input = match load_sessions(alloc, words, files) {
+    let input = match load_sessions(rt, alloc, words, files) {
         Ok(input) => input,
         Err(status) => return Outcome::ended(alloc, status),
     };

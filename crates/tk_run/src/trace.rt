@@ -13,6 +13,8 @@ ghost use Rattle.tk_words.specs.Words.Asked.{Traces};
 use crate::outcome::Outcome;
 use crate::playing::{Played, story_of};
 use std::alloc::Global;
+use std::marker::Sync;
+use std::thread::Threads;
 use tk_input::{Files, Sink};
 use tk_ledger::PrintFault;
 use tk_load::{Status, load};
@@ -20,7 +22,8 @@ use tk_trace::write;
 use tk_words::Replay;
 
 /// Serves `trace`. Nothing is written before the input stands and its story is over.
-pub fn serve_trace<F: Files, O: Sink>(
+pub fn serve_trace<R: Threads + Sync, F: Files, O: Sink>(
+    rt: &R,
     alloc: Global,
     words: &Replay<'_>,
     files: &mut F,
@@ -36,7 +39,7 @@ pub fn serve_trace<F: Files, O: Sink>(
     ensures without { (result.status ≡ Done → ⊥) → IsWithout result }
     ensures unwritten { result.status ≡ NotWritten → HasRisen (O.fault_count out.old) (O.fault_count out.new) }
 {
-    let input = match load(alloc, &words.sources, files) {
+    let input = match load(rt, alloc, &words.sources, files) {
         Ok(input) => input,
         Err(status) => return Outcome::ended(alloc, status),
     };

@@ -1,7 +1,9 @@
 //! Runs of two monitors over the objects a and b, k 1 and epsilon 0.
 
 use std::alloc::Global;
+use std::marker::Sync;
 use std::test::Fail;
+use std::thread::Threads;
 use tk_input::{MapFiles, VecSink};
 use tk_run::{fault_line, run};
 
@@ -51,19 +53,30 @@ fn files(alloc: Global, read: u64) -> Result<MapFiles, Fail> {
 }
 
 /// What is told of a run over these.
-fn line(alloc: Global, files: &mut MapFiles, sink: &mut VecSink) -> Result<Vec<u8>, Fail> {
+fn line<R: Threads + Sync>(
+    rt: &R,
+    alloc: Global,
+    files: &mut MapFiles,
+    sink: &mut VecSink,
+) -> Result<Vec<u8>, Fail> {
     let words = words(alloc)?;
-    let status = run(alloc, words.as_slice(), files, sink).into_status();
+    let status = run(rt, alloc, words.as_slice(), files, sink).into_status();
     Ok(fault_line(alloc, &status)?)
 }
 
 /// Whether a run tells this line and writes so many bytes of the text, where a read fails, or a put, or the room is too
 /// small. A number is that of the read or put, from 1, or 0.
-fn tells(alloc: Global, fails: (u64, usize, u64), told: &[u8], end: usize) -> Result<bool, Fail> {
+fn tells<R: Threads + Sync>(
+    rt: &R,
+    alloc: Global,
+    fails: (u64, usize, u64),
+    told: &[u8],
+    end: usize,
+) -> Result<bool, Fail> {
     let (read, room, put) = fails;
     let mut files = files(alloc, read)?;
     let mut sink = VecSink::new(alloc, room, vec![in alloc; put]?)?;
-    let line = line(alloc, &mut files, &mut sink)?;
+    let line = line(rt, alloc, &mut files, &mut sink)?;
     let written = sink.written();
     Ok(line.as_slice() == told && TEXT.starts_with(written) && written.len() == end)
 }
@@ -74,25 +87,28 @@ const UNWRITTEN: &[u8] = b"topk: the output cannot be written";
 
 #[test]
 fn two_monitors(rt: HostRuntime) -> Result<(), Fail> {
-    assert!(rt; tells(rt.alloc(), (0, WHOLE, 0), b"", WHOLE)?);
+    assert!(rt; tells(&rt, rt.alloc(), (0, WHOLE, 0), b"", WHOLE)?);
     Ok(())
 }
 
 #[test]
 fn a_failed_read_writes_nothing(rt: HostRuntime) -> Result<(), Fail> {
     let objects = tells(
+        &rt,
         rt.alloc(),
         (1, WHOLE, 0),
         b"topk: objects.csv: cannot be read",
         0,
     )?;
     let one = tells(
+        &rt,
         rt.alloc(),
         (2, WHOLE, 0),
         b"topk: one.csv: cannot be read",
         0,
     )?;
     let two = tells(
+        &rt,
         rt.alloc(),
         (3, WHOLE, 0),
         b"topk: two.csv: cannot be read",
@@ -114,13 +130,13 @@ fn a_failed_put_leaves_the_lines_before_it(rt: HostRuntime) -> Result<(), Fail> 
         (7, 230),
     ];
     for (put, end) in ends {
-        assert!(rt; tells(rt.alloc(), (0, WHOLE, put), UNWRITTEN, end)?);
+        assert!(rt; tells(&rt, rt.alloc(), (0, WHOLE, put), UNWRITTEN, end)?);
     }
     Ok(())
 }
 
 #[test]
 fn a_full_sink_keeps_the_first_line(rt: HostRuntime) -> Result<(), Fail> {
-    assert!(rt; tells(rt.alloc(), (0, 28, 0), UNWRITTEN, 28)?);
+    assert!(rt; tells(&rt, rt.alloc(), (0, 28, 0), UNWRITTEN, 28)?);
     Ok(())
 }

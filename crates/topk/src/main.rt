@@ -65,11 +65,14 @@ fn words_of(rt: &HostRuntime) -> Result<Vec<String>, NoMemory> {
 }
 
 /// Runs the words on the real files and the standard output, and answers the status.
-fn run_words(rt: &HostRuntime, words: &[String]) -> Status {
+fn run_words<R: AllocGlobal + Print + rt::Files + Threads + Sync>(
+    rt: &R,
+    words: &[String],
+) -> Status {
     let alloc = rt.alloc();
     let mut files = TrueFiles::new(alloc, rt);
     let mut out = StdSink::new(rt);
-    run(alloc, words, &mut files, &mut out).into_status()
+    run(rt, alloc, words, &mut files, &mut out).into_status()
 }
 
 /// Writes the fault of a status to standard error. Where that fails, the number alone tells it.

@@ -1,0 +1,41 @@
+-- Logs whose files were read, and what parsing them gives; no public clause cites it.
+use Rattle.std.specs.Prelude.{ℕ, ◌≡◌, ◌<◌, ◌≤◌, List, length, get_or, Option, Result, Ok, Err, IfOk}
+use Rattle.std.specs.Borrow.{Bor}
+use Rattle.std.specs.Global.{Vec}
+use Rattle.tk_base.specs.declared.ids.Mon.{Mon}
+use Rattle.tk_window.specs.Expanded.{expansion_of}
+use Rattle.tk_window.specs.Ticks.{AreOver}
+use Rattle.tk_window.specs.declared.expanded.Expanded.{Expanded}
+use Rattle.tk_load.specs.Input.{bytes_in, changes_in, log_from}
+use Rattle.tk_load.specs.Reads.{FileReads, Meets, Reads}
+use Rattle.tk_load.specs.declared.batch.Unparsed.{Unparsed}
+use Rattle.tk_load.specs.declared.status.Status.{Status}
+
+-- each of some values belongs to the one of others at its place
+abbrev pub EachAt : {X Y : Type 0} → (X → Y → Type 0) → List X → List Y → Type 0
+EachAt {X} {Y} R xs ys = (i : ℕ) (d : X) (e : Y) → i < length ys → R (get_or xs i d) (get_or ys i e)
+
+-- the file of a word was read, and this is what it gave
+pub record IsReadAs (reads : FileReads) (word : Mon × Bor (List ℕ)) (log : Unparsed) : Type 0 where
+  pub named : log.file.now ≡ word.1.now
+  pub read : Reads reads word.1.now (λ v. v.items) bytes_in log.content
+
+-- what comes of the bytes of a log, or of the fault of reading it
+abbrev pub Parses : Option ℕ → List (List ℕ) → List ℕ → Result (Vec ℕ) Status → Result Expanded Status → Type 0
+Parses width names name (Ok bytes) log = Meets expansion_of (log_from width names name bytes.items) log
+Parses width names name (Err status) log = log ≡ Err status
+
+-- a log is over so many objects, and not too long
+pub record IsOver (objects : ℕ) (log : Expanded) : Type 0 where
+  pub over : AreOver objects log.part
+  pub most : length log.part ≤ 1000000
+
+-- what was read is parsed
+pub record IsParsed (width : Option ℕ) (names : List (List ℕ)) (from : Unparsed) (log : Result Expanded Status) : Type 0 where
+  pub parses : Parses width names from.file.now from.content log
+  pub over : IfOk log (IsOver (length names))
+
+-- the file of a word was read, and parsed
+pub record IsLogOf (reads : FileReads) (width : Option ℕ) (names : List (List ℕ)) (word : Mon × Bor (List ℕ)) (log : Result Expanded Status) : Type 0 where
+  pub read : Reads reads word.1.now expansion_of (changes_in width names) log
+  pub over : IfOk log (IsOver (length names))
