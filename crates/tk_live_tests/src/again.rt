@@ -2,7 +2,10 @@
 
 use crate::cases::Case;
 use std::alloc::Global;
+use std::marker::Sync;
+use std::thread::Threads;
 use tk_base::Mon;
+use tk_input::Event;
 use tk_journal::Noted;
 use tk_load::{Input, load};
 use tk_story::{Story, is_same_entry, is_same_noted};
@@ -10,24 +13,50 @@ use tk_trail::Entry;
 use tk_words::{Command, read};
 use tk_world::{Moved, World};
 
-/// What a new world over the input of a live run does with these events.
-fn stepped(alloc: Global, case: &mut Case, story: &Story) -> Option<Story> {
+/// A new world over the input of a live run.
+fn new_world<R: Threads + Sync>(rt: &R, alloc: Global, case: &mut Case) -> Option<World> {
     let Ok(Command::Live(words)) = read(alloc, case.words.as_slice()) else {
         return None;
     };
-    let Ok(input) = load(alloc, &words.sources, &mut case.files) else {
+    let Ok(input) = load(rt, alloc, &words.sources, &mut case.files) else {
         return None;
     };
     let Input { settings, logs, .. } = input;
-    let from = logs.start(alloc).ok()?;
-    let mut world = World::new(alloc, settings, logs, from).ok()?;
-    for event in story.events() {
+    match logs.start(alloc) {
+        Ok(from) => World::new(alloc, settings, logs, from).ok(),
+        Err(_) => None,
+    }
+}
+
+/// Whether each of these events moves a world.
+fn moves(world: &mut World, events: &[Event]) -> Option<bool> {
+    for event in events {
         let event = event.try_clone().ok()?;
         if world.step(event).ok()? == Moved::Idle {
-            return None;
+            return Some(false);
         }
     }
-    world.into_story().ok()
+    Some(true)
+}
+
+/// The story of a world, once these events have moved it.
+fn story_of(world: World, moved: Option<bool>) -> Option<Story> {
+    match moved {
+        Some(true) => world.into_story().ok(),
+        _ => None,
+    }
+}
+
+/// What a new world over the input of a live run does with these events.
+fn stepped<R: Threads + Sync>(
+    rt: &R,
+    alloc: Global,
+    case: &mut Case,
+    story: &Story,
+) -> Option<Story> {
+    let mut world = new_world(rt, alloc, case)?;
+    let moved = moves(&mut world, story.events());
+    story_of(world, moved)
 }
 
 fn are_same_journals(one: &[Noted], other: &[Noted]) -> bool {
@@ -61,7 +90,12 @@ fn are_same(one: &Story, other: &Story) -> bool {
 }
 
 /// Whether a new world that steps the events of the story of a live run has the same journal and trails.
-pub fn comes_again(alloc: Global, case: &mut Case, story: &Story) -> Option<bool> {
-    let other = stepped(alloc, case, story)?;
+pub fn comes_again<R: Threads + Sync>(
+    rt: &R,
+    alloc: Global,
+    case: &mut Case,
+    story: &Story,
+) -> Option<bool> {
+    let other = stepped(rt, alloc, case, story)?;
     Some(are_same(story, &other))
 }

@@ -48,9 +48,14 @@ fn bytes_of(alloc: Global, journal: &[Noted], version: u8) -> Option<u64>
 }
 
 /// What is seen of a story.
-fn seen(alloc: Global, case: &mut Case, story: &Story) -> Option<(bool, bool, [u64; 2])> {
+fn seen<R: Threads + Sync>(
+    rt: &R,
+    alloc: Global,
+    case: &mut Case,
+    story: &Story,
+) -> Option<(bool, bool, [u64; 2])> {
     let right = are_right(alloc, story)?;
-    let again = comes_again(alloc, case, story)?;
+    let again = comes_again(rt, alloc, case, story)?;
     let long = bytes_of(alloc, story.journal(), 1)?;
     let short = bytes_of(alloc, story.journal(), 2)?;
     Some((right, again, [long, short]))
@@ -70,11 +75,12 @@ pub fn ended<R: Threads + Wait + Sync, N: Net, G: Gate + Sync>(
 {
     let words = case.words.as_slice();
     let outcome = live(rt, alloc, words, &mut case.files, net, 5, gate, out);
-    let (right, again, bytes) = match &outcome.story {
-        Some(story) => seen(alloc, &mut case, story)?,
-        None => (false, false, [0, 0]),
+    let seen = match &outcome.story {
+        Some(story) => seen(rt, alloc, &mut case, story),
+        None => Some((false, false, [0, 0])),
     };
     let status = outcome.into_status().number();
+    let (right, again, bytes) = seen?;
     Some(Told {
         status,
         right,
