@@ -27,8 +27,8 @@ def session_and_seconds(pid):
     return int(fields[3]), (int(fields[11]) + int(fields[12])) / TICKS
 
 
-def prover(pid, crates):
-    """The crate and the kind of work of a prover's process, or None for any other process."""
+def prover(pid):
+    """The crate and the kind of work of a prover's process, or None for any other process. An edit is tried in a folder of its own."""
     try:
         with open(f"/proc/{pid}/cmdline") as line:
             words = line.read().split("\0")
@@ -38,12 +38,12 @@ def prover(pid, crates):
     if "--crate-name" not in words:
         return None
     name = words[words.index("--crate-name") + 1]
-    if os.path.dirname(folder) != crates:
+    if not folder.endswith(f"/crates/{name}"):
         return name, "edits"
     return name, "tests" if "--test" in words else "proof"
 
 
-def watch(first, crates, goes_on):
+def watch(first, goes_on):
     """Seconds by crate and kind, of all processes in the session of the first one, as long as the gate goes on."""
     session, _ = session_and_seconds(first)
     seen = {}
@@ -51,7 +51,7 @@ def watch(first, crates, goes_on):
         for pid in filter(str.isdigit, os.listdir("/proc")):
             now = session_and_seconds(pid)
             if now and now[0] == session:
-                kind = seen[pid][0] if pid in seen else prover(pid, crates)
+                kind = seen[pid][0] if pid in seen else prover(pid)
                 seen[pid] = kind, now[1]
         time.sleep(0.5)
     return seen
@@ -74,13 +74,12 @@ def main():
     parser.add_argument("--watch", type=int, metavar="PID")
     pid = parser.parse_args().watch
     if pid:
-        top = os.readlink(f"/proc/{pid}/cwd")
-        table(watch(pid, os.path.join(top, "crates"), lambda: session_and_seconds(pid)))
+        table(watch(pid, lambda: session_and_seconds(pid)))
         return
     top = os.path.dirname(os.path.dirname(os.path.abspath(__file__)))
     with open("gate.log", "wb") as log:
         gate = subprocess.Popen([".ci/run"], cwd=top, stdout=log, stderr=log, start_new_session=True)
-    table(watch(gate.pid, os.path.join(top, "crates"), lambda: gate.poll() is None))
+    table(watch(gate.pid, lambda: gate.poll() is None))
 
 
 if __name__ == "__main__":
