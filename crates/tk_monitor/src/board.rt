@@ -102,7 +102,7 @@ impl Board {
         Ok(Pairs::new(list).unwrap())
     }
 
-    /// The broken outsiders, in the time of what is found times a logarithm.
+    /// The broken outsiders, in the time of `Rank::above`.
     pub fn failed(&self, alloc: Global) -> Result<ObjSet, NoMemory>
         requires { 0 < length self.now.members }
         ensures { IfOk result (λ s. s ≡ broken self.now.levels self.now.members) }
@@ -110,7 +110,7 @@ impl Board {
         self.rank.above(alloc, self.rank.least_member())
     }
 
-    /// The border over a set that holds the members, in the time of that set times a logarithm.
+    /// The border over a set that holds the members, in the time of `Rank::border`.
     pub fn border(&self, asked: &ObjSet) -> i128
         requires some { 0 < length self.now.members }
         requires held { IsTrue (holds asked.now self.now.members) }

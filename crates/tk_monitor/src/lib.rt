@@ -4,7 +4,7 @@
 //! refusal leaves it as it was. It stands on tk_base, tk_frames, tk_input, tk_border,
 //! tk_rank and tk_trail.
 //! It keeps the level of each object, and the factors that were assigned; a value is a level without its factor. So
-//! a raise writes one tree, and an object that no Assign named takes no memory but its level's.
+//! a raise writes one level, and an object that no Assign named takes no memory but its level's.
 //! No call sends anything: what is to be sent stands in the trail, and `sent_at` lends it.
 #![tactic(auto)]
 

@@ -55,8 +55,8 @@ impl Model for Monitor {
 }
 
 impl Monitor {
-    /// Counts the next change of a feeder: one update of its level, which costs a logarithm of the objects, and no
-    /// memory.
+    /// Counts the next change of a feeder: one update of its level, which costs a leaf and at most its block and
+    /// a logarithm of the blocks, and no memory.
     pub fn raise(&mut self, f: Feeder) -> Raised
         requires { IsFeederOf self.old.setup f.0 }
         ensures answer { Raises self.old f result self.new }

@@ -1,14 +1,11 @@
 -- The greatest of some numbers, in parts.
-use Rattle.std.proofs.Common.{◌≡◌, ℕ, ℤ, Bool, true, false, ◌||◌, cond, List, [], ◌∷◌, ◌++◌, filter, Option, Some, None, refl, sym, ap, ap₂, ◌∙◌, arith}
+use Rattle.std.proofs.Common.{◌≡◌, ℕ, ℤ, Bool, false, ◌||◌, cond, List, [], ◌∷◌, ◌++◌, filter, Option, Some, None, refl, sym, ap, ap₂, ◌∙◌, arith}
 use Rattle.std.specs.Prelude.{int_lt}
 use Rattle.std.specs.Int.{int_max}
 use Rattle.std.specs.List.{fold, cons_option, list_any}
 use Rattle.std.specs.Ordering.{int_cmp, is_lt}
 use Rattle.std.proofs.lemmas.Int.{ints, clamps}
-use Rattle.std.specs.Option.{option_eq}
-use Rattle.std.specs.Ordering.{int_eq}
 use Rattle.std.proofs.lemmas.Bool.{or_parts}
-use Rattle.std.proofs.lemmas.Bool.Decides.{Decides-int_eq}
 use Rattle.std.proofs.lemmas.List.Sums.{fold-append}
 use Rattle.std.proofs.lemmas.List.Elements.{filter_map-append}
 use Rattle.tk_border.specs.Levels.{raised, greatest_of}
@@ -84,10 +81,3 @@ filter_nothing p [] none = refl
 filter_nothing p (x ∷ xs) none =
     let both = or_parts (p x) (list_any p xs) none in
     ap (λ t. cond t (x ∷ filter p xs) (filter p xs)) both.0 ∙ filter_nothing p xs both.1
-
--- what `==` tells
-pub same_number : (a b : Option ℤ) → option_eq int_eq a b ≡ true → a ≡ b
-same_number None None same = refl
-same_number None (Some y) same = absurd (cc)
-same_number (Some x) None same = absurd (cc)
-same_number (Some x) (Some y) same = ap Some ((Decides-int_eq x y).0 same)

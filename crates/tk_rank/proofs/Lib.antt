@@ -1,7 +1,7 @@
 mod ExchangeLemmas
+mod BlockLemmas
 mod GreatestLemmas
 mod NodeLemmas
-mod PartLemmas
 mod RankLemmas
 mod SidesLemmas
 mod TreeLemmas

@@ -7,10 +7,17 @@ use Rattle.std.proofs.lemmas.Bool.{cases_eq}
 use Rattle.std.proofs.lemmas.List.{get_or-drop, get_or-map, length-map, drop-set-lt, drop-set-add}
 use Rattle.tk_border.specs.Levels.{greatest_of}
 use Rattle.tk_border.proofs.RisingLemmas.{range-append}
-use Rattle.tk_rank.specs.Tree.{greater, node_at, width_of, leaves_of, IsMended, IsTree, IsPart, leaf_at, standing}
+use Rattle.tk_rank.specs.Tree.{greater, node_at, width_of, leaves_of, IsMended, IsTree, leaf_at, standing}
 use Rattle.tk_rank.proofs.GreatestLemmas.{greatest-one, standing-append}
 
 -- ---- parts
+
+-- the part of a tree of so many leaves under a node: the leaves of so many objects from the first on
+pub record IsPart (leaves width node first : ℕ) : Type 0 where
+  pub power : IsPowerOfTwo width
+  pub place : node * width + 1 ≡ leaves + first
+  pub some : 0 < first
+  pub within : first + width ≤ leaves + 1
 
 pub power_doubles : (h : ℕ) → 2 ^ suc h ≡ 2 ^ h + 2 ^ h
 power_doubles h = pow-succ' 2 h ∙ omega arith
@@ -33,16 +40,6 @@ node_low n w node first p =
     let some = power_positive w p.power in
     let low = mul-le-mul_left {m = 1} {n = w} node some in
     omega (arith, p.place, p.within, low)
-
--- the node of a part is one of the nodes
-pub part_within : {N : Type 0} (number : N → Option ℤ) (nodes : List N) (w node first : ℕ) → IsTree (map number nodes) → IsPart (width_of (map number nodes)) w node first → node < length nodes
-part_within number nodes w node first tree part =
-    omega (arith, node_low (width_of (map number nodes)) w node first part, power_positive w part.power, tree.even, length-map nodes number)
-
--- what is read at it
-pub read_part : {N : Type 0} (number : N → Option ℤ) (nodes : List N) (w node first : ℕ) (x : N) → IsTree (map number nodes) → IsPart (width_of (map number nodes)) w node first → x ≡ get_or nodes node x → number x ≡ node_at (map number nodes) node
-read_part number nodes w node first x tree part is =
-    read_node number nodes node x (part_within number nodes w node first tree part) is
 
 pub node_positive : (n w node first : ℕ) → 0 < n → IsPart n w node first → 0 < node
 node_positive n w zero first some p = absurd (omega (arith, p.place))
@@ -70,24 +67,6 @@ part_inner n w node first part more =
     let left = node_low n p (node + node) first (part_left n w p node first part e power) in
     let some = power_positive p power in
     omega arith
-
-halved : (w p : ℕ) → w ≡ p + p → p ≡ w / 2
-halved w p e = omega arith
-
-pub half_left : (n w node first : ℕ) → IsPart n w node first → w ≢ 1 → IsPart n (w / 2) (2 * node) first
-half_left n w node first part more =
-    let (p, power, e) = split_power w part.power more in
-    subst (λ k. IsPart n k (2 * node) first) (halved w p e)
-    (subst (λ k. IsPart n p k first) (omega arith) (part_left n w p node first part e power))
-
-pub half_right : (n w node first : ℕ) → IsPart n w node first → w ≢ 1 → IsPart n (w / 2) (2 * node + 1) (first + w / 2)
-half_right n w node first part more =
-    let (p, power, e) = split_power w part.power more in
-    subst (λ k. IsPart n k (2 * node + 1) (first + k)) (halved w p e)
-    (subst (λ k. IsPart n p k (first + p)) (omega arith) (part_right n w p node first part e power))
-
-pub half_twice : (w : ℕ) → IsPowerOfTwo w → w ≢ 1 → w / 2 + w / 2 ≡ w
-half_twice w power more = let (p, half, e) = split_power w power more in omega (arith, e)
 
 -- ---- what stands at a node
 

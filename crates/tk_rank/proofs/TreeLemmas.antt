@@ -1,5 +1,5 @@
 -- A tree seen as its leaves.
-use Rattle.std.proofs.Common.{◌≡◌, ℕ, suc, zero, ◌+◌, ◌*◌, ◌/◌, ◌^◌, ◌<◌, ◌≤◌, max, ℤ, List, [], ◌∷◌, length, get_or, drop, replicate, Option, None, refl, sym, ap, ap₂, ◌∙◌, subst, arith, inl, inr, length-drop}
+use Rattle.std.proofs.Common.{◌≡◌, ℕ, suc, zero, ◌+◌, ◌*◌, ◌/◌, ◌^◌, ◌<◌, ◌≤◌, max, ℤ, List, length, get_or, drop, replicate, Option, None, sym, ap, ap₂, ◌∙◌, subst, arith, inl, inr, length-drop}
 use Rattle.std.specs.Int.{IsPowerOfTwo}
 use Rattle.std.specs.List.{range_with_len}
 use Rattle.std.proofs.Math.ListN.{get_or-eq_default}
@@ -9,7 +9,7 @@ use Rattle.std.proofs.lemmas.List.{get_or-replicate, drop-replicate, length-repl
 use Rattle.std.proofs.lemmas.Nat.{pow_pos}
 use Rattle.tk_base.specs.Objects.{objects}
 use Rattle.tk_border.specs.Levels.{greatest_of}
-use Rattle.tk_rank.specs.Tree.{greater, node_at, nodes_in, width_of, leaves_of, HasRoom, IsTree, standing}
+use Rattle.tk_rank.specs.Tree.{greater, node_at, width_of, leaves_of, HasNodes, IsTree, standing}
 use Rattle.tk_rank.proofs.NodeLemmas.{node_stands, power_doubles, whole_part}
 
 pub length-leaves : (nodes : List (Option ℤ)) → length nodes ≡ width_of nodes + width_of nodes → length (leaves_of nodes) ≡ width_of nodes
@@ -25,15 +25,6 @@ root_stands nodes tree =
     node_stands (width_of nodes) 1 1 nodes tree (whole_part nodes tree)
     ∙ ap (λ list. greatest_of (standing (leaves_of nodes) list)) (tree_objects nodes tree)
 
--- the objects under the whole tree
-pub whole_range : (nodes : List (Option ℤ)) (width first : ℕ) → IsTree nodes → width ≡ width_of nodes → first ≡ 1 → range_with_len first width ≡ objects (length (leaves_of nodes))
-whole_range nodes width first tree w f = ap₂ range_with_len f w ∙ tree_objects nodes tree
-
--- the nodes are in the wide list where it has some
-pub in_wide : (narrow wide : List (Option ℤ)) → 0 < length wide → nodes_in narrow wide ≡ wide
-in_wide narrow [] some = absurd (omega arith)
-in_wide narrow (x ∷ wide) some = refl
-
 -- ---- room
 
 power_within : (h g n : ℕ) → n ≤ 2 ^ g → 2 ^ h / 2 < max 1 n → 2 ^ h ≤ 2 ^ g
@@ -44,14 +35,10 @@ power_within (suc h) g n enough low = elim (cases_lt h g) [
 ]
 
 -- room for the least power of two that is enough
-pub room_for : (leaves power : ℕ) → IsPowerOfTwo power → leaves ≤ power → HasRoom leaves (2 * power)
+pub room_for : (leaves power : ℕ) → IsPowerOfTwo power → leaves ≤ power → HasNodes leaves (2 * power)
 room_for leaves power (g, e) enough width (h, is) low =
     let short = power_within h g leaves (omega arith) (subst (λ w. w / 2 < max 1 leaves) is low) in
     omega arith
-
--- fewer leaves need no more room
-pub less_room : (few many room : ℕ) → few ≤ many → HasRoom many room → HasRoom few room
-less_room few many room less has width power low = has width power (omega arith)
 
 -- ---- empty leaves
 
@@ -62,7 +49,7 @@ nothing n = replicate n None
 length-nothing : (n : ℕ) → length (nothing n) ≡ n
 length-nothing n = length-replicate n None
 
-no_number : (n i : ℕ) → get_or (nothing n) i None ≡ None
+pub no_number : (n i : ℕ) → get_or (nothing n) i None ≡ None
 no_number n i = elim (cases_lt i n) [
   | inl low ↦ get_or-replicate n i None None low
   | inr high ↦ get_or-eq_default (nothing n) None (omega (arith, length-nothing n))

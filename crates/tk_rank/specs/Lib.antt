@@ -1,5 +1,5 @@
+pub mod Blocks
 pub mod Node
-pub mod Part
 pub mod Rank
 pub mod Sides
 pub mod Tree

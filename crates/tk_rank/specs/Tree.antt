@@ -1,5 +1,5 @@
 -- A tournament tree of numbers, some of its leaves empty. No public clause cites this file.
-use Rattle.std.specs.Prelude.{◌≡◌, ℕ, ◌+◌, ◌-◌, ◌*◌, ◌/◌, ◌<◌, ◌≤◌, max, ℤ, Bool, false, List, [], ◌∷◌, length, drop, Option, Some, None, slice_index_or, filter, not}
+use Rattle.std.specs.Prelude.{◌≡◌, ℕ, ◌+◌, ◌-◌, ◌/◌, ◌<◌, ◌≤◌, max, ℤ, Bool, false, List, [], ◌∷◌, length, drop, Option, Some, None, slice_index_or, filter, not}
 use Rattle.std.specs.Int.{int_max, IsPowerOfTwo}
 use Rattle.std.specs.List.{filter_map}
 use Rattle.std.specs.Ordering.{int_cmp, is_lt}
@@ -28,14 +28,18 @@ width_of nodes = length nodes / 2
 abbrev pub leaves_of : List (Option ℤ) → List (Option ℤ)
 leaves_of nodes = drop (width_of nodes) nodes
 
--- a tree as its leaves, and how many nodes it has room for
+-- a tree as its leaves, and how many of them there is room for
 pub record TreeView : Type 0 where
   pub leaves : List (Option ℤ)
   pub room : ℕ
 
--- so much room is enough for so many leaves, rounded up to a power of two
+-- there is room for so many leaves
 abbrev pub HasRoom : ℕ → ℕ → Type 0
-HasRoom leaves room = (width : ℕ) → IsPowerOfTwo width → width / 2 < max 1 leaves → width + width ≤ room
+HasRoom leaves room = leaves ≤ room
+
+-- so many nodes are enough for so many leaves, rounded up to a power of two
+abbrev pub HasNodes : ℕ → ℕ → Type 0
+HasNodes leaves room = (width : ℕ) → IsPowerOfTwo width → width / 2 < max 1 leaves → width + width ≤ room
 
 -- the greater number of a node's two children
 abbrev pub greater_under : List (Option ℤ) → ℕ → Option ℤ
@@ -51,13 +55,6 @@ pub record IsTree (nodes : List (Option ℤ)) : Type 0 where
   pub even : length nodes ≡ width_of nodes + width_of nodes
   pub few : width_of nodes ≤ 131072
   pub mended : (j : ℕ) → 0 < j → j < width_of nodes → IsMended nodes j
-
--- the part of a tree of so many leaves under a node: the leaves of so many objects from the first on
-pub record IsPart (leaves width node first : ℕ) : Type 0 where
-  pub power : IsPowerOfTwo width
-  pub place : node * width + 1 ≡ leaves + first
-  pub some : 0 < first
-  pub within : first + width ≤ leaves + 1
 
 -- the number at the leaf of an object
 abbrev pub leaf_at : List (Option ℤ) → ℕ → Option ℤ
@@ -87,12 +84,7 @@ greatest_leaf leaves = greatest_of (standing leaves (objects (length leaves)))
 abbrev pub greatest_leaf_outside : List (Option ℤ) → List ℕ → Option ℤ
 greatest_leaf_outside leaves set = greatest_of (standing leaves (outside (length leaves) set))
 
--- the nodes of a tree in two lists: those of the wide one, unless it is empty
-abbrev pub nodes_in : List (Option ℤ) → List (Option ℤ) → List (Option ℤ)
-nodes_in narrow [] = narrow
-nodes_in narrow (x ∷ wide) = x ∷ wide
-
--- some nodes are a tree, and what there is room for in the narrow list is so in the wide one
-pub record IsTreeIn (nodes : List (Option ℤ)) (room wide_room : ℕ) : Type 0 where
-  pub tree : IsTree nodes
-  pub enough : wide_room ≡ room
+-- the leaves in two lists: those of the wide one, unless it is empty
+abbrev pub leaves_in : List (Option ℤ) → List (Option ℤ) → List (Option ℤ)
+leaves_in narrow [] = narrow
+leaves_in narrow (x ∷ wide) = x ∷ wide

@@ -1,20 +1,23 @@
-//! Least members and greatest outsiders by tournament trees over the levels of one node.
+//! Least members and greatest outsiders of the levels of one node, by the greatest of each block of 64 and a tree over these.
 //!
-//! It promises the answers of tk_border's scans: a rank is seen as its levels and its members. Setting or shifting
-//! a level costs a logarithm, the two extremes are read at a root. It stands on tk_base and tk_border.
-//! Only `new` and `above` take memory.
+//! It promises the answers of tk_border's scans: a rank is seen as its levels and its members. Setting or shifting a level
+//! looks at its leaf and at the greatest of its block; at the other leaves of the block only where that falls, and at the
+//! tree over the blocks, in the logarithm of their number, where it changes. The two extremes are read at a root. What is
+//! asked of all levels looks at each block, and into those that it must. It stands on tk_base and tk_border. Only `new` and
+//! `above` take memory.
 //!
-//! The outsiders' tree has a leaf for each object, the members' tree one for each place among the members; a tree
-//! has the next power of two of leaves, and 16 bytes for each, as long as every number in it fits in 8 bytes. The first
-//! that does not turns its tree wide, in the time of the whole tree, to 32 bytes more a leaf, until that tree is
-//! emptied: the members' with each other set of members, the outsiders' never.
+//! The outsiders have a leaf for each object, the members one for each place among them; a leaf has 8 bytes as long as every
+//! number beside it fits in so many. The first that does not turns all leaves of its side wide, in the time of them all, to
+//! 16 bytes more a leaf, until that side is emptied: the members' with each other set of members, the outsiders' never.
 //!
-//! Setting a level and taking members may not fail, and any objects may be the members. So `new` reserves the room of
-//! the widest members' tree and list, and that of both trees in their wide form, but only what is in use is ever
-//! written. Where memory that was never touched is not resident, a rank so has 16 bytes for each leaf of the outsiders,
-//! and beside these only 16 for each leaf of the members and 4 for each member.
+//! Setting a level and taking members may not fail, and any objects may be the members. So `new` reserves the room of the
+//! greatest members' side and list, and that of both sides in their wide form, but only what is in use is ever written. Where
+//! memory that was never touched is not resident, a rank so has 8 bytes an object and for every 64 of them 16 to 32 in its
+//! tree, and beside these only as much for each member, and 4.
 #![tactic(auto)]
 
+mod blocks;
+mod leaves;
 mod narrow;
 mod node;
 mod nodes;

@@ -1,5 +1,5 @@
 // A number at a node of a tree, or none, in the room of the number alone.
-ghost use Rattle.std.specs.Prelude.{◌≡◌, ℤ, true, Option, None};
+ghost use Rattle.std.specs.Prelude.{◌≡◌, ◌↔◌, ℤ, IsTrue, Option, None};
 ghost use Rattle.tk_rank.specs.Tree.{greater as greater_of, is_over as is_over_of};
 
 /// A number, or none.
@@ -17,7 +17,7 @@ pub(crate) trait Node: Copy {
 
     /// Whether both are the same.
     fn is_same(self, other: Self) -> bool
-        ensures { result ≡ true → number self ≡ number other };
+        ensures { IsTrue result ↔ (number self ≡ number other) };
 
     /// The greater of two, where none is less than any number.
     fn greater(self, other: Self) -> Self

@@ -40,7 +40,7 @@ impl Model for Rank {
 }
 
 impl Rank {
-    /// Takes the levels in the time of their number times a logarithm.
+    /// Takes the levels, in the time of a set of each.
     pub fn new(alloc: Global, levels: &[i128], members: &ObjSet) -> Result<Rank, NoMemory>
         requires objects { AreObjects levels.now }
         requires sizes { AreSmall levels.now }
@@ -84,7 +84,7 @@ impl Rank {
         }
     }
 
-    /// Gives an object another level, in logarithmic time: one tree is written.
+    /// Gives an object another level: its leaf, at most its block, and the tree over the blocks as far as it changes.
     pub fn set(&mut self, o: Obj, level: i128)
         requires from_one { 0 < o.0 }
         requires within { o.0 ≤ length self.old.levels }
@@ -100,7 +100,7 @@ impl Rank {
         );
     }
 
-    /// Moves the level of an object, in logarithmic time: one tree is written.
+    /// Moves the level of an object, in the time of a set.
     pub fn shift(&mut self, o: Obj, by: i128)
         requires from_one { 0 < o.0 }
         requires within { o.0 ≤ length self.old.levels }
@@ -129,7 +129,7 @@ impl Rank {
         }
     }
 
-    /// Takes other members, in the time of both sets times a logarithm; the same ones cost a look at each.
+    /// Takes other members, in the time of a set of each level of both; the same ones cost a look at each.
     pub fn set_members(&mut self, members: &ObjSet)
         requires { AreMembers (length self.old.levels) members.now }
         ensures { self.new ≡ record self.old { members = members.now } }
@@ -165,7 +165,7 @@ impl Rank {
         self.outsiders.greatest()
     }
 
-    /// The outsiders above a level, in the time of what is found times a logarithm.
+    /// The outsiders above a level, in the time of all blocks and of the leaves of those that have one.
     pub fn above(&self, alloc: Global, level: i128) -> Result<ObjSet, NoMemory>
         ensures { IfOk result (λ s. s ≡ above self.now.levels self.now.members level) }
     {
@@ -180,7 +180,8 @@ impl Rank {
         holds_all(self.list.as_slice(), r)
     }
 
-    /// The greatest level outside a set that holds the members, in the time of that set times a logarithm.
+    /// The greatest level outside a set that holds the members, in the time of all blocks and of the leaves of those that
+    /// have an object of it.
     pub fn greatest_outside(&self, r: &ObjSet) -> Option<i128>
         requires { IsTrue (holds r.now self.now.members) }
         ensures { result ≡ greatest_outside self.now.levels r.now }
@@ -188,7 +189,7 @@ impl Rank {
         self.outsiders.greatest_outside(r)
     }
 
-    /// The border of a monitor over a set that holds the members, in the time of that set times a logarithm.
+    /// The border of a monitor over a set that holds the members, in the time of `greatest_outside`.
     pub fn border(&self, r: &ObjSet) -> i128
         requires { IsTrue (holds r.now self.now.members) }
         ensures { result ≡ border self.now.levels self.now.members r.now }

@@ -26,8 +26,8 @@ fn due(may_report: bool, broken: bool, ended: bool, told: bool) -> Checked
 }
 
 impl Monitor {
-    /// Sends a Report or tells the end where that is due. Costs two roots, and for a Report what it holds
-    /// times a logarithm of the objects; the room for raises stays free.
+    /// Sends a Report or tells the end where that is due. Costs two roots, and for a Report a block for each
+    /// object that it holds and a look at all blocks; the room for raises stays free.
     pub fn check(&mut self) -> Result<Checked, NoMemory>
         ensures answer { IfOk result (λ c. c ≡ checked_at self.old.setup self.old.trail) }
         // Where nothing is due no memory is wanted.

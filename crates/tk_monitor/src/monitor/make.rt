@@ -14,8 +14,8 @@ use tk_base::{Mon, NoMemory, Places, Settings};
 use tk_input::Part;
 
 impl Monitor {
-    /// Takes the room for all raises. Costs the number of objects and of changes before the start, times
-    /// a logarithm of the objects.
+    /// Takes the room for all raises. Costs the number of objects, and a raise for each change before the
+    /// start.
     pub fn new(
         alloc: Global,
         settings: &Settings,

@@ -12,8 +12,8 @@ use tk_frames::{Frame, KeptFrame};
 use tk_trail::MonitorRefusal;
 
 impl Monitor {
-    /// Takes a frame of the coordinator and answers it in the same step. Costs what the frame, its answer
-    /// and the members before name, times a logarithm of the objects; the room for raises stays free.
+    /// Takes a frame of the coordinator and answers it in the same step. Costs a block for each object that
+    /// the frame, its answer and the members before name, and a look at all blocks; the room for raises stays free.
     pub fn take(&mut self, frame: Frame) -> Result<(), (MonitorRefusal, Frame)>
         // Which refusal comes, and that it hands the same frame back.
         ensures answer { AnswersTake (refusal_at self.old.setup self.old.trail frame) frame result }

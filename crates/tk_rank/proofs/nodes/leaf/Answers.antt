@@ -17,7 +17,6 @@ returns g c =
     let nodes = c.args.nodes.now in
     let place = c.args.place in
     let within = leaf_within number nodes place c.requires.tree c.requires.within in
-    c.get.ensures
-    ∙ read_node number nodes (length nodes / 2 + place) c.index-nodes-nodes.result within c.index-nodes-nodes.is
+    read_node number nodes (length nodes / 2 + place) c.index-nodes-nodes.result within c.index-nodes-nodes.is
     ∙ ap (λ n. node_at (map number nodes) (n / 2 + place)) (sym (length-map nodes number))
     ∙ sym (get_or-drop (width_of (map number nodes)) (map number nodes) place None)

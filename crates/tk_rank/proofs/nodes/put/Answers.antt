@@ -52,7 +52,7 @@ returns-then-is_same-clause-tree g c =
     let m = c.loop-child.invariant.mending in
     let within : child / 2 < length nodes = omega (arith, m.within, length-map nodes number) in
     mending_stops (map number nodes) child (child / 2) m refl
-    (sym (read_node number nodes (child / 2) c.index-nodes-child.result within c.index-nodes-child.is) ∙ c.is_same.ensures c.if-is_same.true ∙ c.greater_child-mended.ensures)
+    (sym (read_node number nodes (child / 2) c.index-nodes-child.result within c.index-nodes-child.is) ∙ c.is_same.ensures.0 c.if-is_same.true ∙ c.greater_child-mended.ensures)
 
 pub returns-clause-tree : goal.returns-clause-tree
 returns-clause-tree g c = mending_ends (map g.N.Node.number c.loop-child.nodes) c.loop-child.child c.loop-child.invariant.mending c.loop-child-test.false

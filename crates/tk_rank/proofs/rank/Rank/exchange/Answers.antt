@@ -7,7 +7,6 @@ use Rattle.tk_rank.specs.Sides.{levels_of, AreOutsiderLeaves, IsKept}
 use Rattle.tk_rank.specs.Tree.{HasRoom}
 use Rattle.tk_rank.proofs.RankLemmas.{read_members, short_members}
 use Rattle.tk_rank.proofs.SidesLemmas.{length_levels, small_outsiders}
-use Rattle.tk_rank.proofs.TreeLemmas.{less_room}
 use Rattle.tk_rank.proofs.rank.Rank.exchange.Goals as goal
 
 -- the levels, which stay
@@ -36,7 +35,7 @@ pub take-requires-clause-few : goal.take-requires-clause-few
 take-requires-clause-few c = omega (arith, short c, c.self.invariant.ranked.objects)
 
 pub take-requires-clause-room : goal.take-requires-clause-room
-take-requires-clause-room c = less_room (length c.args.members.now) (length (levels c)) c.self.inside.members.room (short c) c.self.invariant.tree_room
+take-requires-clause-room c = omega (arith, short c, c.self.invariant.tree_room)
 
 pub take-requires-clause-within : goal.take-requires-clause-within
 take-requires-clause-within c k d inside = let low = (are c).in_range k d inside in omega (arith, low, (released c).room)

@@ -1,0 +1,73 @@
+use Rattle.std.proofs.Common.{◌≡◌, ◌∙◌, ◌+◌, ◌-◌, ◌*◌, ◌<◌, ◌≤◌, min, not, ℕ, ℤ, List, Option, sym, ap, ap₂, subst, arith, length, map, get_or, None}
+use Rattle.std.specs.List.{range_with_len}
+use Rattle.std.proofs.lemmas.List.{length-map}
+use Rattle.tk_base.specs.Objects.{is_in}
+use Rattle.tk_border.specs.Levels.{greatest_of, IsPassed}
+use Rattle.tk_border.proofs.PassedLemmas.{passed_none}
+use Rattle.tk_rank.specs.Blocks.{AreBlocks, blocks_of}
+use Rattle.tk_rank.specs.Tree.{TreeView, greater, leaves_of, others_in, standing}
+use Rattle.tk_rank.proofs.BlockLemmas.{all_blocks, block_outside, nothing_yet, outside_more}
+use Rattle.tk_rank.proofs.blocks.Blocks.greatest_outside.Goals as goal
+use Rattle.tk_rank.proofs.blocks.Blocks.greatest_outside.Goals.{then-is_reached, else-is_reached}
+
+pub loop-block-init : goal.loop-block-init
+loop-block-init g c =
+    let leaves = c.args.self.now.leaves in
+    let set = c.args.set.now in
+    record {
+      most = c.none-most.ensures ∙ nothing_yet (λ o. not (is_in set o)) leaves (min (length leaves) 0) (omega arith);
+      passed = subst (λ e. IsPassed set 0 e) {x = 1} {y = min (length leaves) 0 + 1} (omega arith) (passed_none set c.len.ensures.ascends);
+    }
+
+pub loop-block-preserved : goal.loop-block-preserved
+loop-block-preserved g c =
+    let number = g.N.Node.number in
+    let inside = c.self.inside in
+    let set = c.args.set.now in
+    let leaves = c.args.self.now.leaves in
+    let nodes = map number inside.nodes.items in
+    let view : map number inside.leaves.items ≡ leaves = ap (λ (t : TreeView). t.leaves) c.self.view_is in
+    let slice : map number c.as_slice-leaves.result.now ≡ leaves = ap (map number) c.as_slice-leaves.ensures.value ∙ view in
+    let long : length c.as_slice-leaves.result.now ≡ length leaves = sym (length-map c.as_slice-leaves.result.now number) ∙ ap length slice in
+    let blocks : AreBlocks leaves nodes = subst (λ (list : List (Option ℤ)). AreBlocks list nodes) view c.self.invariant.blocks in
+    let block = c.loop-block.block in
+    let before : 64 * block < length leaves = omega (arith, c.loop-block-test.true, c.count-block-end.ensures, ap blocks_of long) in
+    let to = c.end-to.result in
+    let end : to ≡ min (length leaves) (64 * (block + 1)) = c.end-to.ensures ∙ ap (λ n. min n (64 * (block + 1))) long in
+    let order : 64 * block ≤ to = omega (arith, before, end) in
+    let test = λ (o : ℕ). not (is_in set o) in
+    let was = c.loop-block.invariant in
+    let more = outside_more test leaves block to order end in
+    elim c.if-is_reached.branch [
+      | then-is_reached w ↦ record {
+        most =
+            ap number w.most-is
+            ∙ w.greater-most.ensures
+            ∙ ap₂ greater was.most (w.greatest_outside-number.ensures.number ∙ ap (λ list. greatest_of (standing list (others_in set (range_with_len (64 * block + 1) (to - 64 * block))))) slice)
+            ∙ more;
+        passed = subst (λ p. IsPassed set p (min (length leaves) (64 * (block + 1)) + 1)) (sym w.place-is) (subst (λ n. IsPassed set w.greatest_outside-number.result.1 (n + 1)) end w.greatest_outside-number.ensures.passed);
+      }
+      | else-is_reached w ↦
+          let here = subst (λ e. IsPassed set c.loop-block.place e) {x = min (length leaves) (64 * block) + 1} {y = 64 * block + 1} (omega (arith, before)) was.passed in
+          let behind = c.is_reached.ensures.missed w.if-is_reached.false in
+          record {
+            most =
+                ap number w.most-is
+                ∙ w.greater-most-else-is_reached.ensures
+                ∙ ap₂ greater was.most
+                (w.leaf.ensures
+                ∙ ap (λ list. get_or (leaves_of (map number list)) block None) w.as_slice.ensures.value
+                ∙ block_outside set c.loop-block.place leaves nodes block to blocks order end here behind)
+                ∙ more;
+            passed = subst (λ p. IsPassed set p (min (length leaves) (64 * (block + 1)) + 1)) (sym w.place-is) (subst (λ n. IsPassed set c.loop-block.place (n + 1)) end behind);
+          }
+    ]
+
+pub returns : goal.returns
+returns g c =
+    let leaves = c.args.self.now.leaves in
+    let test = λ (o : ℕ). not (is_in c.args.set.now o) in
+    c.get.ensures
+    ∙ c.loop-block.invariant.most
+    ∙ ap (λ list. greatest_of (standing leaves (others_in c.args.set.now list)))
+    (all_blocks (length leaves) c.loop-block.block (omega (arith, c.loop-block-test.false, c.count-block-end.ensures, ap blocks_of (ap length c.as_slice-leaves.ensures.value ∙ sym (length-map c.self.inside.leaves.items g.N.Node.number) ∙ ap (λ (t : TreeView). length t.leaves) c.self.view_is))))
