@@ -26,6 +26,16 @@ fn run_number(rt: &impl RandomSource) -> u64 {
     u64::from_ne_bytes(bytes)
 }
 
+/// Leaves what a run kept to the system, which takes it back with the process: to free each frame by itself would take up
+/// to a quarter of the run.
+fn leave<T: Drop>(one: Option<T>, mut several: Vec<T>) {
+    if let Some(one) = one {
+        // Where there is no room for it, it is freed.
+        let _ = several.push(one);
+    }
+    several.leak();
+}
+
 /// Runs the words live, over sockets of this machine.
 fn run_live<R: AllocGlobal + RandomSource + Print + rt::Files + rt::Net + Threads + Wait + Sync>(
     rt: &R,
@@ -38,10 +48,11 @@ fn run_live<R: AllocGlobal + RandomSource + Print + rt::Files + rt::Net + Thread
     let mut files = TrueFiles::new(alloc, rt);
     let mut out = StdSink::new(rt);
     let run = run_number(rt);
-    live(
+    let outcome = live(
         rt, alloc, words, &mut files, &mut net, run, &OpenGate, &mut out,
-    )
-    .into_status()
+    );
+    leave(outcome.story, Vec::new(alloc));
+    outcome.status
 }
 
 /// Whether the words are those of a live run.
@@ -72,7 +83,9 @@ fn run_words<R: AllocGlobal + Print + rt::Files + Threads + Sync>(
     let alloc = rt.alloc();
     let mut files = TrueFiles::new(alloc, rt);
     let mut out = StdSink::new(rt);
-    run(rt, alloc, words, &mut files, &mut out).into_status()
+    let outcome = run(rt, alloc, words, &mut files, &mut out);
+    leave(outcome.story, outcome.stories);
+    outcome.status
 }
 
 /// Writes the fault of a status to standard error. Where that fails, the number alone tells it.
