@@ -24,6 +24,25 @@ const ROOM: usize = 4_096;
 /// How many bytes a Hello has.
 const HELLO: usize = 18;
 
+/// What the bytes of a line go over: the wire at its monitor's end, and the pipes of both ways.
+struct Ways {
+    wire: SureWire,
+    up: Pipe,
+    down: Pipe,
+}
+
+fn new_ways(alloc: Global, piece: usize) -> Result<Ways, NoMemory>
+    requires { (0 < piece) × (piece ≤ 65536) }
+    ensures wire { IfOk result (λ ways. ways.wire.traffic ≡ waiting_on 4096 []) }
+    ensures up { IfOk result (λ ways. ways.up ≡ record { past = []; bytes = []; room = piece }) }
+    ensures down { IfOk result (λ ways. ways.down ≡ record { past = []; bytes = []; room = piece }) }
+{
+    let wire = SureWire::new(alloc, ROOM)?;
+    let up = Pipe::new(alloc, piece)?;
+    let down = Pipe::new(alloc, piece)?;
+    Ok(Ways { wire, up, down })
+}
+
 /// A line of a monitor that has said Hello.
 fn begin(alloc: Global, monitor: Monitor, piece: usize, version: u8) -> Result<Line, NoMemory>
     requires setup { IsSetup monitor.setup }
@@ -36,16 +55,12 @@ fn begin(alloc: Global, monitor: Monitor, piece: usize, version: u8) -> Result<L
     ensures held { IfOk result (λ line. line.port.link.traffic.held ≡ hello_in line.port) }
     ensures over { IfOk result (IsOver piece version) }
 {
-    let wire = SureWire::new(alloc, ROOM)?;
+    let Ways { wire, up, down } = new_ways(alloc, piece)?;
     let mut port = Port::new(alloc, wire, monitor, RUN, version)?;
     // The wire is read for its clause, that nothing has passed it.
     let _ = port.wire();
     say(&mut port)?;
-    Ok(Line {
-        port,
-        up: Pipe::new(alloc, piece)?,
-        down: Pipe::new(alloc, piece)?,
-    })
+    Ok(Line { port, up, down })
 }
 
 /// Moves the Hello of a line to a wire at its other end, piece by piece.
@@ -64,6 +79,24 @@ fn carry_hello(line: &mut Line, wire: &mut SureWire)
         line.port.drain(&mut line.up);
         came += wire.fill(&mut line.up);
     }
+}
+
+/// Carries the Hello of a line to the hub, which admits its monitor.
+fn introduce(hub: &mut Hub<SureWire>, line: &mut Line, wire: SureWire) -> Result<(), NoMemory>
+    requires can { CanJoin line.old.port.monitor.setup.number hub.old }
+    requires opening { IsOpening line.old }
+    requires held { line.old.port.link.traffic.held ≡ hello_in line.old.port }
+    requires unused { wire.traffic ≡ waiting_on 4096 [] }
+    ensures line { OnOk result (IsLine line.old.port.monitor.setup.number hub.new line.new) }
+    ensures seats { OnOk result (SeatsOne line.old.port.monitor.setup.number hub.old hub.new) }
+    ensures monitor { line.new.port.monitor ≡ line.old.port.monitor }
+    ensures over { (piece version : ℕ) → IsOver piece version line.old → IsOver piece version line.new }
+{
+    let mut wire = wire;
+    carry_hello(line, &mut wire);
+    hub.admit(wire)?;
+    hub.greet()?;
+    Ok(())
 }
 
 /// A line of a monitor that the hub has admitted.
@@ -85,10 +118,8 @@ pub fn join(
     ensures over { IfOk result (IsOver piece version) }
     ensures seats { OnOk result (SeatsOne monitor.setup.number hub.old hub.new) }
 {
+    let wire = SureWire::new(alloc, ROOM)?;
     let mut line = begin(alloc, monitor, piece, version)?;
-    let mut wire = SureWire::new(alloc, ROOM)?;
-    carry_hello(&mut line, &mut wire);
-    hub.admit(wire)?;
-    hub.greet()?;
+    introduce(hub, &mut line, wire)?;
     Ok(line)
 }

@@ -55,12 +55,24 @@ fn input_of(alloc: Global, row: Row<'_>) -> Option<Input> {
     })
 }
 
-/// The story of an order that is driven to its end.
+/// Whether a world is driven by an order to its end.
+fn is_driven<N: Nodes>(alloc: Global, world: &mut World<N>, order: &[u8]) -> bool {
+    match Order::read(alloc, order) {
+        Ok(order) => drive(alloc, world, &order).is_ok(),
+        Err(_) => false,
+    }
+}
+
+/// The story of an order that is driven to its end. Worlds and stories are dropped by name, since each place that drops one
+/// by itself is dear to prove.
 fn driven<N: Nodes + Drop>(alloc: Global, world: World<N>, order: &[u8]) -> Option<Story> {
     let mut world = world;
-    let order = Order::read(alloc, order).ok()?;
-    drive(alloc, &mut world, &order).ok()?;
-    world.into_story().ok()
+    if is_driven(alloc, &mut world, order) {
+        world.into_story().ok()
+    } else {
+        drop(world);
+        None
+    }
 }
 
 /// The story of a row whose frames are handed over.
@@ -94,9 +106,23 @@ fn has(alloc: Global, row: Row<'_>, piece: usize, version: u8, story: &Story) ->
     requires version { IsVersion version }
 {
     match wired(alloc, row, piece, version) {
-        Some(other) => are_same(story, &other),
+        Some(other) => {
+            let same = are_same(story, &other);
+            drop(other);
+            same
+        }
         None => false,
     }
+}
+
+/// Whether a row has this story, in whatever pieces and version its frames go.
+fn has_story(alloc: Global, row: Row<'_>, story: &Story) -> bool {
+    has(alloc, row, 1, 1, story)
+        && has(alloc, row, 7, 1, story)
+        && has(alloc, row, 4_096, 1, story)
+        && has(alloc, row, 1, 2, story)
+        && has(alloc, row, 7, 2, story)
+        && has(alloc, row, 4_096, 2, story)
 }
 
 /// Whether a row has one story, in whatever pieces and version its frames go.
@@ -104,12 +130,9 @@ fn has_one_story(alloc: Global, row: Row<'_>) -> bool {
     let Some(story) = direct(alloc, row) else {
         return false;
     };
-    has(alloc, row, 1, 1, &story)
-        && has(alloc, row, 7, 1, &story)
-        && has(alloc, row, 4_096, 1, &story)
-        && has(alloc, row, 1, 2, &story)
-        && has(alloc, row, 7, 2, &story)
-        && has(alloc, row, 4_096, 2, &story)
+    let same = has_story(alloc, row, &story);
+    drop(story);
+    same
 }
 
 /// Nine changes at monitor 1, each of which moves the member, and the frames of the rounds that follow.

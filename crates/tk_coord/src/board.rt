@@ -1,4 +1,4 @@
-// The members and the table of factors, with the own factors in a tree.
+// The members and the table of factors, with the own factors in a rank.
 ghost use Rattle.std.specs.Prelude.{◌≡◌, ◌≤◌, IfOk, length, Contains};
 ghost use Rattle.std.specs.List.{All};
 ghost use Rattle.tk_base.specs.Ascending.{IsAscending};

@@ -68,7 +68,9 @@ fn crossed(alloc: Global, world: &mut World) -> Result<[bool; 5], NoMemory> {
 
 /// The same of a world that is dropped behind it.
 fn crossed_once(alloc: Global, mut world: World) -> Result<[bool; 5], NoMemory> {
-    crossed(alloc, &mut world)
+    let shown = crossed(alloc, &mut world);
+    drop(world);
+    shown
 }
 
 #[test]
@@ -89,7 +91,9 @@ fn driven(alloc: Global, world: &mut World, order: &Order) -> Result<[bool; 3], 
 
 /// The same of a world that is dropped behind it.
 fn driven_once(alloc: Global, mut world: World, order: Order) -> Result<[bool; 3], NoMemory> {
-    driven(alloc, &mut world, &order)
+    let shown = driven(alloc, &mut world, &order);
+    drop(world);
+    shown
 }
 
 #[test]

@@ -11,7 +11,7 @@ use tk_coord::{CoordRefusal, Coordinator};
 use tk_frames::{BadFrame, Frame, Kind};
 use tk_hub::{Admitted, Hub, HubTurn, an_opening_has_no_input};
 use tk_input::{Catalog, VecSink};
-use tk_story::Received;
+use tk_story::{CoordEnd, Received};
 use tk_wire::{Pipe, PipeWire, Piped, Pushed, Wire};
 
 /// A length that no Hello has.
@@ -183,18 +183,33 @@ struct Seen {
     taken: Option<u64>,
 }
 
+/// What a hub leaves that it did not take, and how many bytes its only wire took. Hubs are dropped by calls of `drop` alone,
+/// since each place that drops one by itself is dear to prove.
+fn left_by(hub: Hub<PipeWire>) -> (Option<(Mon, Received)>, Option<u64>) {
+    let (end, wires) = hub.into_end();
+    let taken = taken(&wires);
+    drop(wires);
+    let CoordEnd {
+        coordinator,
+        odd,
+        ..
+    } = end;
+    drop(coordinator);
+    (odd, taken)
+}
+
 /// What is seen of a hub to which one connection came.
 fn seen_of(alloc: Global, came: Connection<'_>) -> Result<Seen, Fail> {
     let mut hub = hub(alloc)?;
     let turns = over_one(&mut hub, alloc, came);
     let strangers = hub.strangers();
     hub.halt();
-    let (end, wires) = hub.into_end();
+    let (odd, taken) = left_by(hub);
     Ok(Seen {
         turns,
         strangers,
-        odd: end.odd,
-        taken: taken(&wires),
+        odd,
+        taken,
     })
 }
 
@@ -318,6 +333,7 @@ fn a_monitor_is_admitted_once(rt: HostRuntime) -> Result<(), Fail> {
     let other = greeted(&mut hub, alloc, &HELLO_TO_6);
     let first = greeted(&mut hub, alloc, &TWICE[..18]);
     let second = greeted(&mut hub, alloc, &TWICE[..18]);
+    drop(hub);
     assert_eq!(rt;
         (other, first, second),
         (Some((1, false)), Some((1, true)), Some((2, true)))
@@ -342,6 +358,7 @@ fn crowded(hub: &mut Hub<PipeWire>, alloc: Global) -> Option<(Admitted, Admitted
 fn one_connection_too_many_is_closed(rt: HostRuntime) -> Result<(), Fail> {
     let mut hub = hub(rt.alloc())?;
     let last = crowded(&mut hub, rt.alloc());
+    drop(hub);
     assert_eq!(rt; last, Some((Admitted::Kept, Admitted::Closed)));
     Ok(())
 }
@@ -378,6 +395,7 @@ fn finished(
 fn a_hub_speaks_each_version_to_its_end(rt: HostRuntime) -> Result<(), Fail> {
     let mut hub = hub(rt.alloc())?;
     let seen = finished(&mut hub, rt.alloc());
+    drop(hub);
     let turns = (HubTurn::Finished, HubTurn::Finished, true);
     assert_eq!(rt; seen, Some((turns, true, true)));
     Ok(())
@@ -408,6 +426,7 @@ fn a_frame_is_taken_at_a_time(rt: HostRuntime) -> Result<(), Fail> {
     let mut hub = hub(alloc)?;
     let greeted = greeted(&mut hub, alloc, &SETTLED);
     let answers = by_hand(&mut hub);
+    drop(hub);
     assert_eq!(rt; greeted, Some((0, true)));
     assert_eq!(rt;
         answers,

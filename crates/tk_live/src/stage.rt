@@ -80,7 +80,8 @@ fn make_berth<N: Net>(
     })
 }
 
-/// A port for each monitor, ascending.
+/// A port for each monitor, ascending. Here and below what was made is dropped by name where there is no more, since each
+/// place that drops a monitor by itself is dear to prove.
 fn make_berths<N: Net>(
     alloc: Global,
     plan: &Plan<'_>,
@@ -98,9 +99,13 @@ fn make_berths<N: Net>(
     for j in 0..plan.input.settings.monitors() {
         let berth = match make_berth(alloc, plan, Mon(j + 1), net) {
             Ok(berth) => berth,
-            Err(fault) => return Err(fault),
+            Err(fault) => {
+                drop(berths);
+                return Err(fault);
+            }
         };
         let Ok(()) = berths.push(berth) else {
+            drop(berths);
             return Err(NetFault::NoMemory);
         };
     }
@@ -126,9 +131,11 @@ fn make_crew<N: Net>(
         Err(fault) => return Err(fault),
     };
     let Ok(slots) = Vec::with_capacity(alloc, berths.len()) else {
+        drop(berths);
         return Err(NetFault::NoMemory);
     };
     let Ok(workers) = Vec::with_capacity(alloc, berths.len()) else {
+        drop(berths);
         return Err(NetFault::NoMemory);
     };
     Ok(Crew {
@@ -186,9 +193,14 @@ pub fn make_stage<N: Net>(
     };
     let hub = match make_hub(alloc, plan) {
         Ok(hub) => hub,
-        Err(fault) => return Err(fault),
+        Err(fault) => {
+            drop(crew);
+            return Err(fault);
+        }
     };
     let Ok(ends) = Vec::with_capacity(alloc, crew.berths.len()) else {
+        drop(crew);
+        drop(hub);
         return Err(NetFault::NoMemory);
     };
     Ok(Stage { hub, crew, ends })

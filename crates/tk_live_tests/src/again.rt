@@ -43,7 +43,10 @@ fn moves(world: &mut World, events: &[Event]) -> Option<bool> {
 fn story_of(world: World, moved: Option<bool>) -> Option<Story> {
     match moved {
         Some(true) => world.into_story().ok(),
-        _ => None,
+        _ => {
+            drop(world);
+            None
+        }
     }
 }
 
@@ -97,5 +100,7 @@ pub fn comes_again<R: Threads + Sync>(
     story: &Story,
 ) -> Option<bool> {
     let other = stepped(rt, alloc, case, story)?;
-    Some(are_same(story, &other))
+    let same = are_same(story, &other);
+    drop(other);
+    Some(same)
 }

@@ -81,62 +81,105 @@ fn is_whole(alloc: Global, run: Option<Carried>, version: usize, text: &[u8]) ->
     )
 }
 
+/// Whether a case of two monitors is done in memory, its frames in a version. Tests keep what they run in calls of its own and
+/// look at plain answers, since each place that may drop a net or a case is dear to prove.
+fn is_done<R: Threads + Wait + Sync>(
+    rt: &R,
+    alloc: Global,
+    case: Option<Case>,
+    version: usize,
+) -> Option<bool>
+    requires { version < 2 }
+{
+    let mut out = VecSink::new(alloc, ROOM, Vec::new(alloc)).ok()?;
+    let run = in_memory(rt, alloc, case, MOST, None, &mut out);
+    is_whole(alloc, run, version, out.written())
+}
+
 #[test]
 fn two_monitors_over_memory(rt: HostRuntime) -> Result<(), Fail> {
     let alloc = rt.alloc();
-    let mut out = sink(alloc)?;
-    let run = in_memory(&rt, alloc, two_monitors(alloc), MOST, None, &mut out);
-    assert_eq!(rt; is_whole(alloc, run, 0, out.written()), Some(true));
-    let mut out = sink(alloc)?;
-    let case = two_monitors_in_version_2(alloc);
-    let run = in_memory(&rt, alloc, case, MOST, None, &mut out);
-    assert_eq!(rt; is_whole(alloc, run, 1, out.written()), Some(true));
+    let long = is_done(&rt, alloc, two_monitors(alloc), 0);
+    let short = is_done(&rt, alloc, two_monitors_in_version_2(alloc), 1);
+    assert_eq!(rt; (long, short), (Some(true), Some(true)));
     Ok(())
+}
+
+/// The status of a run, whether its sets are right, and whether a new world has the same story.
+fn marks(told: Told) -> (u8, bool, bool) {
+    (told.status, told.right, told.again)
+}
+
+/// The marks of a run of the pages, and whether this stands in its text.
+fn run_pages<R: Threads + Wait + Sync>(
+    rt: &R,
+    alloc: Global,
+    text: &[u8],
+) -> Option<((u8, bool, bool), bool)> {
+    let case = pages(alloc);
+    let mut out = VecSink::new(alloc, ROOM, Vec::new(alloc)).ok()?;
+    let run = in_memory(rt, alloc, case, MOST, None, &mut out)?;
+    Some((marks(run.told), has(out.written(), text)))
 }
 
 #[test]
 fn pages_over_memory(rt: HostRuntime) -> Result<(), Fail> {
-    let alloc = rt.alloc();
-    let mut out = sink(alloc)?;
-    let run = in_memory(&rt, alloc, pages(alloc), MOST, None, &mut out);
-    let seen = run.map(|run| (run.told.status, run.told.right, run.told.again));
-    assert_eq!(rt; seen, Some((0, true, true)));
     let last = b" cut 1:625,625 2:625,625 3:625,625 4:625,625 members ".as_slice();
-    assert!(rt; has(out.written(), last));
+    let seen = run_pages(&rt, rt.alloc(), last);
+    assert_eq!(rt; seen, Some(((0, true, true), true)));
     Ok(())
+}
+
+/// The marks of a run of two feeders that meet at a gate.
+fn run_feeders<R: Threads + Wait + Sync>(
+    rt: &R,
+    alloc: Global,
+    gate: &Meeting,
+    out: &mut VecSink,
+) -> Option<(u8, bool, bool)> {
+    let case = two_feeders(alloc)?;
+    let fails = Vec::from_slice(alloc, &[MOST]).ok()?;
+    let mut net = MemNet::new(alloc, fails, None).ok()?;
+    let told = ended(rt, alloc, case, &mut net, gate, out)?;
+    Some(marks(told))
 }
 
 #[test]
 fn two_feeders_of_a_monitor_run_at_once(rt: HostRuntime) -> Result<(), Fail> {
-    let alloc = rt.alloc();
     let gate = Meeting::new();
-    let mut net = MemNet::new(alloc, vec![in alloc; MOST]?, None)?;
-    let mut out = sink(alloc)?;
-    let Some(case) = two_feeders(alloc) else {
-        return Err("out of memory")?;
-    };
-    let told = ended(&rt, alloc, case, &mut net, &gate, &mut out);
-    let told = told.map(|told| (told.status, told.right, told.again));
-    assert_eq!(rt; (told, gate.missed()), (Some((0, true, true)), false));
-    assert!(rt; has(out.written(), b" cut 1:1,2 members a\n"));
+    let mut out = sink(rt.alloc())?;
+    let seen = run_feeders(&rt, rt.alloc(), &gate, &mut out);
+    let is_whole = has(out.written(), b" cut 1:1,2 members a\n");
+    drop(out);
+    assert_eq!(rt; (seen, is_whole), (Some((0, true, true)), true));
+    assert!(rt; !gate.missed());
     Ok(())
+}
+
+/// What is told of two monitors over sockets, and how many bytes their links took.
+fn run_sockets<R: Threads + Wait + Sync + std::net::Net>(
+    rt: &R,
+    alloc: Global,
+    out: &mut VecSink,
+) -> Option<(Told, u64)> {
+    let case = two_monitors(alloc)?;
+    let mut net = LoopNet::new(alloc, rt).ok()?;
+    let told = ended(rt, alloc, case, &mut net, &OpenGate, out)?;
+    Some((told, net.taken()))
 }
 
 #[test]
 fn two_monitors_over_sockets(rt: HostRuntime) -> Result<(), Fail> {
-    let alloc = rt.alloc();
-    let mut net = LoopNet::new(alloc, &rt)?;
-    let mut out = sink(alloc)?;
-    let Some(case) = two_monitors(alloc) else {
-        return Err("out of memory")?;
-    };
-    let Some(told) = ended(&rt, alloc, case, &mut net, &OpenGate, &mut out) else {
+    let mut out = sink(rt.alloc())?;
+    let run = run_sockets(&rt, rt.alloc(), &mut out);
+    let is_whole = has(out.written(), LAST);
+    drop(out);
+    let Some((told, taken)) = run else {
         return Err("out of memory")?;
     };
     let bytes = 36 + u128::from(told.bytes[0]);
-    assert_eq!(rt; (told.status, told.right, told.again), (0, true, true));
-    assert_eq!(rt; u128::from(net.taken()), bytes);
-    assert!(rt; has(out.written(), LAST));
+    assert_eq!(rt; (marks(told), is_whole), ((0, true, true), true));
+    assert_eq!(rt; u128::from(taken), bytes);
     Ok(())
 }
 

@@ -13,7 +13,7 @@ use tk_rank::Rank;
 
 /// The level of each object at one monitor, its factor, and the members. A value is a level without its factor, so
 /// that a change writes the level alone.
-/// Before the first Assign there are no members; the trees then stand over object 1, and nobody asks them.
+/// Before the first Assign there are no members; the rank then has object 1 for one, and nobody asks it.
 #[derive(Debug, Drop)]
 pub(crate) struct Board {
     rank: Rank,

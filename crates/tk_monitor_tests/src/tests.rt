@@ -15,6 +15,7 @@ fn logs_of(alloc: Global, records: &[u8]) -> Result<Logs, Fail> {
     let names = Catalog::read(alloc, b"a\nb\n")?;
     let part = Part::read(alloc, records, &names)?;
     let objects = names.len() as u32;
+    drop(names);
     let logs = Logs::new(alloc, vec![in alloc; (Mon(1), part)]?, objects)?;
     Ok(logs)
 }
@@ -41,6 +42,7 @@ fn monitor(alloc: Global, records: &[u8]) -> Result<Monitor, Fail>
     let settings = settings_of(&logs)?;
     if logs.monitors() == 1 && logs.feeders(Mon(1)) == 1 {
         let parts = logs.parts(alloc, Mon(1))?;
+        drop(logs);
         let from = Places::new(vec![in alloc; 0]?);
         let monitor = Monitor::new(alloc, &settings, Mon(1), parts, &from)?;
         Ok(monitor)
@@ -173,15 +175,18 @@ fn numbers(m: &Monitor) -> Numbers {
     (m.seq(), m.sent(), m.trail().len(), m.slack(), marks)
 }
 
-/// Whether a new monitor over such records answers so, and its numbers then.
+/// Whether a new monitor over such records answers so, and its numbers then. A monitor is dropped before what it answered
+/// is looked at, since each place that may drop one is dear to prove.
 fn played(
     alloc: Global,
     records: &[u8],
     steps: &[(Does<'_>, Answer)],
 ) -> Result<(bool, Numbers), Fail> {
     let mut m = monitor(alloc, records)?;
-    let all = answers(alloc, &mut m, steps)?;
-    Ok((all, numbers(&m)))
+    let all = answers(alloc, &mut m, steps);
+    let numbers = numbers(&m);
+    drop(m);
+    Ok((all?, numbers))
 }
 
 #[test]
@@ -275,18 +280,58 @@ fn nothing_is_told_within_the_slack(rt: HostRuntime) -> Result<(), Fail> {
     Ok(())
 }
 
-/// Whether the last of these steps made a monitor over such records send this frame; and its places and the level of b.
+/// How many changes of its only feeder a monitor raised.
+fn place(m: &Monitor) -> Option<u32> {
+    let places = m.places().ok()?;
+    if places.len() == 1 {
+        Some(places.at(0))
+    } else {
+        None
+    }
+}
+
+/// Whether the last of some steps made a monitor send a frame, then its place and the level of b.
+type Said = (bool, Option<u32>, i128);
+
+/// What is seen of a monitor behind these steps, and of this frame.
+fn said(
+    alloc: Global,
+    m: &mut Monitor,
+    steps: &[(Does<'_>, Answer)],
+    frame: &Frame,
+) -> Result<Said, Fail>
+    requires feeder { length m.old.setup.parts ≡ 1 }
+    requires objects { m.old.setup.objects ≡ 2 }
+{
+    let all = answers(alloc, m, steps)?;
+    let sent = m.sent();
+    let is_said = sent > 0 && *m.sent_at(sent - 1) == *frame;
+    Ok((all && is_said, place(m), m.level(Obj(2))))
+}
+
+/// The same of a new monitor over such records.
 fn says(
     alloc: Global,
     records: &[u8],
     steps: &[(Does<'_>, Answer)],
-    wanted: &Frame,
-) -> Result<(bool, Places, i128), Fail> {
+    frame: Frame,
+) -> Result<Said, Fail> {
     let mut m = monitor(alloc, records)?;
-    let all = answers(alloc, &mut m, steps)?;
-    let sent = m.sent();
-    let is_said = sent > 0 && *m.sent_at(sent - 1) == *wanted;
-    Ok((all && is_said, m.places()?, m.level(Obj(2))))
+    let said = said(alloc, &mut m, steps, &frame);
+    drop(m);
+    said
+}
+
+/// Report 1 with the border 0, the failed object b, and the values a 0 and b 4.
+fn report(alloc: Global) -> Result<Frame, Fail> {
+    let failed = set(alloc, &[2])?;
+    let values = pairs(alloc, &[(1, 0), (2, 4)])?;
+    Ok(Frame::Report {
+        seq: 1,
+        border: 0,
+        failed,
+        values,
+    })
 }
 
 #[test]
@@ -297,16 +342,21 @@ fn a_report_holds_what_is_broken(rt: HostRuntime) -> Result<(), Fail> {
         (Does::Check, Answer::Checked(Checked::Reported)),
         (Does::Raise, Answer::Raised(Raised::Ended)),
     ];
-    let report = Frame::Report {
-        seq: 1,
-        border: 0,
-        failed: set(rt.alloc(), &[2])?,
-        values: pairs(rt.alloc(), &[(1, 0), (2, 4)])?,
-    };
-    let (is_said, places, level) = says(rt.alloc(), b"b,4\n", &steps, &report)?;
-    assert_eq!(rt; (is_said, level), (true, 1));
-    assert!(rt; places == Places::new(vec![in rt.alloc(); 1]?));
+    let report = report(rt.alloc())?;
+    let said = says(rt.alloc(), b"b,4\n", &steps, report)?;
+    assert_eq!(rt; said, (true, Some(1), 1));
     Ok(())
+}
+
+/// Values of round 1 under an Assign, with a border, the value 0 of a, and this one of b.
+fn values(alloc: Global, seq: u64, border: i128, b: i128) -> Result<Frame, Fail> {
+    let values = pairs(alloc, &[(1, 0), (2, b)])?;
+    Ok(Frame::Values {
+        round: 1,
+        seq,
+        border,
+        values,
+    })
 }
 
 #[test]
@@ -315,14 +365,9 @@ fn a_collect_is_answered_by_values(rt: HostRuntime) -> Result<(), Fail> {
         assigned(&[(2, -3)]),
         (Does::Collect(&[1, 2]), Answer::Taken),
     ];
-    let answer = Frame::Values {
-        round: 1,
-        seq: 1,
-        border: 0,
-        values: pairs(rt.alloc(), &[(1, 0), (2, 0)])?,
-    };
-    let (is_said, _, level) = says(rt.alloc(), b"b,4\n", &steps, &answer)?;
-    assert_eq!(rt; (is_said, level), (true, -3));
+    let answer = values(rt.alloc(), 1, 0, 0)?;
+    let said = says(rt.alloc(), b"b,4\n", &steps, answer)?;
+    assert_eq!(rt; said, (true, Some(0), -3));
     Ok(())
 }
 
@@ -334,13 +379,8 @@ fn values_stay_under_other_factors(rt: HostRuntime) -> Result<(), Fail> {
         (Does::Assign(2, &[1], &[(1, 2), (2, -9)]), Answer::Taken),
         (Does::Collect(&[1, 2]), Answer::Taken),
     ];
-    let answer = Frame::Values {
-        round: 1,
-        seq: 2,
-        border: 2,
-        values: pairs(rt.alloc(), &[(1, 0), (2, 4)])?,
-    };
-    let (is_said, _, level) = says(rt.alloc(), b"b,4\n", &steps, &answer)?;
-    assert_eq!(rt; (is_said, level), (true, -5));
+    let answer = values(rt.alloc(), 2, 2, 4)?;
+    let said = says(rt.alloc(), b"b,4\n", &steps, answer)?;
+    assert_eq!(rt; said, (true, Some(1), -5));
     Ok(())
 }

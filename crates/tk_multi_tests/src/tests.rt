@@ -135,24 +135,27 @@ fn count(alloc: Global, story: &Story, out: &mut VecSink) -> bool {
     }
 }
 
-/// Lets a query finish alone, and counts what happened.
+/// Lets a query finish alone, and counts what happened. Worlds and stories are dropped by name, since each place that drops
+/// one by itself is dear to prove.
 fn finish_and_count(alloc: Global, mut world: World, out: &mut VecSink) -> bool {
     if finish(alloc, &mut world).is_err() {
+        drop(world);
         return false;
     }
-    match world.into_story() {
-        Ok(story) => count(alloc, &story, out),
-        Err(_) => false,
-    }
+    let Ok(story) = world.into_story() else {
+        return false;
+    };
+    let counted = count(alloc, &story, out);
+    drop(story);
+    counted
 }
 
 fn finish_all(alloc: Global, multi: Multi, out: &mut VecSink) -> bool {
+    let mut all = true;
     for world in multi.into_worlds() {
-        if !finish_and_count(alloc, world, out) {
-            return false;
-        }
+        all = finish_and_count(alloc, world, out) && all;
     }
-    true
+    all
 }
 
 /// Writes down what happens to each query.
@@ -166,7 +169,9 @@ fn run(
     let names = Catalog::read(alloc, b"a\nb\n").ok()?;
     let logs = logs_of(alloc, &names, files.0, files.1)?;
     let mut multi = multi(alloc, &names, logs, queries)?.ok()?;
-    Some(play(alloc, &mut multi, order) && finish_all(alloc, multi, out))
+    let played = play(alloc, &mut multi, order);
+    let finished = finish_all(alloc, multi, out);
+    Some(played && finished)
 }
 
 #[test]

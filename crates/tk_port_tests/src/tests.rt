@@ -12,7 +12,7 @@ use tk_frames::{BadFrame, Frame};
 use tk_input::{Catalog, Logs, Part};
 use tk_monitor::{Checked, Monitor, Raised};
 use tk_port::{Port, Turn};
-use tk_story::Received;
+use tk_story::{MonEnd, Received};
 use tk_trail::MonitorRefusal;
 use tk_wire::{Pipe, PipeWire, Pushed, Wire};
 
@@ -68,6 +68,16 @@ const GREETED_2: [u8; 27] = [
     0, 0, 0, 14, 1, 0, 0, 0, 0, 0, 0, 0, 5, 2, 0, 0, 0, 1, 0, 0, 0, 5, 6, 1, 1, 1, 0,
 ];
 
+/// Logs of the objects a and b, with one part of these records.
+fn logs_of(alloc: Global, records: &[u8]) -> Result<Logs, Fail> {
+    let names = Catalog::read(alloc, b"a\nb\n")?;
+    let part = Part::read(alloc, records, &names)?;
+    let objects = names.len() as u32;
+    drop(names);
+    let logs = Logs::new(alloc, vec![in alloc; (Mon(1), part)]?, objects)?;
+    Ok(logs)
+}
+
 /// Monitor 1 over these records of the objects a and b.
 fn monitor(alloc: Global, records: &[u8]) -> Result<Monitor, Fail>
     ensures setup { IfOk result (λ m. IsSetup m.setup) }
@@ -75,10 +85,7 @@ fn monitor(alloc: Global, records: &[u8]) -> Result<Monitor, Fail>
     ensures feeder { IfOk result (λ m. length m.setup.parts ≡ 1) }
     ensures trail { IfOk result (λ m. m.trail ≡ []) }
 {
-    let names = Catalog::read(alloc, b"a\nb\n")?;
-    let part = Part::read(alloc, records, &names)?;
-    let objects = names.len() as u32;
-    let logs = Logs::new(alloc, vec![in alloc; (Mon(1), part)]?, objects)?;
+    let logs = logs_of(alloc, records)?;
     let settings = Settings::new(1, 0, 1, 2, 1)?;
     if settings.objects() == 2
         && logs.objects() == 2
@@ -86,6 +93,7 @@ fn monitor(alloc: Global, records: &[u8]) -> Result<Monitor, Fail>
         && logs.feeders(Mon(1)) == 1
     {
         let parts = logs.parts(alloc, Mon(1))?;
+        drop(logs);
         let from = Places::new(vec![in alloc; 0]?);
         let monitor = Monitor::new(alloc, &settings, Mon(1), parts, &from)?;
         Ok(monitor)
@@ -142,6 +150,17 @@ struct Seen {
     taken: u64,
 }
 
+/// What a port leaves that it did not take, and how many bytes its wire took. Ports are dropped by such calls alone, since
+/// each place that drops one by itself is dear to prove.
+fn left_by(port: Port<PipeWire>) -> (Option<Received>, u64) {
+    let (end, wire) = port.into_end();
+    let taken = wire.taken();
+    drop(wire);
+    let MonEnd { monitor, odd, .. } = end;
+    drop(monitor);
+    (odd, taken)
+}
+
 /// What is seen of a port over a wire whose calls move so many bytes and of which one fails, once these bytes came.
 fn played(alloc: Global, bytes: &[u8], piece: usize, call: u64) -> Result<Seen, Fail>
     requires { (0 < piece) × (piece ≤ 65536) }
@@ -152,12 +171,12 @@ fn played(alloc: Global, bytes: &[u8], piece: usize, call: u64) -> Result<Seen, 
     send(&mut port, &mut pipe, bytes);
     let turns = [turned(&mut port), turned(&mut port), turned(&mut port)];
     let is_shut = port.halted();
-    let (end, wire) = port.into_end();
+    let (odd, taken) = left_by(port);
     Ok(Seen {
         turns,
         is_shut,
-        odd: end.odd,
-        taken: wire.taken(),
+        odd,
+        taken,
     })
 }
 
@@ -280,7 +299,9 @@ fn greeted(
 {
     let mut pipe = Pipe::new(alloc, 256)?;
     let mut port = port(alloc, b"", version, 64, Vec::new(alloc))?;
-    Ok(exchanged(&mut port, &mut pipe, assign, out))
+    let answers = exchanged(&mut port, &mut pipe, assign, out);
+    drop(port);
+    Ok(answers)
 }
 
 #[test]
@@ -317,6 +338,7 @@ fn a_raise_is_counted_whatever_the_wire_does(rt: HostRuntime) -> Result<(), Fail
     send(&mut port, &mut pipe, &TWICE);
     let seen = by_hand(&mut port);
     let entries = port.monitor().trail().len();
+    drop(port);
     let done = Raised::Done { broken: true };
     let answers = (
         Checked::Nothing,

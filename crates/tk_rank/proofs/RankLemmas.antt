@@ -18,7 +18,7 @@ use Rattle.tk_border.specs.Levels.{level_at, lowered, raised, least_of, greatest
 use Rattle.tk_border.proofs.LevelLemmas.{least_some, small_least, outsiders_ascend}
 use Rattle.tk_border.proofs.RisingLemmas.{Rises, rises, rises-filter, rises-objects, same_rising, is_in-filter, is_in-objects, is_in-low}
 use Rattle.tk_rank.proofs.SidesLemmas.{levels_read}
-use Rattle.tk_rank.specs.Tree.{leaf_at, standing, is_over, HasRoom, TreeView}
+use Rattle.tk_rank.specs.Tree.{leaf_at, standing, is_over, HasRoom, LeavesView}
 use Rattle.tk_rank.specs.Sides.{outsider_leaf, levels_of, AreMemberLeaves, AreOutsiderLeaves, AreSides, IsKept}
 
 -- ---- a filter with a map
@@ -144,7 +144,7 @@ outsiders_same members n size le =
     same_rising 0 0 (filter q (objects size)) (filter r (objects n)) (rises-filter q 0 (objects size) (rises-objects size)) (rises-filter r 0 (objects n) (rises-objects n))
     (λ o. is_in-filter q (objects size) o ∙ outsiders_kept members n size o le ∙ sym (is_in-filter r (objects n) o))
 
-pub outsiders_stand : (levels : List ℤ) (members : List ℕ) (room : ℕ) (m : TreeView) (o : List (Option ℤ)) → IsKept levels members room m o → greatest_of (standing o (objects (length o))) ≡ greatest_outside levels members
+pub outsiders_stand : (levels : List ℤ) (members : List ℕ) (room : ℕ) (m : LeavesView) (o : List (Option ℤ)) → IsKept levels members room m o → greatest_of (standing o (objects (length o))) ≡ greatest_outside levels members
 outsiders_stand levels members room m o kept =
     let size = length o in
     let n = length levels in
@@ -176,7 +176,7 @@ outside_same members r n size le held =
     ∙ held_test (is_in members o) (is_in r o) (is_in (objects n) o) (held o)
     ∙ sym (is_in-filter s (objects n) o))
 
-pub outside_stand : (levels : List ℤ) (members r : List ℕ) (room : ℕ) (m : TreeView) (o : List (Option ℤ)) → IsKept levels members room m o → ((q : ℕ) → is_in members q ≡ true → is_in r q ≡ true) → greatest_of (standing o (outside (length o) r)) ≡ greatest_outside levels r
+pub outside_stand : (levels : List ℤ) (members r : List ℕ) (room : ℕ) (m : LeavesView) (o : List (Option ℤ)) → IsKept levels members room m o → ((q : ℕ) → is_in members q ≡ true → is_in r q ≡ true) → greatest_of (standing o (outside (length o) r)) ≡ greatest_outside levels r
 outside_stand levels members r room m o kept held =
     let size = length o in
     let n = length levels in
@@ -203,7 +203,7 @@ above_one levels p o x q sides = elim (cases_lt 0 q) [
   | inr none ↦ let out : is_in (objects (length o)) q ≡ false = is_in-low 0 (objects (length o)) q (rises-objects (length o)) none in rw out refl
 ]
 
-pub above_stand : (levels : List ℤ) (members : List ℕ) (room : ℕ) (m : TreeView) (o : List (Option ℤ)) (x : ℤ) → IsKept levels members room m o → filter (λ q. is_over x (leaf_at o q)) (objects (length o)) ≡ above levels members x
+pub above_stand : (levels : List ℤ) (members : List ℕ) (room : ℕ) (m : LeavesView) (o : List (Option ℤ)) (x : ℤ) → IsKept levels members room m o → filter (λ q. is_over x (leaf_at o q)) (objects (length o)) ≡ above levels members x
 above_stand levels members room m o x kept =
     let size = length o in
     let n = length levels in
@@ -238,7 +238,7 @@ from_one members up k d within = subst (λ x. 0 < x) (get_or_default members k 0
 
 -- ---- what is kept
 
-kept_set : (levels : List ℤ) (members : List ℕ) (capacity : ℕ) (m : TreeView) (o : List (Option ℤ)) (i : ℕ) (x : ℤ) (m' : TreeView) (o' : List (Option ℤ)) → unsigned_abs x < 2 ^ 114 → m'.room ≡ m.room → IsKept levels members capacity m o → AreSides (set levels i x) members m'.leaves o' → IsKept (set levels i x) members capacity m' o'
+kept_set : (levels : List ℤ) (members : List ℕ) (capacity : ℕ) (m : LeavesView) (o : List (Option ℤ)) (i : ℕ) (x : ℤ) (m' : LeavesView) (o' : List (Option ℤ)) → unsigned_abs x < 2 ^ 114 → m'.room ≡ m.room → IsKept levels members capacity m o → AreSides (set levels i x) members m'.leaves o' → IsKept (set levels i x) members capacity m' o'
 kept_set levels members capacity m o i x m' o' small room kept sides =
     let same = length-set levels i x in
     record {
@@ -252,30 +252,30 @@ kept_set levels members capacity m o i x m' o' small room kept sides =
         };
       };
       list_room = omega (arith, same, kept.list_room);
-      tree_room = subst (λ n. HasRoom n m'.room) (sym same) (subst (HasRoom (length levels)) (sym room) kept.tree_room);
+      side_room = subst (λ n. HasRoom n m'.room) (sym same) (subst (HasRoom (length levels)) (sym room) kept.side_room);
       sides = sides;
     }
 
 -- the same of what is read off the leaves
-pub read_set : (n : ℕ) (levels : List ℤ) (members : List ℕ) (capacity : ℕ) (m : TreeView) (o : List (Option ℤ)) (i : ℕ) (x : ℤ) (m' : TreeView) (o' : List (Option ℤ)) → length levels ≡ n → unsigned_abs x < 2 ^ 114 → m'.room ≡ m.room → IsKept levels members capacity m o → AreSides (set levels i x) members m'.leaves o' → (levels_of n members m'.leaves o' ≡ set levels i x) × IsKept (levels_of n members m'.leaves o') members capacity m' o'
+pub read_set : (n : ℕ) (levels : List ℤ) (members : List ℕ) (capacity : ℕ) (m : LeavesView) (o : List (Option ℤ)) (i : ℕ) (x : ℤ) (m' : LeavesView) (o' : List (Option ℤ)) → length levels ≡ n → unsigned_abs x < 2 ^ 114 → m'.room ≡ m.room → IsKept levels members capacity m o → AreSides (set levels i x) members m'.leaves o' → (levels_of n members m'.leaves o' ≡ set levels i x) × IsKept (levels_of n members m'.leaves o') members capacity m' o'
 read_set n levels members capacity m o i x m' o' long small room kept sides =
     let read = levels_read (set levels i x) members m'.leaves o' n (length-set levels i x ∙ long) sides in
     (read, subst (λ l. IsKept l members capacity m' o') (sym read) (kept_set levels members capacity m o i x m' o' small room kept sides))
 
-pub read_members : (n : ℕ) (levels : List ℤ) (members : List ℕ) (capacity : ℕ) (m : TreeView) (o : List (Option ℤ)) → length levels ≡ n → AreObjects levels → AreSmall levels → AreMembers (length levels) members → IsAscending members → length levels ≤ capacity → HasRoom (length levels) m.room → AreSides levels members m.leaves o → (levels_of n members m.leaves o ≡ levels) × IsKept (levels_of n members m.leaves o) members capacity m o
-read_members n levels members capacity m o long objects small are up list_room tree_room sides =
+pub read_members : (n : ℕ) (levels : List ℤ) (members : List ℕ) (capacity : ℕ) (m : LeavesView) (o : List (Option ℤ)) → length levels ≡ n → AreObjects levels → AreSmall levels → AreMembers (length levels) members → IsAscending members → length levels ≤ capacity → HasRoom (length levels) m.room → AreSides levels members m.leaves o → (levels_of n members m.leaves o ≡ levels) × IsKept (levels_of n members m.leaves o) members capacity m o
+read_members n levels members capacity m o long objects small are up list_room side_room sides =
     let read = levels_read levels members m.leaves o n long sides in (
       read,
       subst (λ l. IsKept l members capacity m o) (sym read) (record {
         ranked = record { objects = objects; small = small; ascends = up; members = are };
         list_room = list_room;
-        tree_room = tree_room;
+        side_room = side_room;
         sides = sides;
       }),
     )
 
 -- the least member, where its tree has it with the sign turned
-pub least_from_root : (levels : List ℤ) (members : List ℕ) (room : ℕ) (m : TreeView) (o : List (Option ℤ)) (root : Option ℤ) (r : ℤ) → IsKept levels members room m o → root ≡ greatest_of (standing m.leaves (objects (length m.leaves))) → root ≡ Some r → (least_member levels members ≡ Some (pos 0 -ℤ r)) × (unsigned_abs r < 2 ^ 114)
+pub least_from_root : (levels : List ℤ) (members : List ℕ) (room : ℕ) (m : LeavesView) (o : List (Option ℤ)) (root : Option ℤ) (r : ℤ) → IsKept levels members room m o → root ≡ greatest_of (standing m.leaves (objects (length m.leaves))) → root ≡ Some r → (least_member levels members ≡ Some (pos 0 -ℤ r)) × (unsigned_abs r < 2 ^ 114)
 least_from_root levels members room m o root r kept stands is =
     let (x, least) = least_there levels members (length levels) kept.ranked.members in
     let turned : Some r ≡ Some (pos 0 -ℤ x) = sym is ∙ stands ∙ members_stand levels members m.leaves kept.sides.members ∙ ap (option_map (λ y. pos 0 -ℤ y)) least in
@@ -283,7 +283,7 @@ least_from_root levels members room m o root r kept stands is =
     let small = small_least levels members x kept.ranked.small least in
     (least ∙ ap Some (omega (arith, ints)), omega (arith, ints))
 
-pub root_there : (levels : List ℤ) (members : List ℕ) (room : ℕ) (m : TreeView) (o : List (Option ℤ)) (root : Option ℤ) → IsKept levels members room m o → root ≡ greatest_of (standing m.leaves (objects (length m.leaves))) → IsSome root
+pub root_there : (levels : List ℤ) (members : List ℕ) (room : ℕ) (m : LeavesView) (o : List (Option ℤ)) (root : Option ℤ) → IsKept levels members room m o → root ≡ greatest_of (standing m.leaves (objects (length m.leaves))) → IsSome root
 root_there levels members room m o root kept stands =
     let (x, least) = least_there levels members (length levels) kept.ranked.members in
     subst IsSome (sym (stands ∙ members_stand levels members m.leaves kept.sides.members ∙ ap (option_map (λ y. pos 0 -ℤ y)) least)) refl

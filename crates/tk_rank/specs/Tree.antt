@@ -28,8 +28,8 @@ width_of nodes = length nodes / 2
 abbrev pub leaves_of : List (Option ℤ) → List (Option ℤ)
 leaves_of nodes = drop (width_of nodes) nodes
 
--- a tree as its leaves, and how many of them there is room for
-pub record TreeView : Type 0 where
+-- leaves, and how many of them there is room for
+pub record LeavesView : Type 0 where
   pub leaves : List (Option ℤ)
   pub room : ℕ
 

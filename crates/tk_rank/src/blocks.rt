@@ -23,9 +23,9 @@ pub(crate) struct Blocks<N: Node> {
 impl<N: Node> Model for Blocks<N> {
     ghost use Rattle.std.specs.Prelude.{map, vec_capacity};
     ghost use Rattle.tk_rank.specs.Blocks.{AreBlocksIn};
-    ghost use Rattle.tk_rank.specs.Tree.{TreeView};
+    ghost use Rattle.tk_rank.specs.Tree.{LeavesView};
 
-    ghost Value = { TreeView };
+    ghost Value = { LeavesView };
 
     ghost view = { λ b. record { leaves = map N.number b.leaves.items; room = vec_capacity b.leaves } };
 

@@ -22,8 +22,8 @@ mod narrow;
 mod node;
 mod nodes;
 mod rank;
+mod side;
 mod sides;
-mod tree;
 mod wide;
 
 pub use rank::Rank;

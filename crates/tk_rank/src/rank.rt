@@ -3,11 +3,11 @@ ghost use Rattle.tk_base.specs.Objects.{is_in};
 ghost use Rattle.tk_border.specs.Levels.{level_at, least_member, greatest_outside, above, border, own_border, holds, AreMembers, AreObjects, AreSmall};
 ghost use Rattle.tk_rank.specs.Rank.{IsRanked};
 
+use crate::side::Side;
 use crate::sides::{
     are_listed, holds_all, list_members, number_in, place_of, read_member, release, relevel, seat,
     seat_of, take,
 };
-use crate::tree::Tree;
 use std::alloc::Global;
 use std::marker::Model;
 use tk_base::{NoMemory, Obj, ObjSet};
@@ -17,8 +17,8 @@ use tk_base::{NoMemory, Obj, ObjSet};
 pub struct Rank {
     count: usize,
     list: Vec<Obj>,
-    members: Tree,
-    outsiders: Tree,
+    members: Side,
+    outsiders: Side,
 }
 
 impl Model for Rank {
@@ -50,16 +50,16 @@ impl Rank {
         // Their number is read for its clause, that they ascend.
         let _ = members.len();
         let mut list = Vec::with_capacity(alloc, levels.len())?;
-        let mut member_tree = Tree::with_room(alloc, levels.len())?;
-        let mut outsider_tree = Tree::with_room(alloc, levels.len())?;
-        seat(levels, &mut outsider_tree);
+        let mut member_side = Side::with_room(alloc, levels.len())?;
+        let mut outsider_side = Side::with_room(alloc, levels.len())?;
+        seat(levels, &mut outsider_side);
         list_members(&mut list, members);
-        take(members, &mut member_tree, &mut outsider_tree);
+        take(members, &mut member_side, &mut outsider_side);
         Ok(Rank {
             count: levels.len(),
             list,
-            members: member_tree,
-            outsiders: outsider_tree,
+            members: member_side,
+            outsiders: outsider_side,
         })
     }
 

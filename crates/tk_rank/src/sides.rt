@@ -1,4 +1,4 @@
-// The members in one tree and the outsiders in another.
+// The members on one side and the outsiders on another.
 ghost use Rattle.std.specs.Prelude.{◌≡◌, ◌-◌, ◌^◌, ◌<◌, ◌≤◌, ℤ, true, false, unsigned_abs, IfNone, IfSome, [], length, All, Some, None, slice_index, slice_index_or, vec_capacity};
 ghost use Rattle.tk_base.specs.Ascending.{IsAscending, numbers_of};
 ghost use Rattle.tk_base.specs.Objects.{is_in};
@@ -6,10 +6,10 @@ ghost use Rattle.tk_border.specs.Levels.{holds, AreObjects, AreSmall};
 ghost use Rattle.tk_rank.specs.Sides.{AreOutsiderLeaves, AreSmallLeaves, IsMemberLevel, Releases, Relevels, Takes};
 ghost use Rattle.tk_rank.specs.Tree.{HasRoom};
 
-use crate::tree::Tree;
+use crate::side::Side;
 use tk_base::{Obj, ObjSet};
 
-/// The place of an object in the tree of the outsiders.
+/// The place of an object on the side of the outsiders.
 pub(crate) fn seat_of(o: Obj) -> usize
     requires { 0 < o.0 }
     ensures { result ≡ o.0 - 1 }
@@ -18,7 +18,7 @@ pub(crate) fn seat_of(o: Obj) -> usize
 }
 
 /// Makes every object an outsider.
-pub(crate) fn seat(levels: &[i128], outsiders: &mut Tree)
+pub(crate) fn seat(levels: &[i128], outsiders: &mut Side)
     requires objects { AreObjects levels.now }
     requires sizes { AreSmall levels.now }
     requires room { HasRoom (length levels.now) outsiders.old.room }
@@ -31,13 +31,13 @@ pub(crate) fn seat(levels: &[i128], outsiders: &mut Tree)
 }
 
 /// The number at a place where there is one.
-pub(crate) fn number_in(tree: &Tree, place: usize) -> i128
-    requires within { place < length tree.now.leaves }
-    requires small { AreSmallLeaves tree.now.leaves }
-    ensures value { (x : ℤ) → slice_index_or tree.now.leaves place None ≡ Some x → result ≡ x }
+pub(crate) fn number_in(side: &Side, place: usize) -> i128
+    requires within { place < length side.now.leaves }
+    requires small { AreSmallLeaves side.now.leaves }
+    ensures value { (x : ℤ) → slice_index_or side.now.leaves place None ≡ Some x → result ≡ x }
     ensures size { unsigned_abs result < 2 ^ 114 }
 {
-    match tree.leaf(place) {
+    match side.leaf(place) {
         Some(number) => number,
         None => 0,
     }
@@ -58,7 +58,7 @@ pub(crate) fn place_of(list: &[Obj], o: Obj) -> Option<usize>
 }
 
 /// The level of a member, whose leaf has it with the sign turned.
-pub(crate) fn read_member(o: Obj, list: &[Obj], members: &Tree) -> i128
+pub(crate) fn read_member(o: Obj, list: &[Obj], members: &Side) -> i128
     requires ascends { IsAscending (numbers_of list.now) }
     requires room { length list.now ≤ length members.now.leaves }
     requires small { AreSmallLeaves members.now.leaves }
@@ -72,7 +72,7 @@ pub(crate) fn read_member(o: Obj, list: &[Obj], members: &Tree) -> i128
 }
 
 /// Gives an object another level on its side.
-pub(crate) fn relevel(o: Obj, level: i128, list: &[Obj], members: &mut Tree, outsiders: &mut Tree)
+pub(crate) fn relevel(o: Obj, level: i128, list: &[Obj], members: &mut Side, outsiders: &mut Side)
     requires from_one { 0 < o.0 }
     requires within { o.0 ≤ length outsiders.old.leaves }
     requires ascends { IsAscending (numbers_of list.now) }
@@ -82,7 +82,7 @@ pub(crate) fn relevel(o: Obj, level: i128, list: &[Obj], members: &mut Tree, out
         (members.old.leaves, outsiders.old.leaves) (members.new.leaves, outsiders.new.leaves) }
     ensures room { members.new.room ≡ members.old.room }
 {
-    // Most objects are outsiders: their tree alone is read then.
+    // Most objects are outsiders: their side alone is read then.
     if outsiders.leaf(seat_of(o)).is_some() {
         outsiders.set(seat_of(o), level);
     } else if let Some(place) = place_of(list, o) {
@@ -91,7 +91,7 @@ pub(crate) fn relevel(o: Obj, level: i128, list: &[Obj], members: &mut Tree, out
 }
 
 /// Makes the members outsiders.
-pub(crate) fn release(list: &[Obj], members: &Tree, outsiders: &mut Tree)
+pub(crate) fn release(list: &[Obj], members: &Side, outsiders: &mut Side)
     requires ascends { IsAscending (numbers_of list.now) }
     requires within { All (λ o. o ≤ length outsiders.old.leaves) (numbers_of list.now) }
     requires room { length list.now ≤ length members.now.leaves }
@@ -105,7 +105,7 @@ pub(crate) fn release(list: &[Obj], members: &Tree, outsiders: &mut Tree)
 }
 
 /// Makes some outsiders the members, where there are none.
-pub(crate) fn take(new: &ObjSet, members: &mut Tree, outsiders: &mut Tree)
+pub(crate) fn take(new: &ObjSet, members: &mut Side, outsiders: &mut Side)
     requires few { length new.now ≤ 65536 }
     requires room { HasRoom (length new.now) members.old.room }
     requires within { All (λ o. o ≤ length outsiders.old.leaves) new.now }

@@ -1,4 +1,4 @@
-//! Tests of tk_rank over its public calls: levels, members and borders, and the trees beside the scans of tk_border.
+//! Tests of tk_rank over its public calls: levels, members and borders, and a rank beside the scans of tk_border.
 #![tactic(auto)]
 
 #[cfg(test)]

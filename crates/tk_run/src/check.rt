@@ -56,7 +56,7 @@ pub fn serve_check<F: Files, O: Sink>(
     a_finished_run_is_sound();
     match print_yes(alloc, &story, &names, out) {
         Ok(()) => Outcome::done(alloc, story),
-        Err(PrintFault::WriteFailed) => Outcome::ended(alloc, Status::WriteFault),
-        Err(PrintFault::NoMemory) => Outcome::ended(alloc, Status::NoMemory),
+        Err(PrintFault::WriteFailed) => Outcome::without(alloc, story, Status::WriteFault),
+        Err(PrintFault::NoMemory) => Outcome::without(alloc, story, Status::NoMemory),
     }
 }

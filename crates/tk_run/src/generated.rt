@@ -32,7 +32,7 @@ pub fn serve<O: Sink>(alloc: Global, words: &Generate, out: &mut O) -> Outcome
     };
     match print_summary(alloc, &story, &names, out) {
         Ok(()) => Outcome::done(alloc, story),
-        Err(PrintFault::WriteFailed) => Outcome::ended(alloc, Status::WriteFault),
-        Err(PrintFault::NoMemory) => Outcome::ended(alloc, Status::NoMemory),
+        Err(PrintFault::WriteFailed) => Outcome::without(alloc, story, Status::WriteFault),
+        Err(PrintFault::NoMemory) => Outcome::without(alloc, story, Status::NoMemory),
     }
 }

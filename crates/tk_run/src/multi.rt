@@ -89,7 +89,7 @@ pub fn serve_queries<R: Threads + Sync, F: Files, O: Sink>(
     a_finished_run_is_sound();
     match print_queries(alloc, &queries, names.as_slice(), stories.as_slice(), out) {
         Ok(()) => Outcome::several(stories),
-        Err(PrintFault::WriteFailed) => Outcome::ended(alloc, Status::WriteFault),
-        Err(PrintFault::NoMemory) => Outcome::ended(alloc, Status::NoMemory),
+        Err(PrintFault::WriteFailed) => Outcome::without(alloc, stories, Status::WriteFault),
+        Err(PrintFault::NoMemory) => Outcome::without(alloc, stories, Status::NoMemory),
     }
 }

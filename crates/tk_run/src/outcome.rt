@@ -27,6 +27,16 @@ impl Outcome {
         }
     }
 
+    /// A run that ended without what it told. That is dropped here, since each place that drops a story by itself is dear to
+    /// prove.
+    pub(crate) fn without<T: Drop>(alloc: Global, told: T, status: Status) -> Outcome
+        ensures status { result.status ≡ status }
+        ensures none { IsWithout result }
+    {
+        drop(told);
+        Outcome::ended(alloc, status)
+    }
+
     /// A run that is done, with its one story.
     pub(crate) fn done(alloc: Global, story: Story) -> Outcome
         ensures status { result.status ≡ Done }

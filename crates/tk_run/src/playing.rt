@@ -19,7 +19,7 @@ use tk_window::TickEnds;
 use tk_words::Carriage;
 
 /// Lets the events of an order happen, if there is one, and then finishes.
-fn play(alloc: Global, world: &mut ByteWorld, order: &Option<Order>) -> Result<(), NoMemory>
+fn run_by(alloc: Global, world: &mut ByteWorld, order: &Option<Order>) -> Result<(), NoMemory>
     ensures over { OnOk result (IsOver world.new.story) }
     ensures legal { OnOk result (IsStory world.new.story) }
     ensures driven { OnOk result (Drives (events_in order.now) world.old world.new) }
@@ -27,6 +27,23 @@ fn play(alloc: Global, world: &mut ByteWorld, order: &Option<Order>) -> Result<(
     match order {
         Some(order) => drive(alloc, world, order),
         None => finish(alloc, world),
+    }
+}
+
+/// The same with a world that has begun. Where there is no memory it is dropped here, since each place that drops one by
+/// itself is dear to prove.
+fn play(alloc: Global, begun: ByteWorld, order: &Option<Order>) -> Result<ByteWorld, NoMemory>
+    ensures over { IfOk result (λ world. IsOver world.story) }
+    ensures legal { IfOk result (λ world. IsStory world.story) }
+    ensures driven { IfOk result (λ world. Drives (events_in order.now) begun world) }
+{
+    let mut world = begun;
+    match run_by(alloc, &mut world, order) {
+        Ok(()) => Ok(world),
+        Err(NoMemory) => {
+            drop(world);
+            Err(NoMemory)
+        }
     }
 }
 
@@ -57,8 +74,8 @@ pub fn story_of(alloc: Global, input: Input, carriage: Carriage) -> Result<Playe
     } = input;
     let from = logs.start(alloc)?;
     let Carriage { piece, frames } = carriage;
-    let mut world = byte_world(alloc, settings, logs, from, piece as usize, frames)?;
-    play(alloc, &mut world, &order)?;
+    let begun = byte_world(alloc, settings, logs, from, piece as usize, frames)?;
+    let world = play(alloc, begun, &order)?;
     a_finished_run_is_sound();
     a_drive_is_reached();
     what_is_reached_runs();

@@ -69,7 +69,7 @@ pub fn replay<R: Threads + Sync, F: Files, O: Sink>(
     };
     match print_with(alloc, &story, &names, &ends, out) {
         Ok(()) => Outcome::done(alloc, story),
-        Err(PrintFault::WriteFailed) => Outcome::ended(alloc, Status::WriteFault),
-        Err(PrintFault::NoMemory) => Outcome::ended(alloc, Status::NoMemory),
+        Err(PrintFault::WriteFailed) => Outcome::without(alloc, story, Status::WriteFault),
+        Err(PrintFault::NoMemory) => Outcome::without(alloc, story, Status::NoMemory),
     }
 }

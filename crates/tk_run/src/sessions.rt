@@ -127,7 +127,7 @@ pub fn serve_sessions<R: Threads + Sync, F: Files, O: Sink>(
     };
     match print_sessions(alloc, stories.as_slice(), &names, out) {
         Ok(()) => Outcome::several(stories),
-        Err(PrintFault::WriteFailed) => Outcome::ended(alloc, Status::WriteFault),
-        Err(PrintFault::NoMemory) => Outcome::ended(alloc, Status::NoMemory),
+        Err(PrintFault::WriteFailed) => Outcome::without(alloc, stories, Status::WriteFault),
+        Err(PrintFault::NoMemory) => Outcome::without(alloc, stories, Status::NoMemory),
     }
 }

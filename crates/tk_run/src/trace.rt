@@ -48,7 +48,7 @@ pub fn serve_trace<R: Threads + Sync, F: Files, O: Sink>(
     };
     match write(alloc, &story, &names, out) {
         Ok(()) => Outcome::done(alloc, story),
-        Err(PrintFault::WriteFailed) => Outcome::ended(alloc, Status::WriteFault),
-        Err(PrintFault::NoMemory) => Outcome::ended(alloc, Status::NoMemory),
+        Err(PrintFault::WriteFailed) => Outcome::without(alloc, story, Status::WriteFault),
+        Err(PrintFault::NoMemory) => Outcome::without(alloc, story, Status::NoMemory),
     }
 }

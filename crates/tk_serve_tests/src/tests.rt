@@ -32,6 +32,7 @@ fn port(alloc: Global, wire: Script) -> Result<Port<Script>, Fail> {
     let one = Part::read(alloc, b"a,5\na,1\n", &names)?;
     let two = Part::read(alloc, b"b,3\nb,2\n", &names)?;
     let objects = names.len() as u32;
+    drop(names);
     let logs = Logs::new(
         alloc,
         vec![in alloc; (Mon(1), one), (Mon(1), two)]?,
@@ -44,6 +45,7 @@ fn port(alloc: Global, wire: Script) -> Result<Port<Script>, Fail> {
         && logs.feeders(Mon(1)) == 2
     {
         let parts = logs.parts(alloc, Mon(1))?;
+        drop(logs);
         let from = Places::new(vec![in alloc; 0, 0]?);
         let monitor = Monitor::new(alloc, &settings, Mon(1), parts, &from)?;
         Ok(Port::new(alloc, wire, monitor, 5, 1)?)
@@ -79,7 +81,10 @@ fn served<R: Threads + Wait + Sync, G: Gate + Sync>(
         faults: 0,
     };
     let served = serve(rt, port, nap, &Mute, gate, &alarm);
-    Ok((served.why, served.end.monitor.ended(), alarm.raised()))
+    let answer = (served.why, served.end.monitor.ended(), alarm.raised());
+    // By name: each place that drops a monitor by itself is dear to prove.
+    drop(served);
+    Ok(answer)
 }
 
 #[test]

@@ -120,6 +120,7 @@ fn restarted(rt: HostRuntime) -> Result<(), Fail> {
         exact_set(2, 2, true, 1, (1, 1)),
     ];
     let published = have_published(rt.alloc(), stories.as_slice(), &wanted);
+    drop(stories);
     assert_eq!(rt; published, Some(true));
     Ok(())
 }
@@ -130,6 +131,7 @@ fn restarted_at_once(rt: HostRuntime) -> Result<(), Fail> {
     let stories = stories_of(rt.alloc(), b"", b"", b"restart\n")?;
     let wanted = [exact_set(2, 1, true, 1, (0, 0))];
     let published = have_published(rt.alloc(), stories.as_slice(), &wanted);
+    drop(stories);
     assert_eq!(rt; published, Some(true));
     Ok(())
 }
@@ -146,6 +148,7 @@ fn a_retune_is_forgotten(rt: HostRuntime) -> Result<(), Fail> {
     ];
     let published = have_published(rt.alloc(), stories.as_slice(), &wanted);
     let counts = retunes(stories.as_slice());
+    drop(stories);
     assert_eq!(rt; (published, counts), (Some(true), Some((1, 0))));
     Ok(())
 }

@@ -1,9 +1,11 @@
 //! Two monitors and a coordinator of the objects a and b, played by hand, and what joins of their ends answer.
 
-ghost use Rattle.std.specs.Prelude.{◌≡◌, ◌≤◌, length, map, IfOk};
+ghost use Rattle.std.specs.Option.{ForSome};
+ghost use Rattle.std.specs.Prelude.{◌≡◌, ◌≤◌, [], length, map, vec_capacity, IfOk};
 ghost use Rattle.tk_input.specs.Logs.{IsCut, IsMonitor};
 ghost use Rattle.tk_journal.specs.Legal.{IsLegal, start};
 ghost use Rattle.tk_story.specs.Ends.{AreOfOneRun, all_made_for, as_made, made_for};
+ghost use Rattle.tk_story.specs.Odd.{IsOddDown};
 
 mod joins;
 
@@ -36,6 +38,7 @@ fn logs_of(alloc: Global, one: &[u8], two: &[u8]) -> Result<Logs, Fail> {
     let first = Part::read(alloc, one, &names)?;
     let second = Part::read(alloc, two, &names)?;
     let objects = names.len() as u32;
+    drop(names);
     let parts = vec![in alloc; (Mon(1), first), (Mon(2), second)]?;
     let logs = Logs::new(alloc, parts, objects)?;
     Ok(logs)
@@ -57,10 +60,10 @@ fn new_run(alloc: Global) -> Result<Run, Fail> {
 }
 
 /// The first Assign: its only member is a.
-fn first_assign(alloc: Global) -> Result<Frame, Fail> {
-    let members = ObjSet::new(vec![in alloc; Obj(1)]?)?;
-    let changes = Pairs::new(Vec::new(alloc))?;
-    Ok(Frame::Assign {
+fn first_assign(alloc: Global) -> Option<Frame> {
+    let members = ObjSet::new(vec![in alloc; Obj(1)].ok()?).ok()?;
+    let changes = Pairs::new(Vec::new(alloc)).ok()?;
+    Some(Frame::Assign {
         seq: 1,
         members,
         changes,
@@ -77,61 +80,79 @@ fn settled(alloc: Global, last: bool, place: u32) -> Option<Frame> {
     })
 }
 
-fn takes(monitor: &mut Monitor, frame: Frame) -> bool
-    ensures { as_made monitor.new ≡ as_made monitor.old }
-{
-    match monitor.take(frame) {
-        Ok(()) => true,
-        Err(_) => false,
-    }
-}
-
-/// A monitor of the run that took the first Assign, once it raised a change or not.
+/// A monitor of the run, once it raised a change or not.
 fn monitor(alloc: Global, run: &Run, mon: u32, raises: bool) -> Result<Monitor, Fail>
     requires { IsMonitor run.now.logs mon }
     ensures { IfOk result (λ m. as_made m ≡ made_for run.now.settings run.now.logs run.now.from mon) }
 {
-    let assign = first_assign(alloc)?;
     let parts = run.logs.parts(alloc, Mon(mon))?;
     let from = run.from.at(mon as usize - 1);
     let mut monitor = Monitor::new(alloc, &run.settings, Mon(mon), parts, from)?;
     if raises {
         let _ = monitor.raise(Feeder(1));
     }
-    if takes(&mut monitor, assign) {
-        Ok(monitor)
-    } else {
-        Err("refused")?
-    }
+    Ok(monitor)
 }
 
-/// The end of a monitor that took no more, and received a Stop too early or nothing else.
-fn end_of(monitor: Monitor, stop: bool) -> Result<MonEnd, Fail>
-    ensures { IfOk result (λ end. as_made end.monitor ≡ as_made monitor) }
+/// The nodes of the run. They are dropped by calls of `drop`, since each place that drops one by itself is dear to prove.
+#[derive(Drop)]
+struct Nodes {
+    one: Monitor,
+    two: Monitor,
+    coordinator: Coordinator,
+}
+
+/// New nodes, of which monitor 1 raised a change.
+fn new_nodes(alloc: Global, run: &Run) -> Result<Nodes, Fail>
+    ensures one { IfOk result (λ n. as_made n.one ≡ made_for run.now.settings run.now.logs run.now.from 1) }
+    ensures two { IfOk result (λ n. as_made n.two ≡ made_for run.now.settings run.now.logs run.now.from 2) }
+    ensures settings { IfOk result (λ n. n.coordinator.settings ≡ run.now.settings) }
+    ensures legal { IfOk result (λ n. IsLegal (start run.now.settings) n.coordinator.journal) }
 {
-    if !stop {
-        return Ok(MonEnd::new(monitor, None));
-    }
-    let mut monitor = monitor;
-    match monitor.take(Frame::Stop) {
-        Err((MonitorRefusal::EarlyStop, frame)) => {
-            Ok(MonEnd::new(monitor, Some(Received::Frame(frame))))
+    let coordinator = Coordinator::new(alloc, run.settings)?;
+    let one = match monitor(alloc, run, 1, true) {
+        Ok(one) => one,
+        Err(fail) => {
+            drop(coordinator);
+            return Err(fail);
         }
-        _ => Err("not refused")?,
+    };
+    match monitor(alloc, run, 2, false) {
+        Ok(two) => Ok(Nodes {
+            one,
+            two,
+            coordinator,
+        }),
+        Err(fail) => {
+            drop(coordinator);
+            drop(one);
+            Err(fail)
+        }
     }
 }
 
-/// The ends of monitor 1, which raised a change or not, and of monitor 2, which received a Stop too early or not.
-fn pair(alloc: Global, run: &Run, raises: bool, stop: bool) -> Result<Vec<MonEnd>, Fail>
-    ensures { IfOk result (λ ends. map (λ end. as_made end.monitor) ends.items
-        ≡ all_made_for run.now.settings run.now.logs run.now.from) }
+/// Whether a monitor takes the first Assign.
+fn is_assigned(alloc: Global, monitor: &mut Monitor) -> bool
+    ensures { as_made monitor.new ≡ as_made monitor.old }
 {
-    let one = monitor(alloc, run, 1, raises)?;
-    let one = end_of(one, false)?;
-    let two = monitor(alloc, run, 2, false)?;
-    let two = end_of(two, stop)?;
-    let ends = vec![in alloc; one, two]?;
-    Ok(ends)
+    match first_assign(alloc) {
+        Some(assign) => monitor.take(assign).is_ok(),
+        None => false,
+    }
+}
+
+/// What a monitor does not take, to which a Stop comes too early or nothing.
+fn refused_stop(monitor: &mut Monitor, comes: bool) -> Option<Received>
+    ensures made { as_made monitor.new ≡ as_made monitor.old }
+    ensures odd { ForSome result (IsOddDown monitor.new.setup monitor.new.trail) }
+{
+    if !comes {
+        return None;
+    }
+    match monitor.take(Frame::Stop) {
+        Err((MonitorRefusal::EarlyStop, frame)) => Some(Received::Frame(frame)),
+        _ => None,
+    }
 }
 
 /// What the coordinator gets of a monitor: whether its place is the last, and the place.
@@ -171,17 +192,12 @@ fn hears_both(alloc: Global, run: &Run, c: &mut Coordinator, said: Option<[Said;
     hears(alloc, run, c, 2, both[1])
 }
 
-/// The coordinator of the run, once it got what both monitors say, if they say something.
-fn heard(alloc: Global, run: &Run, said: Option<[Said; 2]>) -> Result<CoordEnd, Fail>
-    ensures settings { IfOk result (λ end. end.coordinator.settings ≡ run.now.settings) }
-    ensures legal { IfOk result (λ end. IsLegal (start run.now.settings) end.coordinator.journal) }
-{
-    let mut c = Coordinator::new(alloc, run.settings)?;
-    if hears_both(alloc, run, &mut c, said) {
-        Ok(CoordEnd::new(c, None))
-    } else {
-        Err("refused")?
-    }
+/// What comes to the nodes of a run behind the first Assign: to the coordinator what both monitors say, if they say
+/// something, and to monitor 2 a Stop too early, or nothing.
+#[derive(Clone, Copy)]
+struct Comes {
+    said: Option<[Said; 2]>,
+    stop: bool,
 }
 
 /// How many entries the journal and the trails of a story have.
@@ -196,11 +212,20 @@ fn lengths(story: &Story) -> Option<(usize, usize, usize)> {
     ))
 }
 
-/// What comes of joining ends: the lengths of their story, or a fault, and whether it is the one that is wanted.
+/// What comes of joining ends: the lengths of their story, or a fault, and whether it is the one that is wanted. None is
+/// joined where a node refused what came.
 #[derive(Clone, Copy, PartialEq)]
 enum Outcome {
+    Refused,
     Story(Option<(usize, usize, usize)>),
     Fault(bool),
+}
+
+/// What a story gives. It is dropped here alone, and so are the ends of a fault in `of_fault`.
+fn of_story(story: Story) -> Outcome {
+    let lengths = lengths(&story);
+    drop(story);
+    Outcome::Story(lengths)
 }
 
 fn is_wanted(fault: &JoinFault, wanted: Option<&JoinFault>) -> bool {
@@ -210,15 +235,43 @@ fn is_wanted(fault: &JoinFault, wanted: Option<&JoinFault>) -> bool {
     }
 }
 
+fn of_fault(fault: JoinFault, ends: Ends, wanted: Option<&JoinFault>) -> Outcome {
+    drop(ends);
+    Outcome::Fault(is_wanted(&fault, wanted))
+}
+
 fn outcome_of(joined: Result<Story, (JoinFault, Ends)>, wanted: Option<&JoinFault>) -> Outcome {
     match joined {
-        Ok(story) => Outcome::Story(lengths(&story)),
-        Err((fault, _)) => Outcome::Fault(is_wanted(&fault, wanted)),
+        Ok(story) => of_story(story),
+        Err((fault, ends)) => of_fault(fault, ends, wanted),
     }
 }
 
+/// The ends of both monitors, for which there is room. Monitor 2 has not taken what is odd.
+fn ends_of(
+    run: &Run,
+    one: Monitor,
+    two: Monitor,
+    odd: Option<Received>,
+    room: Vec<MonEnd>,
+) -> Vec<MonEnd>
+    requires one { as_made one ≡ made_for run.now.settings run.now.logs run.now.from 1 }
+    requires two { as_made two ≡ made_for run.now.settings run.now.logs run.now.from 2 }
+    requires odd { ForSome odd (IsOddDown two.setup two.trail) }
+    requires empty { room.items ≡ [] }
+    requires room { 2 ≤ vec_capacity room }
+    ensures { map (λ end. as_made end.monitor) result.items
+        ≡ all_made_for run.now.settings run.now.logs run.now.from }
+{
+    let _ = run;
+    let mut ends = room;
+    ends.push_reserved(MonEnd::new(one, None));
+    ends.push_reserved(MonEnd::new(two, odd));
+    ends
+}
+
 /// What comes of joining these ends of the run.
-fn join(
+fn joined_ends(
     alloc: Global,
     run: Run,
     coordinator: CoordEnd,
@@ -236,17 +289,53 @@ fn join(
     outcome_of(joined, wanted)
 }
 
-/// What comes of joining such ends.
-fn joined(
+/// What comes of joining the ends of these nodes, once all of this came to them. There is room for the ends.
+fn join(
     alloc: Global,
-    raises: bool,
-    stop: bool,
-    said: Option<[Said; 2]>,
+    run: Run,
+    nodes: Nodes,
+    room: Vec<MonEnd>,
+    comes: Comes,
     wanted: Option<&JoinFault>,
-) -> Result<Outcome, Fail> {
-    let run = new_run(alloc)?;
-    let ends = pair(alloc, &run, raises, stop)?;
-    let coordinator = heard(alloc, &run, said)?;
+) -> Outcome
+    requires one { as_made nodes.one ≡ made_for run.settings run.logs run.from 1 }
+    requires two { as_made nodes.two ≡ made_for run.settings run.logs run.from 2 }
+    requires settings { nodes.coordinator.settings ≡ run.settings }
+    requires legal { IsLegal (start run.settings) nodes.coordinator.journal }
+    requires empty { room.items ≡ [] }
+    requires room { 2 ≤ vec_capacity room }
+{
+    let Nodes {
+        mut one,
+        mut two,
+        mut coordinator,
+    } = nodes;
+    let first = is_assigned(alloc, &mut one);
+    let second = is_assigned(alloc, &mut two);
+    let is_heard = hears_both(alloc, &run, &mut coordinator, comes.said);
+    let odd = refused_stop(&mut two, comes.stop);
+    let ends = ends_of(&run, one, two, odd, room);
+    let end = CoordEnd::new(coordinator, None);
     a_journal_begins_with_its_opening();
-    Ok(join(alloc, run, coordinator, ends, wanted))
+    let outcome = joined_ends(alloc, run, end, ends, wanted);
+    if first && second && is_heard {
+        outcome
+    } else {
+        Outcome::Refused
+    }
+}
+
+/// What comes of joining the ends of a new run to whose nodes this came.
+fn joined(alloc: Global, comes: Comes, wanted: Option<&JoinFault>) -> Result<Outcome, Fail> {
+    let run = new_run(alloc)?;
+    let room = Vec::with_capacity(alloc, 2)?;
+    let nodes = new_nodes(alloc, &run)?;
+    Ok(join(alloc, run, nodes, room, comes, wanted))
+}
+
+/// The same beside what is wanted.
+fn joined_against(alloc: Global, comes: Comes, wanted: JoinFault) -> Result<Outcome, Fail> {
+    let outcome = joined(alloc, comes, Some(&wanted));
+    drop(wanted);
+    outcome
 }

@@ -43,6 +43,7 @@ fn logs_of(alloc: Global, one: &[u8], two: &[u8]) -> Result<Logs, Fail> {
     let first = Part::read(alloc, one, &names)?;
     let second = Part::read(alloc, two, &names)?;
     let objects = names.len() as u32;
+    drop(names);
     let parts = vec![in alloc; (Mon(1), first), (Mon(2), second)]?;
     let logs = Logs::new(alloc, parts, objects)?;
     Ok(logs)
@@ -112,7 +113,10 @@ fn settle(alloc: Global, world: &mut World) -> Result<(), Fail> {
 fn story_of(world: World, done: Result<(), Fail>) -> Result<Story, Fail> {
     match done {
         Ok(()) => Ok(world.into_story()?),
-        Err(fail) => Err(fail),
+        Err(fail) => {
+            drop(world);
+            Err(fail)
+        }
     }
 }
 

@@ -70,7 +70,7 @@ fn set_factors(rank: &mut Rank, factors: &mut Factors, changes: &Pairs)
     }
 }
 
-/// The trees take the members, if there are any.
+/// The rank takes the members, if there are any.
 fn seat(rank: &mut Rank, members: &ObjSet)
     requires { All (λ o. o ≤ length rank.old.levels) members.now }
     ensures levels { rank.new.levels ≡ rank.old.levels }

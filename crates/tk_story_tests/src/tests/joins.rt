@@ -1,6 +1,6 @@
 //! What is joined, and what differs first.
 
-use super::{Outcome, joined, settled};
+use super::{Comes, Outcome, joined, joined_against, settled};
 use std::test::Fail;
 use tk_base::Mon;
 use tk_frames::Frame;
@@ -8,8 +8,11 @@ use tk_story::{Direction, JoinFault, Received};
 
 #[test]
 fn ends_that_agree(rt: HostRuntime) -> Result<(), Fail> {
-    let said = Some([(false, 1), (false, 0)]);
-    let answer = joined(rt.alloc(), true, false, said, None)?;
+    let comes = Comes {
+        said: Some([(false, 1), (false, 0)]),
+        stop: false,
+    };
+    let answer = joined(rt.alloc(), comes, None)?;
     assert!(rt; answer == Outcome::Story(Some((5, 3, 2))));
     Ok(())
 }
@@ -26,8 +29,11 @@ fn ends_that_differ(rt: HostRuntime) -> Result<(), Fail> {
         sent: settled(rt.alloc(), false, 1),
         received: Received::Frame(received),
     };
-    let said = Some([(false, 0), (true, 1)]);
-    let answer = joined(rt.alloc(), true, false, said, Some(&wanted))?;
+    let comes = Comes {
+        said: Some([(false, 0), (true, 1)]),
+        stop: false,
+    };
+    let answer = joined_against(rt.alloc(), comes, wanted)?;
     assert!(rt; answer == Outcome::Fault(true));
     Ok(())
 }
@@ -41,7 +47,11 @@ fn a_frame_that_was_never_sent(rt: HostRuntime) -> Result<(), Fail> {
         sent: None,
         received: Received::Frame(Frame::Stop),
     };
-    let answer = joined(rt.alloc(), true, true, None, Some(&wanted))?;
+    let comes = Comes {
+        said: None,
+        stop: true,
+    };
+    let answer = joined_against(rt.alloc(), comes, wanted)?;
     assert!(rt; answer == Outcome::Fault(true));
     Ok(())
 }

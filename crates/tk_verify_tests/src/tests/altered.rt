@@ -93,7 +93,10 @@ fn frame(alloc: Global, says: Says) -> Result<Frame, Fail> {
 fn kept(alloc: Global, says: Says) -> Result<KeptFrame, Fail> {
     match KeptFrame::new(alloc, frame(alloc, says)?) {
         Ok(kept) => Ok(kept),
-        Err(_) => Err("no memory")?,
+        Err(refused) => {
+            drop(refused);
+            Err("no memory")?
+        }
     }
 }
 
@@ -110,7 +113,10 @@ fn published(alloc: Global, member: u32) -> Result<KeptPublication, Fail> {
     };
     match KeptPublication::new(alloc, publication) {
         Ok(kept) => Ok(kept),
-        Err(_) => Err("no memory")?,
+        Err(refused) => {
+            drop(refused);
+            Err("no memory")?
+        }
     }
 }
 

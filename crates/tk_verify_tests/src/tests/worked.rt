@@ -48,14 +48,20 @@ fn two_monitors(alloc: Global) -> Result<Story, Fail> {
     let mut world = world(alloc)?;
     match run_to_the_end(&mut world) {
         Ok(()) => Ok(world.into_story()?),
-        Err(_) => Err("out of memory")?,
+        Err(_) => {
+            drop(world);
+            Err("out of memory")?
+        }
     }
 }
 
 fn kept(alloc: Global, kept: &KeptFrame) -> Result<KeptFrame, NoMemory> {
     match KeptFrame::new(alloc, kept.get().try_clone()?) {
         Ok(kept) => Ok(kept),
-        Err(_) => Err(NoMemory),
+        Err(refused) => {
+            drop(refused);
+            Err(NoMemory)
+        }
     }
 }
 

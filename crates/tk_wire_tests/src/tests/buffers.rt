@@ -33,100 +33,144 @@ fn hello() -> Frame {
     }
 }
 
-/// What a buffer holds of two frames and a half that came in pieces of so many bytes.
-fn pulled(alloc: Global, piece: usize) -> Result<InBuffer, Fail>
-    requires { (1 ≤ piece) × (piece ≤ 65536) }
-{
-    let mut pipe = Pipe::new(alloc, 64)?;
-    let mut wire = PipeWire::new(alloc, 64, piece, Vec::new(alloc))?;
-    let mut buffer = InBuffer::new(alloc);
+/// Whether this frame comes next out of a buffer, of so many bytes. Tests look at one frame at a time, since each place
+/// that may drop several is dear to prove.
+fn comes(buffer: &mut InBuffer, frame: &Frame, size: usize) -> bool {
+    match buffer.frame() {
+        Ok(Next::Whole(got, bytes)) => got == *frame && bytes == size,
+        _ => false,
+    }
+}
+
+/// Whether no whole frame is left in a buffer.
+fn is_part(buffer: &mut InBuffer) -> bool {
+    match buffer.frame() {
+        Ok(Next::Part) => true,
+        _ => false,
+    }
+}
+
+/// Whether two frames and a half that come over a wire come out of a buffer.
+fn are_pulled(wire: &mut PipeWire, pipe: &mut Pipe, buffer: &mut InBuffer, first: &Frame) -> bool {
     pipe.put(&SETTLED);
     pipe.put(&STOP);
     pipe.put(&SETTLED[..11]);
     for _ in 0..38u8 {
-        wire.fill(&mut pipe);
-        if buffer.pull(&mut wire) == Pulled::Failed {
-            return Err("failed")?;
+        wire.fill(pipe);
+        if buffer.pull(wire) == Pulled::Failed {
+            return false;
         }
     }
-    Ok(buffer)
+    comes(buffer, first, 22)
+        && comes(buffer, &Frame::Stop, 5)
+        && is_part(buffer)
+        && buffer.bytes() == &SETTLED[..11]
 }
 
-/// Whether these are a Settled, a Stop and half a frame.
-fn are_two_and_a_half(alloc: Global, buffer: &mut InBuffer) -> Result<bool, Fail> {
-    let first = Next::Whole(settled(alloc)?, 22);
-    let frames = [buffer.frame()?, buffer.frame()?, buffer.frame()?];
-    Ok(
-        frames == [first, Next::Whole(Frame::Stop, 5), Next::Part]
-            && buffer.bytes() == &SETTLED[..11],
-    )
+/// Whether they do in pieces of so many bytes.
+fn come_in(alloc: Global, piece: usize) -> Result<bool, Fail>
+    requires { (1 ≤ piece) × (piece ≤ 65536) }
+{
+    let first = settled(alloc)?;
+    let mut pipe = Pipe::new(alloc, 64)?;
+    let mut wire = PipeWire::new(alloc, 64, piece, Vec::new(alloc))?;
+    let mut buffer = InBuffer::new(alloc);
+    Ok(are_pulled(&mut wire, &mut pipe, &mut buffer, &first))
 }
 
 #[test]
 fn two_frames_and_a_half_in_any_pieces(rt: HostRuntime) -> Result<(), Fail> {
     let alloc = rt.alloc();
-    let by_one = are_two_and_a_half(alloc, &mut pulled(alloc, 1)?)?;
-    let by_seven = are_two_and_a_half(alloc, &mut pulled(alloc, 7)?)?;
-    let at_once = are_two_and_a_half(alloc, &mut pulled(alloc, 4_096)?)?;
-    assert_eq!(rt; (by_one, by_seven, at_once), (true, true, true));
+    let answers = (
+        come_in(alloc, 1)?,
+        come_in(alloc, 7)?,
+        come_in(alloc, 4_096)?,
+    );
+    assert_eq!(rt; answers, (true, true, true));
     Ok(())
 }
 
-/// Gives a Hello of version 2 and a Settled over a wire with room for 20 bytes; answers the bytes that were to be given, and what came of
-/// each push and drain.
-fn given(alloc: Global, pipe: &mut Pipe) -> Result<(bool, [Pushed; 2], [usize; 2]), Fail> {
-    let mut near = PipeWire::new(alloc, 20, 64, Vec::new(alloc))?;
-    let mut output = OutBuffer::new(alloc);
-    output.add(&hello())?;
+/// Adds a Hello of version 2 and a frame behind it; answers whether the bytes are these.
+fn are_added(output: &mut OutBuffer, frame: &Frame, bytes: &[u8]) -> bool {
+    if output.add(&hello()).is_err() {
+        return false;
+    }
     output.set_version(2);
-    output.add(&settled(alloc)?)?;
-    let is_greeted = output.bytes() == &GREETED[..];
-    let first = (output.push(&mut near), near.drain(pipe));
-    let second = (output.push(&mut near), near.drain(pipe));
-    Ok((is_greeted, [first.0, second.0], [first.1, second.1]))
+    output.add(frame).is_ok() && output.bytes() == bytes
 }
 
-/// Whether a Hello, then a Settled in version 2, and then the end come out of a pipe.
-fn is_greeted(alloc: Global, pipe: &mut Pipe) -> Result<bool, Fail> {
-    let mut far = PipeWire::new(alloc, 64, 64, Vec::new(alloc))?;
-    let mut input = InBuffer::new(alloc);
+/// What comes of two pushes over a wire, and of a drain behind each.
+fn pushed(
+    output: &mut OutBuffer,
+    near: &mut PipeWire,
+    pipe: &mut Pipe,
+) -> ([Pushed; 2], [usize; 2]) {
+    let first = (output.push(near), near.drain(pipe));
+    let second = (output.push(near), near.drain(pipe));
+    ([first.0, second.0], [first.1, second.1])
+}
+
+/// Gives a Hello of version 2 and a Settled over a wire with room for 20 bytes, and answers what comes of it.
+fn given(
+    alloc: Global,
+    pipe: &mut Pipe,
+    settled: &Frame,
+) -> Result<(bool, ([Pushed; 2], [usize; 2])), Fail> {
+    let mut near = PipeWire::new(alloc, 20, 64, Vec::new(alloc))?;
+    let mut output = OutBuffer::new(alloc);
+    let is_written = are_added(&mut output, settled, &GREETED);
+    Ok((is_written, pushed(&mut output, &mut near, pipe)))
+}
+
+/// Whether a Hello, then a frame in version 2, and then the end come over a wire.
+fn hears(far: &mut PipeWire, pipe: &mut Pipe, input: &mut InBuffer, frame: &Frame) -> bool {
     far.fill(pipe);
     far.close();
-    let pulled = [input.pull(&mut far), input.pull(&mut far)];
-    let first = input.frame()?;
+    let pulled = [input.pull(far), input.pull(far)];
+    let is_greeted = comes(input, &hello(), 18);
     input.set_version(2);
-    let frames = [first, input.frame()?, input.frame()?];
-    let wanted = [
-        Next::Whole(hello(), 18),
-        Next::Whole(settled(alloc)?, 9),
-        Next::Part,
-    ];
-    Ok(pulled == [Pulled::Got(27), Pulled::End] && frames == wanted)
+    pulled == [Pulled::Got(27), Pulled::End]
+        && is_greeted
+        && comes(input, frame, 9)
+        && is_part(input)
+}
+
+/// Whether they come out of a pipe.
+fn is_greeted(alloc: Global, pipe: &mut Pipe, settled: &Frame) -> Result<bool, Fail> {
+    let mut far = PipeWire::new(alloc, 64, 64, Vec::new(alloc))?;
+    let mut input = InBuffer::new(alloc);
+    Ok(hears(&mut far, pipe, &mut input, settled))
+}
+
+/// What is given and what comes of it.
+fn exchanged(alloc: Global) -> Result<(bool, ([Pushed; 2], [usize; 2]), bool), Fail> {
+    let settled = settled(alloc)?;
+    let mut pipe = Pipe::new(alloc, 64)?;
+    let (is_written, pushed) = given(alloc, &mut pipe, &settled)?;
+    Ok((is_written, pushed, is_greeted(alloc, &mut pipe, &settled)?))
 }
 
 #[test]
 fn version_2_begins_behind_a_hello(rt: HostRuntime) -> Result<(), Fail> {
-    let mut pipe = Pipe::new(rt.alloc(), 64)?;
-    let (is_written, pushed, drained) = given(rt.alloc(), &mut pipe)?;
-    assert_eq!(rt;
-        (pushed, drained),
-        ([Pushed::NotYet, Pushed::Empty], [20, 7])
-    );
-    assert_eq!(rt;
-        (is_written, is_greeted(rt.alloc(), &mut pipe)?),
-        (true, true)
-    );
+    let (is_written, pushed, is_greeted) = exchanged(rt.alloc())?;
+    assert_eq!(rt; pushed, ([Pushed::NotYet, Pushed::Empty], [20, 7]));
+    assert_eq!(rt; (is_written, is_greeted), (true, true));
     Ok(())
+}
+
+/// What comes of a pull and a push of Stop over a wire whose first and third calls fail, and whether this is left.
+fn failing(alloc: Global, left: &[u8]) -> Result<(Pulled, Pushed, bool), Fail> {
+    let mut wire = PipeWire::new(alloc, 4, 4, vec![in alloc; 1, 3]?)?;
+    let mut output = OutBuffer::new(alloc);
+    output.add(&Frame::Stop)?;
+    let pulled = InBuffer::new(alloc).pull(&mut wire);
+    let pushed = output.push(&mut wire);
+    Ok((pulled, pushed, output.bytes() == left))
 }
 
 #[test]
 fn a_failed_call_is_handed_on(rt: HostRuntime) -> Result<(), Fail> {
-    let alloc = rt.alloc();
-    let mut wire = PipeWire::new(alloc, 4, 4, vec![in alloc; 1, 3]?)?;
-    let mut output = OutBuffer::new(alloc);
-    output.add(&Frame::Stop)?;
-    assert_eq!(rt; InBuffer::new(alloc).pull(&mut wire), Pulled::Failed);
-    assert_eq!(rt; output.push(&mut wire), Pushed::Failed);
-    assert_eq!(rt; output.bytes(), &STOP[4..]);
+    let answers = failing(rt.alloc(), &STOP[4..])?;
+    assert_eq!(rt; answers, (Pulled::Failed, Pushed::Failed, true));
     Ok(())
 }

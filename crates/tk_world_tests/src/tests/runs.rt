@@ -28,6 +28,7 @@ fn a_retune_deals_by_its_epsilon(rt: HostRuntime) -> Result<(), Fail> {
     let sets = are_published(&story, first, second);
     let one = has_factors(&story, 1, &[(1, -1), (2, 2)]);
     let two = has_factors(&story, 2, &[(1, 4), (2, 2)]);
+    drop(story);
     assert_eq!(rt; (sets, one, two), ((true, true), true, true));
     Ok(())
 }
@@ -50,6 +51,8 @@ fn a_world_starts_from_a_cut(rt: HostRuntime) -> Result<(), Fail> {
     let story = story_of(world, done)?;
     let first = Publishes(1, 1, 0, false, &[2], &[1, 0]);
     let last = Publishes(2, 1, 0, true, &[1], &[2, 1]);
-    assert_eq!(rt; are_published(&story, first, last), (true, true));
+    let sets = are_published(&story, first, last);
+    drop(story);
+    assert_eq!(rt; sets, (true, true));
     Ok(())
 }

@@ -26,7 +26,10 @@ fn listed(alloc: Global) -> Result<Story, Fail> {
     let done = both_changes(alloc, &mut world);
     match serialize(alloc, story_of(world, done)?) {
         Ok(story) => Ok(story),
-        Err(_) => Err("out of memory")?,
+        Err(refused) => {
+            drop(refused);
+            Err("out of memory")?
+        }
     }
 }
 
@@ -77,7 +80,9 @@ fn are_same(one: &Story, other: &Story) -> bool {
 /// Whether a story comes back from its events.
 fn comes_back(alloc: Global, story: &Story) -> Result<bool, Fail> {
     let other = again(alloc, story)?;
-    Ok(are_same(story, &other))
+    let same = are_same(story, &other);
+    drop(other);
+    Ok(same)
 }
 
 #[test]

@@ -10,3 +10,6 @@ returns-in_default-with_capacity-clause-gone g c = gone_on _ _ _ (gone_listened 
 
 pub returns-clause-open : goal.returns-clause-open
 returns-clause-open g c = c.make_crew.ensures.gone.listens (ap (λ n. n.listens) c.in_default.ensures.state)
+
+pub returns-in-Err-make_hub-clause-gone : goal.returns-in-Err-make_hub-clause-gone
+returns-in-Err-make_hub-clause-gone g c = gone_on _ _ _ (gone_listened c.listen.result _ _ c.listen.ensures.state) c.make_crew.ensures.gone

@@ -41,7 +41,7 @@ returns-in-Err-WriteFailed-clause-ends g c =
     let stories = c.in-Ok-tell.field-0.stories.items in
     let same : queries_text input.queries c.as_slice.result.now c.as_slice-2.result.now ≡ multi_text input stories =
     ap (λ (n : List (List (List ℕ))). queries_text input.queries n c.as_slice-2.result.now) (c.as_slice.ensures.value ∙ c.in-Ok-tell.ensures.names) ∙ ap (λ (s : List KeptStory). multi_text input s) c.as_slice-2.ensures.value in
-    rw c.ended-in-Err-WriteFailed.ensures.status
+    rw c.without.ensures.status
     (cut_short gives AreAnswersOf multi_text output input c.in-Ok.ensures.read stories (are_sound input stories c.in-Ok-tell.ensures.stories c.a_finished_run_is_sound.ensures.over) _ same c.in-Err-WriteFailed.ensures.err)
 
 pub returns-clause-ends : goal.returns-clause-ends
@@ -52,5 +52,5 @@ returns-clause-ends g c =
     let stories = c.in-Ok-tell.field-0.stories.items in
     let same : queries_text input.queries c.as_slice.result.now c.as_slice-2.result.now ≡ multi_text input stories =
     ap (λ (n : List (List (List ℕ))). queries_text input.queries n c.as_slice-2.result.now) (c.as_slice.ensures.value ∙ c.in-Ok-tell.ensures.names) ∙ ap (λ (s : List KeptStory). multi_text input s) c.as_slice-2.ensures.value in
-    rw c.ended-in-Err-NoMemory.ensures.status
+    rw c.without-in-Err-NoMemory.ensures.status
     (inr (cut_short gives AreAnswersOf multi_text output input c.in-Ok.ensures.read stories (are_sound input stories c.in-Ok-tell.ensures.stories c.a_finished_run_is_sound.ensures.over) _ same c.in-Err-NoMemory.ensures.err))

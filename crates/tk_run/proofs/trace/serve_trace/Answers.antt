@@ -23,5 +23,5 @@ pub returns-in-Err-WriteFailed-clause-ends : goal.returns-in-Err-WriteFailed-cla
 returns-in-Err-WriteFailed-clause-ends g c =
     let gives = Loads (reads_by g.F.Files c.args.files.now c.load.new.files) (asked_sources c.args.words.now.sources) in
     let output = output_by g.O.Sink c.args.out.now c.write.new.out in
-    rw c.ended-in-Err-WriteFailed.ensures.status
+    rw c.without.ensures.status
     (cut_short gives IsStoryOf trace_text output c.in-Ok.input c.in-Ok.ensures.read c.in-Ok-story_of.story (search rules) _ (search rules) c.in-Err-WriteFailed.ensures.err)

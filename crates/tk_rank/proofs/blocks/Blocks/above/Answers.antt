@@ -5,7 +5,7 @@ use Rattle.std.proofs.lemmas.Int.{to_z-of_z}
 use Rattle.std.proofs.lemmas.List.{append-nil, length-map}
 use Rattle.tk_base.specs.Ascending.{numbers_of}
 use Rattle.tk_rank.specs.Blocks.{AreBlocks, blocks_of}
-use Rattle.tk_rank.specs.Tree.{TreeView, is_over, leaves_of, those_over}
+use Rattle.tk_rank.specs.Tree.{LeavesView, is_over, leaves_of, those_over}
 use Rattle.tk_rank.proofs.BlockLemmas.{all_blocks, found_more, nothing_over}
 use Rattle.tk_rank.proofs.blocks.Blocks.above.Goals as goal
 use Rattle.tk_rank.proofs.blocks.Blocks.above.Goals.{then-is_over+in_ok-add_above, else-is_over}
@@ -16,7 +16,7 @@ loop-block-preserved g c =
     let inside = c.self.inside in
     let leaves = c.args.self.now.leaves in
     let nodes = map number inside.nodes.items in
-    let view : map number inside.leaves.items ≡ leaves = ap (λ (t : TreeView). t.leaves) c.self.view_is in
+    let view : map number inside.leaves.items ≡ leaves = ap (λ (t : LeavesView). t.leaves) c.self.view_is in
     let slice : map number c.as_slice-leaves.result.now ≡ leaves = ap (map number) c.as_slice-leaves.ensures.value ∙ view in
     let long : length c.as_slice-leaves.result.now ≡ length leaves = sym (length-map c.as_slice-leaves.result.now number) ∙ ap length slice in
     let blocks : AreBlocks leaves nodes = subst (λ (list : List (Option ℤ)). AreBlocks list nodes) view c.self.invariant.blocks in
@@ -51,4 +51,4 @@ returns g c =
     let leaves = c.args.self.now.leaves in
     c.loop-block.invariant
     ∙ ap (λ l. those_over l leaves (range_with_len 1 (min (length leaves) (64 * c.loop-block.block)))) (to_z-of_z w128 c.args.level c.ranges.level)
-    ∙ ap (those_over c.args.level leaves) (all_blocks (length leaves) c.loop-block.block (omega (arith, c.loop-block-test.false, c.count-block-end.ensures, ap blocks_of (ap length c.as_slice-leaves.ensures.value ∙ sym (length-map c.self.inside.leaves.items g.N.Node.number) ∙ ap (λ (t : TreeView). length t.leaves) c.self.view_is))))
+    ∙ ap (those_over c.args.level leaves) (all_blocks (length leaves) c.loop-block.block (omega (arith, c.loop-block-test.false, c.count-block-end.ensures, ap blocks_of (ap length c.as_slice-leaves.ensures.value ∙ sym (length-map c.self.inside.leaves.items g.N.Node.number) ∙ ap (λ (t : LeavesView). length t.leaves) c.self.view_is))))

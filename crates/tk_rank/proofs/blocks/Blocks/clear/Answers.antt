@@ -1,7 +1,7 @@
 use Rattle.std.proofs.Common.{ℕ, ◌≡◌, ◌∙◌, ◌++◌, ◌∷◌, [], ap, ap₂, sym, arith, refl, length, map, replicate, get_or, None, vec_capacity}
 use Rattle.std.proofs.lemmas.List.{length-map, length-replicate, map_push, replicate-append-replicate}
 use Rattle.tk_rank.specs.Blocks.{blocks_of}
-use Rattle.tk_rank.specs.Tree.{TreeView}
+use Rattle.tk_rank.specs.Tree.{LeavesView}
 use Rattle.tk_rank.proofs.BlockLemmas.{empty_blocks}
 use Rattle.tk_rank.proofs.TreeLemmas.{no_number}
 use Rattle.tk_rank.proofs.blocks.Blocks.clear.Given.{Over}
@@ -10,7 +10,7 @@ use Rattle.tk_rank.proofs.blocks.Blocks.clear.Goals as goal
 pub loop-init : goal.loop-init
 loop-init g c = record {
   items = ap (map g.N.Node.number) c.clear.ensures.items;
-  room = c.clear.ensures.capacity ∙ ap (λ (t : TreeView). t.room) c.self.view_is;
+  room = c.clear.ensures.capacity ∙ ap (λ (t : LeavesView). t.room) c.self.view_is;
   nodes = refl;
 }
 
@@ -44,7 +44,7 @@ none g c i = ap (λ list. get_or list i None) (whole g c) ∙ no_number c.args.l
 pub invariant_of-self : goal.invariant_of-self
 invariant_of-self g c =
     let number = g.N.Node.number in
-    let room : vec_capacity c.loop.self-inside.leaves ≡ vec_capacity c.self.inside.leaves = c.loop.invariant.room ∙ sym (ap (λ (t : TreeView). t.room) c.self.view_is) in
+    let room : vec_capacity c.loop.self-inside.leaves ≡ vec_capacity c.self.inside.leaves = c.loop.invariant.room ∙ sym (ap (λ (t : LeavesView). t.room) c.self.view_is) in
     record {
       blocks =
           empty_blocks (map number c.loop.self-inside.leaves.items) (map number c.empty.new.nodes.items) (omega (arith, long g c, c.requires.few)) c.empty.ensures.tree

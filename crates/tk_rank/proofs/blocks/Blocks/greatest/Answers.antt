@@ -1,5 +1,5 @@
 use Rattle.std.proofs.Common.{◌∙◌, ap, map}
-use Rattle.tk_rank.specs.Tree.{TreeView, greatest_leaf, leaves_of}
+use Rattle.tk_rank.specs.Tree.{LeavesView, greatest_leaf, leaves_of}
 use Rattle.tk_rank.proofs.BlockLemmas.{blocks_root}
 use Rattle.tk_rank.proofs.blocks.Blocks.greatest.Goals as goal
 
@@ -10,4 +10,4 @@ returns g c =
     c.root.ensures
     ∙ ap (λ list. greatest_leaf (leaves_of (map number list))) c.as_slice.ensures.value
     ∙ blocks_root (map number inside.leaves.items) (map number inside.nodes.items) c.self.invariant.blocks
-    ∙ ap (λ (t : TreeView). greatest_leaf t.leaves) c.self.view_is
+    ∙ ap (λ (t : LeavesView). greatest_leaf t.leaves) c.self.view_is

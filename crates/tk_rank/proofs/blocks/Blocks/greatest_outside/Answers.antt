@@ -5,7 +5,7 @@ use Rattle.tk_base.specs.Objects.{is_in}
 use Rattle.tk_border.specs.Levels.{greatest_of, IsPassed}
 use Rattle.tk_border.proofs.PassedLemmas.{passed_none}
 use Rattle.tk_rank.specs.Blocks.{AreBlocks, blocks_of}
-use Rattle.tk_rank.specs.Tree.{TreeView, greater, leaves_of, others_in, standing}
+use Rattle.tk_rank.specs.Tree.{LeavesView, greater, leaves_of, others_in, standing}
 use Rattle.tk_rank.proofs.BlockLemmas.{all_blocks, block_outside, nothing_yet, outside_more}
 use Rattle.tk_rank.proofs.blocks.Blocks.greatest_outside.Goals as goal
 use Rattle.tk_rank.proofs.blocks.Blocks.greatest_outside.Goals.{then-is_reached, else-is_reached}
@@ -26,7 +26,7 @@ loop-block-preserved g c =
     let set = c.args.set.now in
     let leaves = c.args.self.now.leaves in
     let nodes = map number inside.nodes.items in
-    let view : map number inside.leaves.items ≡ leaves = ap (λ (t : TreeView). t.leaves) c.self.view_is in
+    let view : map number inside.leaves.items ≡ leaves = ap (λ (t : LeavesView). t.leaves) c.self.view_is in
     let slice : map number c.as_slice-leaves.result.now ≡ leaves = ap (map number) c.as_slice-leaves.ensures.value ∙ view in
     let long : length c.as_slice-leaves.result.now ≡ length leaves = sym (length-map c.as_slice-leaves.result.now number) ∙ ap length slice in
     let blocks : AreBlocks leaves nodes = subst (λ (list : List (Option ℤ)). AreBlocks list nodes) view c.self.invariant.blocks in
@@ -70,4 +70,4 @@ returns g c =
     c.get.ensures
     ∙ c.loop-block.invariant.most
     ∙ ap (λ list. greatest_of (standing leaves (others_in c.args.set.now list)))
-    (all_blocks (length leaves) c.loop-block.block (omega (arith, c.loop-block-test.false, c.count-block-end.ensures, ap blocks_of (ap length c.as_slice-leaves.ensures.value ∙ sym (length-map c.self.inside.leaves.items g.N.Node.number) ∙ ap (λ (t : TreeView). length t.leaves) c.self.view_is))))
+    (all_blocks (length leaves) c.loop-block.block (omega (arith, c.loop-block-test.false, c.count-block-end.ensures, ap blocks_of (ap length c.as_slice-leaves.ensures.value ∙ sym (length-map c.self.inside.leaves.items g.N.Node.number) ∙ ap (λ (t : LeavesView). length t.leaves) c.self.view_is))))

@@ -35,7 +35,7 @@ pub take-requires-clause-few : goal.take-requires-clause-few
 take-requires-clause-few c = omega (arith, short c, c.self.invariant.ranked.objects)
 
 pub take-requires-clause-room : goal.take-requires-clause-room
-take-requires-clause-room c = omega (arith, short c, c.self.invariant.tree_room)
+take-requires-clause-room c = omega (arith, short c, c.self.invariant.side_room)
 
 pub take-requires-clause-within : goal.take-requires-clause-within
 take-requires-clause-within c k d inside = let low = (are c).in_range k d inside in omega (arith, low, (released c).room)
@@ -43,7 +43,7 @@ take-requires-clause-within c k d inside = let low = (are c).in_range k d inside
 pub take-requires-clause-small : goal.take-requires-clause-small
 take-requires-clause-small c = small_outsiders (levels c) (is_in []) c.release.new.outsiders.leaves c.self.invariant.ranked.small (released c)
 
--- the trees have the levels, and they are kept
+-- the sides have the levels, and they are kept
 kept : (c : goal.After-take) → (levels_of c.self.inside.count c.args.members.now c.take.new.members.leaves c.take.new.outsiders.leaves ≡ levels c.before) × IsKept (levels_of c.self.inside.count c.args.members.now c.take.new.members.leaves c.take.new.outsiders.leaves) c.args.members.now (vec_capacity c.self.inside.list) c.take.new.members c.take.new.outsiders.leaves
 kept c =
     let r = c.self.inside in
@@ -51,7 +51,7 @@ kept c =
     let kept = c.self.invariant in
     read_members r.count (levels before) c.args.members.now (vec_capacity r.list) c.take.new.members c.take.new.outsiders.leaves
     (length_levels r.count (numbers_of r.list.items) r.members.leaves r.outsiders.leaves) kept.ranked.objects kept.ranked.small (are before) c.take.ensures.ascends kept.list_room
-    (subst (HasRoom (length (levels before))) (sym c.take.ensures.room) kept.tree_room) (c.take.ensures.sides (levels before) (are before).in_range (released before))
+    (subst (HasRoom (length (levels before))) (sym c.take.ensures.room) kept.side_room) (c.take.ensures.sides (levels before) (are before).in_range (released before))
 
 pub invariant_of-self : goal.invariant_of-self
 invariant_of-self c = rw (c.list_members.ensures.items, c.list_members.ensures.room) (kept c).1

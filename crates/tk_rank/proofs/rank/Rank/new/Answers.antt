@@ -13,12 +13,12 @@ list_members-requires c =
 pub take-requires-clause-small : goal.take-requires-clause-small
 take-requires-clause-small c = small_outsiders c.args.levels.now _ c.seat.new.outsiders.leaves c.requires.sizes c.seat.ensures
 
--- the trees have the levels, and they are kept
+-- the sides have the levels, and they are kept
 kept : (c : goal.After-take) → (levels_of (length c.args.levels.now) c.args.members.now c.take.new.members.leaves c.take.new.outsiders.leaves ≡ c.args.levels.now) × IsKept (levels_of (length c.args.levels.now) c.args.members.now c.take.new.members.leaves c.take.new.outsiders.leaves) c.args.members.now (vec_capacity c.in_ok-list.list) c.take.new.members c.take.new.outsiders.leaves
 kept c =
     let levels = c.args.levels.now in
     read_members (length levels) levels c.args.members.now (vec_capacity c.in_ok-list.list) c.take.new.members c.take.new.outsiders.leaves refl c.requires.objects c.requires.sizes c.requires.members c.take.ensures.ascends
-    (omega (arith, c.in_ok-list.ensures.exact)) (subst (HasRoom (length levels)) (sym c.take.ensures.room) c.in_ok-member_tree.ensures) (c.take.ensures.sides levels c.requires.members.in_range c.seat.ensures)
+    (omega (arith, c.in_ok-list.ensures.exact)) (subst (HasRoom (length levels)) (sym c.take.ensures.room) c.in_ok-member_side.ensures) (c.take.ensures.sides levels c.requires.members.in_range c.seat.ensures)
 
 pub invariant_of-result : goal.invariant_of-result
 invariant_of-result c = rw (c.list_members.ensures.items, c.list_members.ensures.room) (kept c).1

@@ -30,7 +30,7 @@ pub set-requires-clause-size : goal.set-requires-clause-size
 set-requires-clause-size c =
     rw ((found c).1, shifted_on (level_at (levels c) c.args.o.0) c.args.by (small_level (levels c) c.args.o.0 c.self.invariant.ranked.small) (small c)) (small c)
 
--- the outsiders' tree has the new level
+-- the outsiders' side has the new level
 written : (c : goal.After-set) → c.set.new.self.leaves ≡ set c.self.inside.outsiders.leaves (c.args.o.0 - 1) (Some (level_at (levels c.before) c.args.o.0 +ℤ c.args.by))
 written c =
     let o = c.args.o.0 in

@@ -47,7 +47,7 @@ set-requires-clause-size c =
     let sum = small c in
     rw (shifted_back x c.args.by c.number_in-turned.result (turned c) c.number_in-turned.ensures.size sum) (omega (arith, ints, sum))
 
--- the members' tree has the new level
+-- the members' side has the new level
 written : (c : goal.After-set) → c.set.new.self.leaves ≡ set c.self.inside.members.leaves c.in-Some.place (Some (pos 0 -ℤ (level_at (levels c.before) c.args.o.0 +ℤ c.args.by)))
 written c =
     let before = c.before in

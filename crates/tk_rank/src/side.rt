@@ -10,9 +10,9 @@ use std::alloc::Global;
 use std::marker::Model;
 use tk_base::{NoMemory, Obj, ObjSet};
 
-/// The greatest of the numbers at some places.
+/// The numbers of the members or of the outsiders, at some places.
 #[derive(Debug, Drop)]
-pub(crate) struct Tree {
+pub(crate) struct Side {
     /// The numbers, as long as each fits in 8 bytes.
     narrow: Blocks<Narrow>,
     /// The numbers from the first on that does not; none before, with room for them all.
@@ -20,15 +20,15 @@ pub(crate) struct Tree {
 }
 
 // Clauses see the leaves, and how many there is room for.
-impl Model for Tree {
+impl Model for Side {
     ghost use Rattle.std.specs.Prelude.{◌≡◌};
-    ghost use Rattle.tk_rank.specs.Tree.{TreeView, leaves_in};
+    ghost use Rattle.tk_rank.specs.Tree.{LeavesView, leaves_in};
 
-    ghost Value = { TreeView };
+    ghost Value = { LeavesView };
 
-    ghost view = { λ t. record { leaves = leaves_in t.narrow.leaves t.wide.leaves; room = t.narrow.room } };
+    ghost view = { λ s. record { leaves = leaves_in s.narrow.leaves s.wide.leaves; room = s.narrow.room } };
 
-    ghost invariant = { λ t. t.wide.room ≡ t.narrow.room };
+    ghost invariant = { λ s. s.wide.room ≡ s.narrow.room };
 }
 
 /// Writes the same numbers in 16 bytes each.
@@ -45,13 +45,13 @@ fn widen(narrow: &Blocks<Narrow>, wide: &mut Blocks<Wide>)
     }
 }
 
-impl Tree {
-    /// A tree of no leaf, with room for a leaf for each object. The room is not written.
-    pub fn with_room(alloc: Global, objects: usize) -> Result<Tree, NoMemory>
+impl Side {
+    /// No leaf, with room for a leaf for each object. The room is not written.
+    pub fn with_room(alloc: Global, objects: usize) -> Result<Side, NoMemory>
         requires { objects ≤ 65536 }
-        ensures { IfOk result (λ t. HasRoom objects t.room) }
+        ensures { IfOk result (λ s. HasRoom objects s.room) }
     {
-        Ok(Tree {
+        Ok(Side {
             narrow: Blocks::with_room(alloc, objects)?,
             wide: Blocks::with_room(alloc, objects)?,
         })

@@ -1,5 +1,5 @@
 use Rattle.std.proofs.Common.{◌≡◌, ℕ, length, ltb, cond, get_or, None}
-use Rattle.tk_rank.proofs.tree.widen.Given as goal
+use Rattle.tk_rank.proofs.side.widen.Given as goal
 
 -- the leaves so far are written, and no other
 abbrev pub invariant-loop-place : goal.invariant-loop-place
