@@ -51,18 +51,6 @@ pub fn two_monitors_in_version_2(alloc: Global) -> Option<Case> {
     of_two_logs(alloc, words, "a,5\n", "b,3\n")
 }
 
-/// One monitor, at which a rises by 5.
-pub fn one_monitor(alloc: Global) -> Option<Case> {
-    let words = "live --k 1 --epsilon 0 --objects objects.csv 1=one.csv";
-    of_two_logs(alloc, words, "a,5\n", "")
-}
-
-/// One monitor with two feeders.
-pub fn two_feeders(alloc: Global) -> Option<Case> {
-    let words = "live --k 1 --epsilon 0 --objects objects.csv 1=one.csv 1=two.csv";
-    of_two_logs(alloc, words, "a,1\n", "a,2\nb,1\n")
-}
-
 /// The names of 40 pages, a line each.
 fn names(alloc: Global) -> Option<String> {
     let mut text = String::new(alloc);

@@ -14,9 +14,9 @@ use tk_frames::encode;
 use tk_input::VecSink;
 use tk_journal::Noted;
 use tk_live::{Outcome, live};
-use tk_serve::Gate;
+use tk_net::MemNet;
+use tk_serve::OpenGate;
 use tk_story::Story;
-use tk_wire::Net;
 
 /// What a live run left. Without a story all but the status is false or 0.
 #[derive(Clone, Copy, Debug, PartialEq, Eq)]
@@ -61,24 +61,25 @@ fn seen<R: Threads + Sync>(
     Some((right, again, [long, short]))
 }
 
-/// Runs a case over a net. None where there was no memory to see what it left.
-pub fn ended<R: Threads + Wait + Sync, N: Net, G: Gate + Sync>(
+/// Runs a case over a net. None where there was no memory for it, or to see what it left.
+pub fn ended<R: Threads + Wait + Sync>(
     rt: &R,
     alloc: Global,
-    mut case: Case,
-    net: &mut N,
-    gate: &G,
+    case: Option<Case>,
+    net: &mut MemNet,
     out: &mut VecSink,
 ) -> Option<Told>
-    requires listens { (N.state net.old).listens ≡ false }
-    requires links { (N.state net.old).links ≡ 0 }
+    requires listens { net.old.state.listens ≡ false }
+    requires links { net.old.state.links ≡ 0 }
 {
+    let mut case = case?;
     let words = case.words.as_slice();
-    let outcome = live(rt, alloc, words, &mut case.files, net, 5, gate, out);
+    let outcome = live(rt, alloc, words, &mut case.files, net, 5, &OpenGate, out);
     let seen = match &outcome.story {
         Some(story) => seen(rt, alloc, &mut case, story),
         None => Some((false, false, [0, 0])),
     };
+    drop(case);
     let status = outcome.into_status().number();
     let (right, again, bytes) = seen?;
     Some(Told {

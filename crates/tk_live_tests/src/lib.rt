@@ -1,5 +1,5 @@
-//! The tests of tk_live, of what no clause says: that live runs end, that they are done over links in memory and over
-//! sockets and take from the links just the bytes of their frames, and what comes of a net whose calls fail.
+//! The tests of tk_live of what its runs leave, which no clause says: over links in memory they are done, with sets that plain sums
+//! find right and the story of a new world, and take from the links just the bytes of their frames.
 #![tactic(auto)]
 
 #[cfg(test)]
@@ -8,8 +8,6 @@ mod again;
 mod cases;
 #[cfg(test)]
 mod ended;
-#[cfg(test)]
-mod meeting;
 #[cfg(test)]
 mod sums;
 #[cfg(test)]

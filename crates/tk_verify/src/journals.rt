@@ -1,7 +1,7 @@
 // A coordinator driven over its recorded journal.
 ghost use Rattle.std.specs.Prelude.{◌≡◌, ◌≢◌, ◌↔◌, IsTrue, IfOk, IfErr, OnOk, Some, slice_get};
 ghost use Rattle.tk_base.specs.History.{last_of};
-ghost use Rattle.tk_journal.specs.Legal.{IsLegal, start};
+ghost use Rattle.tk_journal.specs.Legal.{IsLegal, opened, start};
 ghost use Rattle.tk_journal.specs.Publishing.{publications};
 ghost use Rattle.tk_journal.specs.declared.noted.Noted.TheVariants as n;
 ghost use Rattle.tk_journal.specs.declared.refusal.CoordRefusal.TheVariants.{NoMemory as Memory};
@@ -107,7 +107,29 @@ fn did(coordinator: &Coordinator, place: usize, noted: &Noted) -> bool
     }
 }
 
-/// Drives a new coordinator over a recorded journal.
+/// Drives a fresh coordinator over a journal.
+fn drive(coordinator: &mut Coordinator, journal: &[Noted]) -> Result<(), Halt>
+    requires { coordinator.old.journal ≡ opened (start coordinator.old.settings) }
+    ensures settings { coordinator.new.settings ≡ coordinator.old.settings }
+    ensures journal { OnOk result (coordinator.new.journal ≡ journal.now) }
+    ensures legal { OnOk result (IsLegal (start coordinator.old.settings) journal.now) }
+    ensures halts { IfErr result (Halts (IsLegal (start coordinator.old.settings)) journal.now) }
+{
+    for (i, noted) in journal.iter().enumerate() {
+        reach(coordinator, i, noted)?;
+        if !did(coordinator, i, noted) {
+            let place = i as u64;
+            return Err(Halt::NotLegal { place });
+        }
+    }
+    if journal.len() < coordinator.journal().len() {
+        let place = journal.len() as u64;
+        return Err(Halt::NotLegal { place });
+    }
+    Ok(())
+}
+
+/// Drives a new coordinator over its recorded journal.
 pub fn drive_coordinator(
     alloc: Global,
     settings: Settings,
@@ -119,18 +141,13 @@ pub fn drive_coordinator(
     ensures halts { IfErr result (Halts (IsLegal (start settings)) journal.now) }
 {
     let mut coordinator = Coordinator::new(alloc, settings)?;
-    for (i, noted) in journal.iter().enumerate() {
-        reach(&mut coordinator, i, noted)?;
-        if !did(&coordinator, i, noted) {
-            let place = i as u64;
-            return Err(Halt::NotLegal { place });
+    match drive(&mut coordinator, journal) {
+        Ok(()) => Ok(coordinator),
+        Err(halt) => {
+            drop(coordinator);
+            Err(halt)
         }
     }
-    if journal.len() < coordinator.journal().len() {
-        let place = journal.len() as u64;
-        return Err(Halt::NotLegal { place });
-    }
-    Ok(coordinator)
 }
 
 /// Whether the last publication of a coordinator is the final one.

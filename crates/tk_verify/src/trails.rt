@@ -104,18 +104,17 @@ fn did(monitor: &Monitor, place: usize, entry: &Entry) -> bool
 }
 
 /// Drives a fresh monitor over a trail.
-fn drive(monitor: Monitor, feeders: u32, trail: &[Entry]) -> Result<Monitor, Halt>
-    requires fresh { monitor.trail ≡ [] }
-    requires feeders { feeders ≡ length monitor.setup.parts }
-    ensures made { IfOk result (λ m. as_made m ≡ as_made monitor) }
-    ensures trail { IfOk result (λ m. m.trail ≡ trail.now) }
-    ensures legal { OnOk result (IsLegal monitor.setup trail.now) }
-    ensures halts { IfErr result (Halts (IsLegal monitor.setup) trail.now) }
+fn drive(monitor: &mut Monitor, feeders: u32, trail: &[Entry]) -> Result<(), Halt>
+    requires fresh { monitor.old.trail ≡ [] }
+    requires feeders { feeders ≡ length monitor.old.setup.parts }
+    ensures made { as_made monitor.new ≡ as_made monitor.old }
+    ensures trail { OnOk result (monitor.new.trail ≡ trail.now) }
+    ensures legal { OnOk result (IsLegal monitor.old.setup trail.now) }
+    ensures halts { IfErr result (Halts (IsLegal monitor.old.setup) trail.now) }
 {
-    let mut monitor = monitor;
     for (i, entry) in trail.iter().enumerate() {
-        reach(&mut monitor, feeders, i, entry)?;
-        if !did(&monitor, i, entry) {
+        reach(monitor, feeders, i, entry)?;
+        if !did(monitor, i, entry) {
             let place = i as u64;
             return Err(Halt::NotLegal { place });
         }
@@ -124,7 +123,7 @@ fn drive(monitor: Monitor, feeders: u32, trail: &[Entry]) -> Result<Monitor, Hal
         let place = trail.len() as u64;
         return Err(Halt::NotLegal { place });
     }
-    Ok(monitor)
+    Ok(())
 }
 
 /// Drives a new monitor of some logs over its recorded trail.
@@ -146,6 +145,12 @@ pub fn drive_monitor(
 {
     let parts = logs.parts(alloc, mon)?;
     let places = from.at(mon.0 as usize - 1);
-    let monitor = Monitor::new(alloc, settings, mon, parts, places)?;
-    drive(monitor, logs.feeders(mon), trail)
+    let mut monitor = Monitor::new(alloc, settings, mon, parts, places)?;
+    match drive(&mut monitor, logs.feeders(mon), trail) {
+        Ok(()) => Ok(monitor),
+        Err(halt) => {
+            drop(monitor);
+            Err(halt)
+        }
+    }
 }

@@ -115,12 +115,16 @@ fn join(
     let _ = settings.monitors();
     let _ = logs.monitors();
     let Ok(ends) = ends_of(alloc, monitors) else {
+        drop(coordinator);
         return Err(Finding::NoMemory);
     };
     let coordinator = CoordEnd::new(coordinator, None);
     match Story::join(coordinator, ends, logs, settings, from, Vec::new(alloc)) {
         Ok(story) => Ok(story),
-        Err((fault, _)) => Err(unjoined(&fault)),
+        Err((fault, apart)) => {
+            drop(apart);
+            Err(unjoined(&fault))
+        }
     }
 }
 
@@ -138,24 +142,21 @@ fn judge(
     requires trails { length trails.now ≡ settings.monitors }
     ensures { Judges (recorded_from from settings logs journal.now (trails_in trails.now)) result }
 {
-    let monitors = match drive_monitors(alloc, &settings, &logs, &from, trails) {
-        Ok(monitors) => monitors,
-        Err(finding) => return Err(finding),
-    };
+    let monitors = drive_monitors(alloc, &settings, &logs, &from, trails)?;
     let coordinator = match drive_coordinator(alloc, settings, journal) {
         Ok(coordinator) => coordinator,
-        Err(halt) => return Err(found(settings.monitors() + 1, halt)),
+        Err(halt) => {
+            drop(monitors);
+            return Err(found(settings.monitors() + 1, halt));
+        }
     };
     let over = is_over(&coordinator);
-    match join(alloc, coordinator, monitors, logs, settings, from) {
-        Ok(story) => {
-            if !over {
-                return Err(Finding::NotFinal);
-            }
-            Ok(story)
-        }
-        Err(finding) => Err(finding),
+    let story = join(alloc, coordinator, monitors, logs, settings, from)?;
+    if !over {
+        drop(story);
+        return Err(Finding::NotFinal);
     }
+    Ok(story)
 }
 
 /// The story of a record of a run from its beginning to its end, or the first of what is wrong with it. Costs what the

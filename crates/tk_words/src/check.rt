@@ -20,12 +20,6 @@ pub fn read_check<'a>(alloc: Global, words: &'a [String]) -> Result<&'a str, Wor
     ensures ok { IfOk result (λ file. check_in (map string_bytes words.entry.now) ≡ Some file.now) }
     ensures usage { IsErrOf result WordsFault.Usage → check_in (map string_bytes words.entry.now) ≡ None }
 {
-    let command = command(alloc)?;
-    match parse(command, words) {
-        Ok(matches) => match named_file(&matches, "file") {
-            Some(file) => Ok(file),
-            None => Err(WordsFault::Usage),
-        },
-        Err(fault) => Err(fault),
-    }
+    let matches = parse(command(alloc)?, words)?;
+    named_file(&matches, "file").ok_or(WordsFault::Usage)
 }

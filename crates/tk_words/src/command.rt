@@ -44,37 +44,13 @@ pub fn read<'a>(alloc: Global, words: &'a [String]) -> Result<Command<'a>, Words
 {
     match verb_of(words) {
         None => Err(WordsFault::Usage),
-        Some(Verb::Replay) => match read_replay(alloc, words) {
-            Ok(replay) => Ok(Command::Replay(replay)),
-            Err(fault) => Err(fault),
-        },
-        Some(Verb::Generate) => match read_generate(alloc, words) {
-            Ok(generate) => Ok(Command::Generate(generate)),
-            Err(fault) => Err(fault),
-        },
-        Some(Verb::Live) => match read_live(alloc, words) {
-            Ok(live) => Ok(Command::Live(live)),
-            Err(fault) => Err(fault),
-        },
-        Some(Verb::Window) => match read_window(alloc, words) {
-            Ok(replay) => Ok(Command::Replay(replay)),
-            Err(fault) => Err(fault),
-        },
-        Some(Verb::Multi) => match read_multi(alloc, words) {
-            Ok(multi) => Ok(Command::Multi(multi)),
-            Err(fault) => Err(fault),
-        },
-        Some(Verb::Sessions) => match read_sessions(alloc, words) {
-            Ok(sources) => Ok(Command::Sessions(sources)),
-            Err(fault) => Err(fault),
-        },
-        Some(Verb::Trace) => match read_trace(alloc, words) {
-            Ok(replay) => Ok(Command::Trace(replay)),
-            Err(fault) => Err(fault),
-        },
-        Some(Verb::Check) => match read_check(alloc, words) {
-            Ok(file) => Ok(Command::Check(file)),
-            Err(fault) => Err(fault),
-        },
+        Some(Verb::Replay) => Ok(Command::Replay(read_replay(alloc, words)?)),
+        Some(Verb::Generate) => Ok(Command::Generate(read_generate(alloc, words)?)),
+        Some(Verb::Live) => Ok(Command::Live(read_live(alloc, words)?)),
+        Some(Verb::Window) => Ok(Command::Replay(read_window(alloc, words)?)),
+        Some(Verb::Multi) => Ok(Command::Multi(read_multi(alloc, words)?)),
+        Some(Verb::Sessions) => Ok(Command::Sessions(read_sessions(alloc, words)?)),
+        Some(Verb::Trace) => Ok(Command::Trace(read_trace(alloc, words)?)),
+        Some(Verb::Check) => Ok(Command::Check(read_check(alloc, words)?)),
     }
 }

@@ -51,12 +51,6 @@ pub fn read_generate(alloc: Global, words: &[String]) -> Result<Generate, WordsF
     ensures ok { IfOk result (λ g. generate_in (map string_bytes words.entry.now) ≡ Some (asked_generate g)) }
     ensures usage { IsErrOf result WordsFault.Usage → generate_in (map string_bytes words.entry.now) ≡ None }
 {
-    let command = command(alloc)?;
-    match parse(command, words) {
-        Ok(matches) => match values(&matches) {
-            Some(generate) => Ok(generate),
-            None => Err(WordsFault::Usage),
-        },
-        Err(fault) => Err(fault),
-    }
+    let matches = parse(command(alloc)?, words)?;
+    values(&matches).ok_or(WordsFault::Usage)
 }

@@ -35,13 +35,9 @@ fn values<'a>(alloc: Global, matches: &ArgMatches<'a>) -> Result<Live<'a>, Words
     ensures monitors { IfOk result (λ l. AreOfMonitors l.sources.logs.items) }
     ensures version { IfOk result (λ l. (l.frames ≡ 1) ⊎ (l.frames ≡ 2)) }
 {
-    let Some(frames) = frames(matches) else {
-        return Err(WordsFault::Usage);
-    };
-    match sources_with(alloc, matches, None, None) {
-        Ok(sources) => Ok(Live { sources, frames }),
-        Err(fault) => Err(fault),
-    }
+    let frames = frames(matches).ok_or(WordsFault::Usage)?;
+    let sources = sources_with(alloc, matches, None, None)?;
+    Ok(Live { sources, frames })
 }
 
 /// Reads the words of `live`, the command first.
@@ -51,12 +47,6 @@ pub fn read_live<'a>(alloc: Global, words: &'a [String]) -> Result<Live<'a>, Wor
     ensures monitors { IfOk result (λ l. AreOfMonitors l.sources.logs.items) }
     ensures version { IfOk result (λ l. (l.frames ≡ 1) ⊎ (l.frames ≡ 2)) }
 {
-    let command = command(alloc)?;
-    match parse(command, words) {
-        Ok(matches) => match values(alloc, &matches) {
-            Ok(live) => Ok(live),
-            Err(fault) => Err(fault),
-        },
-        Err(fault) => Err(fault),
-    }
+    let matches = parse(command(alloc)?, words)?;
+    values(alloc, &matches)
 }

@@ -36,24 +36,16 @@ fn values<'a>(alloc: Global, matches: &ArgMatches<'a>) -> Result<Multi<'a>, Word
     ensures usage { IsErrOf result WordsFault.Usage → multi_of (rows_of (found_of matches.now)) ≡ None }
     ensures monitors { IfOk result (λ m. AreOfMonitors m.logs.items) }
 {
-    let Some(objects) = named_file(matches, "objects") else {
-        return Err(WordsFault::Usage);
-    };
-    let Some(queries) = named_file(matches, "queries") else {
-        return Err(WordsFault::Usage);
-    };
-    let Some(order) = order(matches) else {
-        return Err(WordsFault::Usage);
-    };
-    match logs(alloc, matches) {
-        Ok(logs) => Ok(Multi {
-            objects,
-            queries,
-            order,
-            logs,
-        }),
-        Err(fault) => Err(fault),
-    }
+    let objects = named_file(matches, "objects").ok_or(WordsFault::Usage)?;
+    let queries = named_file(matches, "queries").ok_or(WordsFault::Usage)?;
+    let order = order(matches).ok_or(WordsFault::Usage)?;
+    let logs = logs(alloc, matches)?;
+    Ok(Multi {
+        objects,
+        queries,
+        order,
+        logs,
+    })
 }
 
 /// Reads the words of `multi`, the command first.
@@ -62,12 +54,6 @@ pub fn read_multi<'a>(alloc: Global, words: &'a [String]) -> Result<Multi<'a>, W
     ensures usage { IsErrOf result WordsFault.Usage → multi_in (map string_bytes words.entry.now) ≡ None }
     ensures monitors { IfOk result (λ m. AreOfMonitors m.logs.items) }
 {
-    let command = command(alloc)?;
-    match parse(command, words) {
-        Ok(matches) => match values(alloc, &matches) {
-            Ok(multi) => Ok(multi),
-            Err(fault) => Err(fault),
-        },
-        Err(fault) => Err(fault),
-    }
+    let matches = parse(command(alloc)?, words)?;
+    values(alloc, &matches)
 }

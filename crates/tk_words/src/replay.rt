@@ -39,16 +39,10 @@ pub fn replay_with<'a>(
     ensures monitors { IfOk result (λ r. AreOfMonitors r.sources.logs.items) }
     ensures carriage { IfOk result (λ r. IsCarriage r.carriage) }
 {
-    let Some(carriage) = carriage_in(matches) else {
-        return Err(WordsFault::Usage);
-    };
-    let Some(order) = order(matches) else {
-        return Err(WordsFault::Usage);
-    };
-    match sources_with(alloc, matches, order, width) {
-        Ok(sources) => Ok(Replay { sources, carriage }),
-        Err(fault) => Err(fault),
-    }
+    let carriage = carriage_in(matches).ok_or(WordsFault::Usage)?;
+    let order = order(matches).ok_or(WordsFault::Usage)?;
+    let sources = sources_with(alloc, matches, order, width)?;
+    Ok(Replay { sources, carriage })
 }
 
 /// Reads the words of `replay`, the command first.
@@ -58,12 +52,6 @@ pub fn read_replay<'a>(alloc: Global, words: &'a [String]) -> Result<Replay<'a>,
     ensures monitors { IfOk result (λ r. AreOfMonitors r.sources.logs.items) }
     ensures carriage { IfOk result (λ r. IsCarriage r.carriage) }
 {
-    let command = command(alloc)?;
-    match parse(command, words) {
-        Ok(matches) => match replay_with(alloc, &matches, None) {
-            Ok(replay) => Ok(replay),
-            Err(fault) => Err(fault),
-        },
-        Err(fault) => Err(fault),
-    }
+    let matches = parse(command(alloc)?, words)?;
+    replay_with(alloc, &matches, None)
 }

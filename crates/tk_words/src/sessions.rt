@@ -23,9 +23,7 @@ fn values<'a>(alloc: Global, matches: &ArgMatches<'a>) -> Result<Sources<'a>, Wo
     ensures usage { IsErrOf result WordsFault.Usage → sessions_of (rows_of (found_of matches.now)) ≡ None }
     ensures monitors { IfOk result (λ r. AreOfMonitors r.logs.items) }
 {
-    let Some(order) = order(matches) else {
-        return Err(WordsFault::Usage);
-    };
+    let order = order(matches).ok_or(WordsFault::Usage)?;
     sources_with(alloc, matches, order, None)
 }
 
@@ -35,12 +33,6 @@ pub fn read_sessions<'a>(alloc: Global, words: &'a [String]) -> Result<Sources<'
     ensures usage { IsErrOf result WordsFault.Usage → sessions_in (map string_bytes words.entry.now) ≡ None }
     ensures monitors { IfOk result (λ r. AreOfMonitors r.logs.items) }
 {
-    let command = command(alloc)?;
-    match parse(command, words) {
-        Ok(matches) => match values(alloc, &matches) {
-            Ok(sources) => Ok(sources),
-            Err(fault) => Err(fault),
-        },
-        Err(fault) => Err(fault),
-    }
+    let matches = parse(command(alloc)?, words)?;
+    values(alloc, &matches)
 }

@@ -26,12 +26,6 @@ pub fn read_trace<'a>(alloc: Global, words: &'a [String]) -> Result<Replay<'a>, 
     ensures monitors { IfOk result (λ r. AreOfMonitors r.sources.logs.items) }
     ensures carriage { IfOk result (λ r. IsCarriage r.carriage) }
 {
-    let command = command(alloc)?;
-    match parse(command, words) {
-        Ok(matches) => match replay_with(alloc, &matches, None) {
-            Ok(replay) => Ok(replay),
-            Err(fault) => Err(fault),
-        },
-        Err(fault) => Err(fault),
-    }
+    let matches = parse(command(alloc)?, words)?;
+    replay_with(alloc, &matches, None)
 }

@@ -25,9 +25,7 @@ fn values<'a>(alloc: Global, matches: &ArgMatches<'a>) -> Result<Replay<'a>, Wor
     ensures monitors { IfOk result (λ r. AreOfMonitors r.sources.logs.items) }
     ensures carriage { IfOk result (λ r. IsCarriage r.carriage) }
 {
-    let Some(width) = short(matches, "width") else {
-        return Err(WordsFault::Usage);
-    };
+    let width = short(matches, "width").ok_or(WordsFault::Usage)?;
     replay_with(alloc, matches, Some(width))
 }
 
@@ -38,12 +36,6 @@ pub fn read_window<'a>(alloc: Global, words: &'a [String]) -> Result<Replay<'a>,
     ensures monitors { IfOk result (λ r. AreOfMonitors r.sources.logs.items) }
     ensures carriage { IfOk result (λ r. IsCarriage r.carriage) }
 {
-    let command = command(alloc)?;
-    match parse(command, words) {
-        Ok(matches) => match values(alloc, &matches) {
-            Ok(replay) => Ok(replay),
-            Err(fault) => Err(fault),
-        },
-        Err(fault) => Err(fault),
-    }
+    let matches = parse(command(alloc)?, words)?;
+    values(alloc, &matches)
 }

@@ -1,4 +1,4 @@
-use Rattle.std.proofs.Common.{◌∙◌, ap, sym, subst}
+use Rattle.std.proofs.Common.{ap, sym, subst}
 use Rattle.tk_monitor.specs.Monitored.{MonitorView}
 use Rattle.tk_wire.specs.SureWire.{SureView}
 use Rattle.tk_bytes.specs.Greeting.{CanJoin, SeatsOne}

@@ -25,8 +25,8 @@ returns-in-Ok-join-clause-legal c =
     let are = histories c.args.settings c.args.logs c.args.from c.args.coordinator c.args.monitors.items c.requires c.monitors.ensures.limits c.monitors-2.ensures.limits in
     ordered_is_story (links_of s) c.args.logs c.args.from are (subst AreOrdered kept c.in-Ok-join.ensures.ordered)
 
-pub returns-clause-found : goal.returns-clause-found
-returns-clause-found c =
+pub returns-in-Err-clause-found : goal.returns-in-Err-clause-found
+returns-in-Err-clause-found c =
     let ends = c.in-Ok.ends.items in
     let s = recorded_from c.args.from c.args.settings c.args.logs c.args.coordinator.journal (map (λ (m : MonitorView). m.trail) c.args.monitors.items) in
     let kept = kept_is c.args.settings c.args.logs c.args.from c.args.coordinator c.args.monitors.items c.new-coordinator.result ends c.requires.settings_is c.new-coordinator.ensures.coordinator c.new-coordinator.ensures.odd c.in-Ok.ensures.monitors c.in-Ok.ensures.odds in

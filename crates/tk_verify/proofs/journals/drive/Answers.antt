@@ -8,12 +8,12 @@ use Rattle.tk_journal.specs.declared.noted.Noted.{Noted}
 use Rattle.tk_verify.specs.Driving.{IsDriven}
 use Rattle.tk_verify.proofs.FrontLemmas.{driven_on, fault_at_end, fault_here, length_take}
 use Rattle.tk_verify.proofs.JournalLemmas.{fresh, reached}
-use Rattle.tk_verify.proofs.journals.drive_coordinator.Goals as goal
+use Rattle.tk_verify.proofs.journals.drive.Goals as goal
 
 pub loop-i-init : goal.loop-i-init
 loop-i-init c = record {
-  settings = c.in_ok-coordinator.ensures.settings;
-  driven = subst (IsDriven (IsLegal (start c.args.settings)) []) (sym c.in_ok-coordinator.ensures.journal) (fresh c.args.settings);
+  settings = refl;
+  driven = subst (IsDriven (IsLegal (start c.args.coordinator.now.settings)) []) (sym c.requires) (fresh c.args.coordinator.now.settings);
 }
 
 pub reach-requires : goal.reach-requires
@@ -27,8 +27,8 @@ returns-then-not-did-clause-halts c =
     let entry = c.index-journal-i.result in
     let now = c.reach.new.coordinator.journal in
     let less : i < length journal = c.loop-i-test.true in
-    let leads = reached c.args.settings c.loop-i.coordinator (take i journal) entry now i c.loop-i.invariant.settings c.loop-i.invariant.driven (length_take journal i (omega (arith, less))) c.in_ok-reach.ensures.leads in
-    fault_here (IsLegal (start c.args.settings)) journal i entry now leads (slice_get_read journal (length journal) i entry refl less c.index-journal-i.is)
+    let leads = reached c.args.coordinator.now.settings c.loop-i.coordinator (take i journal) entry now i c.loop-i.invariant.settings c.loop-i.invariant.driven (length_take journal i (omega (arith, less))) c.in_ok-reach.ensures.leads in
+    fault_here (IsLegal (start c.args.coordinator.now.settings)) journal i entry now leads (slice_get_read journal (length journal) i entry refl less c.index-journal-i.is)
     (λ at. true≢false (sym (c.did.ensures.1 at) ∙ c.if-not-did.true))
 
 pub loop-i-preserved : goal.loop-i-preserved
@@ -38,10 +38,10 @@ loop-i-preserved c =
     let entry = c.index-journal-i.result in
     let now = c.reach.new.coordinator.journal in
     let less : i < length journal = c.loop-i-test.true in
-    let leads = reached c.args.settings c.loop-i.coordinator (take i journal) entry now i c.loop-i.invariant.settings c.loop-i.invariant.driven (length_take journal i (omega (arith, less))) c.in_ok-reach.ensures.leads in
+    let leads = reached c.args.coordinator.now.settings c.loop-i.coordinator (take i journal) entry now i c.loop-i.invariant.settings c.loop-i.invariant.driven (length_take journal i (omega (arith, less))) c.in_ok-reach.ensures.leads in
     record {
       settings = c.in_ok-reach.ensures.settings ∙ c.loop-i.invariant.settings;
-      driven = driven_on (IsLegal (start c.args.settings)) journal i entry now leads (slice_get_read journal (length journal) i entry refl less c.index-journal-i.is) (c.did.ensures.0 c.if-not-did.false);
+      driven = driven_on (IsLegal (start c.args.coordinator.now.settings)) journal i entry now leads (slice_get_read journal (length journal) i entry refl less c.index-journal-i.is) (c.did.ensures.0 c.if-not-did.false);
     }
 
 -- the coordinator did more than the journal says
@@ -52,5 +52,5 @@ returns-then-journal-clause-halts c =
     let past = c.loop-i-test.false in
     let more = c.if-journal.true in
     let same = ap length c.journal.ensures.value in
-    let driven = subst (λ (xs : List Noted). IsDriven (IsLegal (start c.args.settings)) xs now) (take_all c.loop-i.i journal past) c.loop-i.invariant.driven in
-    fault_at_end (IsLegal (start c.args.settings)) journal now driven (omega (arith, more, same))
+    let driven = subst (λ (xs : List Noted). IsDriven (IsLegal (start c.args.coordinator.now.settings)) xs now) (take_all c.loop-i.i journal past) c.loop-i.invariant.driven in
+    fault_at_end (IsLegal (start c.args.coordinator.now.settings)) journal now driven (omega (arith, more, same))
