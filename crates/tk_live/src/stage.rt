@@ -58,10 +58,7 @@ fn make_berth<N: Net>(
     ensures gone { HasGone (N.state net.old) (N.state net.new) }
 {
     let Plan { input, from, .. } = *plan;
-    let (link, rest, bell) = match net.connect() {
-        Ok(made) => made,
-        Err(fault) => return Err(fault),
-    };
+    let (link, rest, bell) = net.connect()?;
     let Ok(parts) = input.logs.parts(alloc, mon) else {
         return Err(NetFault::NoMemory);
     };
@@ -126,10 +123,7 @@ fn make_crew<N: Net>(
     ensures made { IfOk result (λ c. map (λ b. made_in b.port.monitor b.version) c.berths.items ≡ all_planned plan.now) }
     ensures gone { HasGone (N.state net.old) (N.state net.new) }
 {
-    let berths = match make_berths(alloc, plan, net) {
-        Ok(berths) => berths,
-        Err(fault) => return Err(fault),
-    };
+    let berths = make_berths(alloc, plan, net)?;
     let Ok(slots) = Vec::with_capacity(alloc, berths.len()) else {
         drop(berths);
         return Err(NetFault::NoMemory);
@@ -184,13 +178,8 @@ pub fn make_stage<N: Net>(
     ensures gone { HasGone (N.state net.old) (N.state net.new) }
     ensures open { IfOk result (λ s. (N.state net.new).listens ≡ true) }
 {
-    if let Err(fault) = net.listen() {
-        return Err(fault);
-    }
-    let crew = match make_crew(alloc, plan, net) {
-        Ok(crew) => crew,
-        Err(fault) => return Err(fault),
-    };
+    net.listen()?;
+    let crew = make_crew(alloc, plan, net)?;
     let hub = match make_hub(alloc, plan) {
         Ok(hub) => hub,
         Err(fault) => {
