@@ -1,5 +1,5 @@
-"""Checks each example's expected text against plain sums over its logs, the README's examples, and, where the
-program is built, that it prints these texts.
+"""Checks each example's expected text against plain sums over its logs, two texts of the README, that the edits which
+docs/causes.md names are there, and, where the program is built, that it prints these texts.
 
 It knows nothing of the protocol: a printed set is right where each member's total over the printed
 prefixes, plus epsilon, is at least that of every object outside. An example with a status is refused with it, and its
@@ -262,10 +262,22 @@ def ends_of_output():
                 yield f"{way}: the program ends in another way, status {done.returncode}"
 
 
+def lost_edits():
+    """The edits that docs/causes.md names are tried by the gate. A name without its crate is of the crate in front of it."""
+    for line in (ROOT / "docs" / "causes.md").read_text().splitlines():
+        cells = line.split("|")
+        crate = None
+        for name in re.findall(r"[a-z_0-9/]+", cells[4]) if len(cells) == 6 and cells[4].strip() != "edit" else ():
+            crate, name = name.split("/") if "/" in name else (crate, name)
+            if not (ROOT / "crates" / str(crate) / "must-fail" / f"{name}.edit").exists():
+                yield f"docs/causes.md: there is no edit {crate}/{name}"
+
+
 def main():
     folders = [folder for folder in sorted((ROOT / "examples").iterdir()) if folder.is_dir()]
     faults = [check(folder) for folder in folders]
     faults.append(altered())
+    faults += lost_edits()
     if PROGRAM.exists():
         faults += [run(folder) for folder in folders]
         faults += [*ends_of_output(), *traces(), *checked_replays(folders), *ends_of_checks()]
@@ -278,7 +290,8 @@ def main():
     if (TRACED / "expected.txt").read_text() != (ROOT / "crates" / "topk" / "stdout").read_text():
         faults.append("crates/topk/stdout: not the expected text")
     faults = [fault for fault in faults if fault]
-    print("\n".join(faults) or "examples: ok")
+    seen = "examples: ok" if PROGRAM.exists() else "examples: ok, but the program is not built and was not run"
+    print("\n".join(faults) or seen)
     return 1 if faults else 0
 
 
