@@ -1,4 +1,4 @@
--- No event of a settling raises the energy of a monitor, and each lowers that of its own: as `MoveLemmas` of tk_settle, which says it of all together.
+-- No event of a settling raises the energy of a monitor, and each lowers that of its own: as `MoveLemmas`, which says it of all together.
 use Rattle.std.proofs.Common.{◌≡◌, ℕ, suc, zero, ◌+◌, ◌*◌, ◌<◌, ◌≤◌, ◌&&◌, ◌||◌, Bool, true, false, List, [], ◌∷◌, refl, sym, ap, ◌∙◌, subst, arith, inl, inr}
 use Rattle.std.specs.Prelude.{if◌then◌else◌, ◌⊎◌}
 use Rattle.std.specs.List.{range_with_len, list_all, list_any}

@@ -138,8 +138,8 @@ pub sweeping_cut : (old now end : KeptStory) (n : ℕ) → Sweeping old now n �
 sweeping_cut old now end n so f = so.begins end (Within now end f.front f.is_front f.is)
 
 -- the bound is never reached
-never_most : (n m : ℕ) → n ≤ 87 * m → 200 * (m + 1) ≤ n → ⊥
+never_most : (n m : ℕ) → n ≤ 87 * m → 87 * m + 1 ≤ n → ⊥
 never_most n m few most = omega (arith, few, most)
 
-pub sweeping_ends : (old now : KeptStory) (n : ℕ) → IsStory old.story → Sweeping old now n → 200 * (old.story.settings.monitors + 1) ≤ n → ⊥
+pub sweeping_ends : (old now : KeptStory) (n : ℕ) → IsStory old.story → Sweeping old now n → 87 * old.story.settings.monitors + 1 ≤ n → ⊥
 sweeping_ends old now n h so most = never_most n old.story.settings.monitors (sweeping_few old now n h so) most

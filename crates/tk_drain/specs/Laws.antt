@@ -1,12 +1,8 @@
--- What the drive of an order leads to, and what each event of a settling costs.
-use Rattle.std.specs.Prelude.{ℕ, if◌then◌else◌, List, [], ◌≡◌, Some, ◌<◌, ◌*◌, ◌≤◌, true, length, ◌+◌}
+-- What the drive of an order leads to, and how long a settling is and where it ends.
+use Rattle.std.specs.Prelude.{ℕ, if◌then◌else◌, List, [], ◌≡◌, Some, ◌*◌, ◌≤◌, true, length, ◌+◌}
 use Rattle.std.specs.List.{list_all}
 use Rattle.tk_base.specs.Settings.{Setup}
 use Rattle.tk_drain.specs.Drive.{IsReached}
-use Rattle.tk_drain.specs.Energy.{Falls, Local, Shared, energies}
-use Rattle.tk_drain.specs.Fits.{FitsOne}
-use Rattle.tk_drain.specs.Moves.{Checks, Takes}
-use Rattle.tk_drain.specs.Reads.{readings}
 use Rattle.tk_drain.specs.Resting.{RunsFrom}
 use Rattle.tk_drain.specs.Settling.{is_settling, events_of}
 use Rattle.tk_input.specs.Logs.{LogSet}
@@ -18,7 +14,7 @@ use Rattle.tk_story.specs.Kept.{KeptStory}
 use Rattle.tk_story.specs.Moments.{IsOver}
 use Rattle.tk_story.specs.Story.{IsStory, StoryView, trail_of, setup_of}
 use Rattle.tk_trail.specs.Readings.{is_stopped as has_stopped, at_ends}
-use Rattle.tk_world.specs.Events.{begin, check_at, next_of, down_at, up_at, after, CanOnlyChange}
+use Rattle.tk_world.specs.Events.{begin, after, CanOnlyChange}
 
 -- what is reached from a beginning runs the events that are kept with it
 abbrev pub ReachedFromTheBeginningRuns : Type 0
@@ -26,30 +22,6 @@ ReachedFromTheBeginningRuns =
     (settings : Setup) (logs : LogSet) (from : List (List ℕ)) (end : KeptStory)
     → IsStory end.story → IsReached (record { story = begin settings logs from; events = [] }) end
     → RunsFrom settings logs from end
-
--- a check that sends is one by the readings
-abbrev pub CheckFalls : Type 0
-CheckFalls =
-    (s t : StoryView) (mon : ℕ)
-    → IsStory s → next_of s (check_at mon) ≡ Some t → Checks s.settings.monitors mon (readings s) (readings t)
-
--- a frame of the coordinator that is taken is one by the readings
-abbrev pub TakenFrameFalls : Type 0
-TakenFrameFalls =
-    (s t : StoryView) (mon : ℕ)
-    → IsStory s → next_of s (down_at mon) ≡ Some t → Takes s.settings.monitors mon (readings s) (readings t)
-
--- a turn of the coordinator fits one kind
-abbrev pub TurnFalls : Type 0
-TurnFalls =
-    (s t : StoryView) (mon : ℕ)
-    → IsStory s → next_of s (up_at mon) ≡ Some t → FitsOne s.settings.monitors mon (readings s) (readings t)
-
--- what costs no more than is shared leaves less energy
-abbrev pub EachEventCostsEnergy : Type 0
-EachEventCostsEnergy =
-    (m at cost : ℕ) (s s' : Shared) (local local' : ℕ → Local)
-    → Falls m at cost s s' local local' → energies m s' local' < energies m s local
 
 -- a settling has at most 87 events for each monitor
 abbrev pub SettlingIsShort : Type 0

@@ -69,8 +69,10 @@ pub fn drive<N: Nodes>(alloc: Global, world: &mut World<N>, order: &Order) -> Re
     ensures driven { OnOk result (Drives order.now.events world.old world.new) }
     ensures over { OnOk result (IsOver world.new.story) }
     ensures err { OnErr result (BeginsDrive order.now.events world.old world.new) }
-    ensures legal { OnOk result (IsStory world.new.story) }
+    ensures legal { IsStory world.new.story }
 {
+    // The settings are read for their clause, that the world's story is one.
+    let _ = world.settings();
     for i in 0..order.len() {
         world.step(order.at(i).try_clone()?)?;
     }

@@ -6,10 +6,8 @@
 #![tactic(auto)]
 
 mod driven;
-mod falls;
 mod finishing;
 mod leg;
-mod moves;
 mod parts;
 mod settling;
 mod sweeps;

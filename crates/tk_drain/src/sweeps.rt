@@ -35,12 +35,12 @@ pub fn sweep<N: Nodes>(world: &mut World<N>) -> Result<Moved, NoMemory>
 /// Sweeps until one moves nothing.
 pub fn settle<N: Nodes>(world: &mut World<N>) -> Result<Sweeps, NoMemory>
     ensures settles { IfOk result (λ sweeps. Settles world.old world.new sweeps.count) }
-    ensures most { IfOk result (λ sweeps. sweeps.count ≤ 200 * (world.old.story.settings.monitors + 1)) }
+    ensures most { IfOk result (λ sweeps. sweeps.count ≤ 87 * world.old.story.settings.monitors + 1) }
     ensures rests { OnOk result (ComesToRest world.old.story world.new.story) }
     ensures err { OnErr result (BeginsSettling world.old world.new) }
     ensures legal { IsStory world.new.story }
 {
-    let most = 200 * (u64::from(world.settings().monitors()) + 1);
+    let most = 87 * u64::from(world.settings().monitors()) + 1;
     for moved in 0..most {
         match sweep(world)? {
             Moved::Yes => {}

@@ -12,7 +12,7 @@ use Rattle.tk_frames.specs.Answer.{Answers}
 use Rattle.tk_frames.specs.declared.answer.Next.TheVariants as n
 use Rattle.tk_journal.specs.declared.refusal.CoordRefusal.{CoordRefusal}
 use Rattle.tk_journal.specs.Laws.{IsMonitor}
-use Rattle.tk_wire.specs.Meanings.{raised_by}
+use Rattle.tk_wire.specs.Meanings.{Counts, raised_by}
 use Rattle.tk_wire.specs.declared.out_buffer.Pushed.{Pushed}
 use Rattle.tk_hub.proofs.HearLemmas.{holds_at}
 use Rattle.tk_hub.specs.Desk.{refuses}
@@ -347,16 +347,16 @@ open_said mon c result (Some x) None h o = absurd h
 open_said mon c result (Some x) (Some y) h o = h.says.shut ∙ o
 
 -- a turn, with what its course leaves
-pub turns_concluded : {W : Type 0} (turn : HubTurn) (old : HubView W) (mid : SeatsView W) (after : LobbyView W) (last : DoorView W) (lines : Lines) (course : Course) → Works turn (seats_of old) (record { held = old.held; strangers = old.strangers }) mid after lines
+pub turns_concluded : {W : Type 0} (counts : W → Counts) (turn : HubTurn) (old : HubView W) (mid : SeatsView W) (after : LobbyView W) (last : DoorView W) (lines : Lines) (course : Course)
+    → Works counts turn (seats_of old) (record { held = old.held; strangers = old.strangers }) mid after lines
     → Closes (is_open (course_of turn)) (record { lobby = after; links = mid.links }) last → course ≡ course_of turn
-    → Turns turn old (record { run = mid.run; coordinator = mid.coordinator; links = last.links; held = last.lobby.held; strangers = last.lobby.strangers; lines = lines; course = course })
-turns_concluded {W} turn old mid after last lines course w closes on =
+    → Turns counts turn old (record { run = mid.run; coordinator = mid.coordinator; links = last.links; held = last.lobby.held; strangers = last.lobby.strangers; lines = lines; course = course })
+turns_concluded {W} counts turn old mid after last lines course w closes on =
     let before : DoorView W = record { lobby = after; links = mid.links } in
     record {
       course = on;
       greeted = w.greeted;
       welcome = w.welcome;
-      counts = w.counts;
       greets = w.greets;
       memory = w.memory;
       exchanges = exchanges_concluded turn (record { run = old.run; coordinator = old.coordinator; links = w.greeted.links }) mid before last lines refl closes w.exchanges;

@@ -140,11 +140,10 @@ no_error welcome none is = absurd (false≢true (sym none ∙ is))
 
 pub works_of : {W : Type 0} (counts : W → Counts) (turn : HubTurn) (welcome : Result (Unit {0}) NoMemory) (old : SeatsView W) (before : LobbyView W) (met : SeatsView W) (after : LobbyView W) (new : SeatsView W) (lines : Lines)
     → GreetsHeld counts old.run old.coordinator.settings.monitors welcome (record { lobby = before; links = old.links }) (record { lobby = after; links = met.links }) → met ≡ record old { links = met.links } → (IsErr welcome → turn ≡ t.NoMemory)
-    → Exchanges turn met new lines → Works turn old before new after lines
+    → Exchanges turn met new lines → Works counts turn old before new after lines
 works_of {W} counts turn welcome old before met after new lines greets is memory exchanges = record {
   greeted = record { lobby = after; links = met.links };
   welcome = welcome;
-  counts = counts;
   greets = greets;
   memory = memory;
   exchanges = subst (λ (v : SeatsView W). Exchanges turn v new lines) is exchanges;

@@ -7,7 +7,9 @@ use Rattle.tk_journal.specs.declared.noted.Noted.{Noted}
 use Rattle.tk_journal.specs.declared.noted.Noted.TheVariants as n
 use Rattle.tk_ledger.specs.Text.{lines_of}
 use Rattle.tk_hub.specs.Lines.{AreNamed, text_between, written_in}
-use Rattle.tk_hub.specs.Writing.{WritesLines}
+use Rattle.tk_hub.specs.Writing.{WritesLines, turn_faults}
+use Rattle.tk_hub.specs.declared.course.HubTurn.{HubTurn}
+use Rattle.tk_hub.specs.declared.course.HubTurn.TheVariants as t
 use Rattle.tk_hub.specs.declared.lines.Lines.{Lines}
 
 nothing_grows : (x : Option (List ℕ)) (bytes : List ℕ) → bytes ≡ [] → Grows x x bytes
@@ -32,3 +34,14 @@ named monitors objects names (n.Tuned k epsilon) few is = tt
 -- the members that are published have names
 pub all_named : (monitors objects names : ℕ) (journal : List Noted) → objects ≤ names → All (IsEntryOf monitors objects) journal → All (AreNamed names) journal
 all_named monitors objects names journal few all = λ k d within. named monitors objects names _ few (all k d within)
+
+-- a turn that did not fail to write leaves the count of faults
+pub no_fault : (turn : HubTurn) (faults : ℕ) → (turn ≡ t.WriteFailed → ⊥) → faults ≡ turn_faults turn faults
+no_fault t.Quiet faults other = refl
+no_fault t.More faults other = refl
+no_fault t.Finished faults other = refl
+no_fault t.Failed faults other = refl
+no_fault (t.Refused mon why) faults other = refl
+no_fault (t.Bad mon fault) faults other = refl
+no_fault t.WriteFailed faults other = absurd (other refl)
+no_fault t.NoMemory faults other = refl

@@ -108,12 +108,12 @@ pub record Exchanges {W : Type 0} (turn : HubTurn) (old new : SeatsView W) (line
   pub unfinished : goes_on turn ≡ true → IsFinishedBy new lines → ⊥
   pub finished : turn ≡ t.Finished → IsFinishedBy new lines
 
--- a turn of an open hub: those that are held are greeted, and then, where that found the memory, frames are exchanged
-pub record Turns {W : Type 0} (turn : HubTurn) (old new : HubView W) : Type 0 where
+-- a turn of an open hub, whose wires have these counts: those that are held are greeted, and then, where that found the
+-- memory, frames are exchanged
+pub record Turns {W : Type 0} (counts : W → Counts) (turn : HubTurn) (old new : HubView W) : Type 0 where
   pub course : new.course ≡ course_of turn
   pub greeted : DoorView W
   pub welcome : Result (Unit {0}) NoMemory
-  pub counts : W → Counts
   pub greets : GreetsHeld counts old.run old.coordinator.settings.monitors welcome (door_of old) greeted
   pub memory : IsErr welcome → turn ≡ t.NoMemory
   pub exchanges : Exchanges turn (record { run = old.run; coordinator = old.coordinator; links = greeted.links }) (seats_of new) new.lines
@@ -121,10 +121,9 @@ pub record Turns {W : Type 0} (turn : HubTurn) (old new : HubView W) : Type 0 wh
   pub held : is_open (course_of turn) ≡ true → new.held ≡ greeted.lobby.held
 
 -- the same of the seats and of those that are held, before its course is known
-pub record Works {W : Type 0} (turn : HubTurn) (old : SeatsView W) (before : LobbyView W) (new : SeatsView W) (after : LobbyView W) (lines : Lines) : Type 0 where
+pub record Works {W : Type 0} (counts : W → Counts) (turn : HubTurn) (old : SeatsView W) (before : LobbyView W) (new : SeatsView W) (after : LobbyView W) (lines : Lines) : Type 0 where
   pub greeted : DoorView W
   pub welcome : Result (Unit {0}) NoMemory
-  pub counts : W → Counts
   pub greets : GreetsHeld counts old.run old.coordinator.settings.monitors welcome (record { lobby = before; links = old.links }) greeted
   pub memory : IsErr welcome → turn ≡ t.NoMemory
   pub exchanges : Exchanges turn (record { run = old.run; coordinator = old.coordinator; links = greeted.links }) new lines

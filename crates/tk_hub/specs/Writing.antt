@@ -2,6 +2,7 @@
 use Rattle.std.specs.Prelude.{◌≡◌, ◌≤◌, ℕ, List, length, Option}
 use Rattle.std.specs.List.{concat}
 use Rattle.tk_base.specs.History.{IsFront}
+use Rattle.tk_input.specs.Files.{one_more}
 use Rattle.tk_input.specs.Sink.{Grows}
 use Rattle.tk_journal.specs.declared.noted.Noted.{Noted}
 use Rattle.tk_ledger.specs.Text.{lines_of}
@@ -38,3 +39,14 @@ WritesUnless turn names journal from to old new = (turn ≡ t.WriteFailed → �
 
 abbrev pub CutsWhere : HubTurn → List (List ℕ) → List Noted → Lines → Lines → Option (List ℕ) → Option (List ℕ) → Type 0
 CutsWhere turn names journal from to old new = turn ≡ t.WriteFailed → CutsLine names journal from to old new
+
+-- how many puts failed after a turn: one more exactly where it says so
+abbrev pub turn_faults : HubTurn → ℕ → ℕ
+turn_faults t.Quiet faults = faults
+turn_faults t.More faults = faults
+turn_faults t.Finished faults = faults
+turn_faults t.Failed faults = faults
+turn_faults (t.Refused mon why) faults = faults
+turn_faults (t.Bad mon fault) faults = faults
+turn_faults t.WriteFailed faults = one_more faults
+turn_faults t.NoMemory faults = faults

@@ -7,7 +7,7 @@ ghost use Rattle.tk_hub.specs.Door.{GreetsHeld, HoldsNew, door};
 ghost use Rattle.tk_hub.specs.Hub.{Closes, Cuts, EachOpen, IsFinished, IsFinishedBy, IsHub, Turns, TurnsOne, Works, Writes};
 ghost use Rattle.tk_hub.specs.Hub.{door_of, seats_of, with_door};
 ghost use Rattle.tk_hub.specs.Lines.{IsAt};
-ghost use Rattle.tk_hub.specs.Writing.{CutsWhere, WritesUnless};
+ghost use Rattle.tk_hub.specs.Writing.{CutsWhere, WritesUnless, turn_faults};
 ghost use Rattle.tk_hub.specs.Seats.{AreSeats, EachShuts, admits, link_of, monitors_of, with_link};
 ghost use Rattle.tk_hub.specs.Slot.{SeatSays};
 ghost use Rattle.tk_hub.specs.Turn.{answer_of, course_of, halted_of, is_open};
@@ -88,7 +88,7 @@ fn exchange<W: Wire + Drop, O: Sink>(
     requires seats { AreSeats seats.old }
     requires at { IsAt seats.old.coordinator.journal lines.old }
     requires named { seats.old.coordinator.settings.objects ≤ length names.now }
-    ensures works { Works result seats.old lobby.old seats.new lobby.new lines.new }
+    ensures works { Works W.counts result seats.old lobby.old seats.new lobby.new lines.new }
     ensures seats { AreSeats seats.new }
     ensures at { IsAt seats.new.coordinator.journal lines.new }
     ensures going { EachOpen seats.old.links → EachOpen seats.new.links }
@@ -100,6 +100,7 @@ fn exchange<W: Wire + Drop, O: Sink>(
     ensures cut { CutsWhere result
         names.now seats.new.coordinator.journal lines.old lines.new (O.written out.old) (O.written out.new) }
     ensures failed { result ≡ HubTurn.WriteFailed → HasRisen (O.fault_count out.old) (O.fault_count out.new) }
+    ensures counted { O.fault_count out.new ≡ turn_faults result (O.fault_count out.old) }
 {
     if lobby.greet(seats).is_err() {
         return HubTurn::NoMemory;
@@ -216,13 +217,14 @@ impl<W: Wire + Drop> Hub<W> {
         ensures over { self.old.course ≡ Course.Open → IsFinished self.old → (result ≡ HubTurn.Finished) × (self.new ≡ self.old) }
         ensures silent { (self.old.course ≡ Course.Open → IsFinished self.old) → out.new ≡ out.old }
         // Any other takes a turn. Finished says that all lines of all publications are written, and all is given.
-        ensures goes { self.old.course ≡ Course.Open → (IsFinished self.old → ⊥) → Turns result self.old self.new }
+        ensures goes { self.old.course ≡ Course.Open → (IsFinished self.old → ⊥) → Turns W.counts result self.old self.new }
         ensures finished { result ≡ HubTurn.Finished → IsFinished self.new }
         // The lines of the publications that were passed are written, and only WriteFailed leaves a part of one.
         ensures lines { Writes result names.now self.old self.new (O.written out.old) (O.written out.new) }
         ensures cut { Cuts result names.now self.old self.new (O.written out.old) (O.written out.new) }
         ensures forward { self.old.lines.passed ≤ self.new.lines.passed }
         ensures failed { result ≡ HubTurn.WriteFailed → HasRisen (O.fault_count out.old) (O.fault_count out.new) }
+        ensures counted { O.fault_count out.new ≡ turn_faults result (O.fault_count out.old) }
         // Whatever it answers, its course is that of the answer, and what it was made with stays.
         ensures course { self.new.course ≡ course_of result }
         ensures run { self.new.run ≡ self.old.run }

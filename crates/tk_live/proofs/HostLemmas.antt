@@ -18,6 +18,7 @@ use Rattle.tk_hub.specs.declared.course.Course.TheVariants as cs
 use Rattle.tk_hub.specs.declared.course.HubTurn.{HubTurn}
 use Rattle.tk_hub.specs.declared.course.HubTurn.TheVariants as t
 use Rattle.tk_hub.proofs.LinesLemmas.{grows_none, lines_add, lines_within, text_all, text_none, text_stays}
+use Rattle.tk_wire.specs.Meanings.{Counts}
 use Rattle.tk_wire.specs.Net.{NetState, called, listened}
 use Rattle.tk_wire.specs.declared.net.NetFault.{NetFault}
 use Rattle.tk_wire.specs.declared.net.NetFault.TheVariants as fault
@@ -145,7 +146,8 @@ pub record TurnsLines {W : Type 0} (turn : HubTurn) (names : List (List ℕ)) (h
   pub kept : IsHub hub'
   pub course : hub'.course ≡ course_of turn
   pub finished : turn ≡ t.Finished → IsFinished hub'
-  pub goes : Turns turn hub hub'
+  pub counts : W → Counts
+  pub goes : Turns counts turn hub hub'
 
 module _ {W : Type 0} (names : List (List ℕ)) (old hub hub' : HubView W) (net net1 : NetState) (before now next : Option (List ℕ)) (g : IsGoing names old hub net net1 before now) where
   -- what was written before the turn, in words of the journal behind it

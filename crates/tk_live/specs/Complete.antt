@@ -1,4 +1,4 @@
--- What makes a story that was joined one that is over.
+-- What makes a story that was joined one that is over. No public clause cites it.
 use Rattle.std.specs.Prelude.{ℕ, ◌≡◌, ◌+◌, ◌-◌, ◌^◌, ◌≤◌, min, true, List, sum_by}
 use Rattle.std.specs.List.{concat}
 use Rattle.tk_frames.specs.Spelling.{IsVersion}

@@ -1,4 +1,4 @@
--- The workers of a live run, and what each of them answers.
+-- The workers of a live run, and what each of them answers. No public clause cites it.
 use Rattle.std.specs.Prelude.{ℕ, List}
 use Rattle.tk_monitor.specs.Monitored.{MonitorView}
 use Rattle.tk_story.specs.Ends.{as_made}

@@ -1,4 +1,4 @@
--- The hub's side of a live run, from what the host was given to what it hands on.
+-- The hub's side of a live run, from what the host was given to what it hands on. No public clause cites it.
 use Rattle.std.specs.Prelude.{ℕ, List}
 use Rattle.tk_input.specs.declared.sink.Sink.{Ghosts as SinkOf}
 use Rattle.tk_wire.specs.Net.{NetState}

@@ -1,4 +1,4 @@
--- What the caller's loop over its hub does with the net, the sink and the hub.
+-- What the caller's loop over its hub does with the net, the sink and the hub. No public clause cites it.
 use Rattle.std.specs.Prelude.{ℕ, ◌≡◌, ◌≤◌, ◌⊎◌, List, [], length, true, false, Option, ⊤}
 use Rattle.std.specs.List.{concat}
 use Rattle.tk_base.specs.History.{IsFront}

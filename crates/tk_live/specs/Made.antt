@@ -1,4 +1,4 @@
--- The monitors that are made for an input.
+-- The monitors that are made for an input. No public clause cites it.
 use Rattle.std.specs.Prelude.{ℕ, List, map}
 use Rattle.tk_journal.specs.Readings.{monitors}
 use Rattle.tk_load.specs.declared.input.Input.{Input}

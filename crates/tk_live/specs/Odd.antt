@@ -1,4 +1,4 @@
--- What some end was given next and did not take.
+-- What some end was given next and did not take. No public clause cites it.
 use Rattle.std.specs.Prelude.{ℕ, ◌≡◌, ◌<◌, ◌⊎◌, List, length, slice_index_or, true, Option, None, is_some}
 use Rattle.tk_base.specs.declared.ids.Mon.{Mon}
 use Rattle.tk_story.specs.declared.ends.received.Received.{Received}

@@ -1,4 +1,4 @@
--- Why the caller's loop over its hub ended.
+-- Why the caller's loop over its hub ended. No public clause cites it.
 use Rattle.std.specs.Prelude.{Bool, true, false, Option, Some, None}
 use Rattle.tk_hub.specs.declared.course.HubTurn.{HubTurn}
 use Rattle.tk_hub.specs.declared.course.HubTurn.TheVariants as t

@@ -1,4 +1,4 @@
--- What a worker was made of, whether it is in a thread of its own or ended here.
+-- What a worker was made of, whether it is in a thread of its own or ended here. No public clause cites it.
 use Rattle.std.specs.Prelude.{ℕ}
 use Rattle.tk_monitor.specs.Monitored.{MonitorView}
 use Rattle.tk_live.specs.Crew.{made_in}

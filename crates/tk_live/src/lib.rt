@@ -1,9 +1,9 @@
 //! The live run: a worker for each monitor with its feeders, and the coordinator beside them, over the links of a net.
 //!
-//! It promises of a run that is done what a replay promises: its story is sound, it is the one of the input, it runs its
-//! events, and what was written is its text; and that no fewer bytes came over the net's links than such a story needs. Any
-//! other verdict has its cause: the output's faults, the net's, or a difference that the ends show. It promises nothing of
-//! time, of which of the possible sets are published, or that it returns.
+//! It promises of a run that is done that its story is sound, is over the input's settings and logs and runs its events,
+//! that what was written is its text, and that no fewer bytes came over the net's links than such a story needs. Any other
+//! verdict but want of memory has its cause: the output's faults, the net's, or a difference that the ends show. It promises
+//! nothing of time, of which of the possible sets are published, or that it returns.
 #![tactic(auto)]
 
 mod berths;

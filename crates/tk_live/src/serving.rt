@@ -2,6 +2,7 @@ ghost use Rattle.std.specs.Prelude.{◌≡◌, false, map, string_bytes};
 ghost use Rattle.tk_input.specs.Files.{HasRisen};
 ghost use Rattle.tk_live.specs.Serving.{EndsWords};
 ghost use Rattle.tk_live.specs.Traffic.{all_met};
+ghost use Rattle.tk_load.specs.Reads.{AreKept};
 ghost use Rattle.tk_load.specs.declared.status.Status.TheVariants.{LinkFault as Unlinked, WriteFault as Unwritten};
 
 use crate::living::live_over;
@@ -33,6 +34,8 @@ pub fn live<R: Threads + Wait + Sync, F: Files, N: Net, G: Gate + Sync, O: Sink>
     // The words are refused, they give no input, or their input has run: all of the headline holds of what is done.
     ensures ends { EndsWords (map string_bytes words.now)
         (all_met F.Files O.Sink N.state files.old files.new out.old out.new net.old net.new) result }
+    // Reading changes nothing that is told of the files.
+    ensures kept { AreKept F.Files files.old files.new }
     // Each fault has its cause.
     ensures failed { result.status ≡ Unlinked → HasRisen (N.state net.old).faults (N.state net.new).faults }
     ensures unwritten { result.status ≡ Unwritten → HasRisen (O.fault_count out.old) (O.fault_count out.new) }

@@ -1,11 +1,14 @@
 -- Inputs of a few words and files, computed, and which rule fails first.
 use Rattle.std.proofs.Common.{◌≡◌, ℕ, pos, List, [], ◌∷◌, Option, Some, None, Ok, Err, codes, refl}
+use Rattle.std.specs.Prelude.{neg_ℤ}
 use Rattle.csv.proofs.OnLiterals.{csv_on_literals}
 use Rattle.tk_base.specs.Objects.{objects}
 use Rattle.tk_input.specs.Records.{through}
 use Rattle.tk_load.specs.Faults.Fault.{Bad, Unread}
 use Rattle.tk_load.specs.Input.{File, ReadWords, input_of}
+use Rattle.tk_load.specs.Windowed.{ticked_rows}
 use Rattle.tk_load.specs.declared.status.InputKind.TheVariants as k
+use Rattle.tk_window.specs.Window.{up_to}
 
 abbrev names : File
 names = record { name = codes "objects.csv"; content = Some (codes "a\nb\n") }
@@ -64,3 +67,31 @@ gap = refl
 pub retune : input_of (asked 1 (Some (record { name = codes "k.txt"; content = Some (codes "up 1\n\nretune 3 0\n") })) ((1, one) ∷ [])) ≡ Err (Bad (codes "k.txt") 3 k.BadK)
 unfolding csv_on_literals through objects
 retune = refl
+
+-- ---- a window over the logs
+
+abbrev ticking : File
+ticking = record { name = codes "ticking.csv"; content = Some (codes "a,5\ntick\nb,2\n") }
+
+abbrev logs : List (ℕ × File)
+logs = (2, two) ∷ (1, ticking) ∷ (1, one) ∷ []
+
+-- by monitor, and of each in the order of the words
+pub rows_of_logs : ticked_rows (codes "a" ∷ codes "b" ∷ []) logs ≡
+    ((((1, pos 5) ∷ []) ∷ ((2, pos 2) ∷ []) ∷ []) ∷ (((1, pos 5) ∷ []) ∷ []) ∷ []) ∷ ((((2, pos 3) ∷ []) ∷ []) ∷ []) ∷ []
+unfolding csv_on_literals through
+rows_of_logs = refl
+
+-- over a window of one tick the five of a are taken back
+pub window_of_one : input_of (record { k = 1; epsilon = 0; own_weight = 1; objects = names; order = None; width = Some 1; logs = logs }) ≡ Ok (record {
+  names = codes "a" ∷ codes "b" ∷ [];
+  settings = record { k = 1; epsilon = pos 0; own_weight = 1; objects = 2; monitors = 2 };
+  logs = record {
+    logs = (((1, pos 5) ∷ (1, neg_ℤ (pos 5)) ∷ (2, pos 2) ∷ []) ∷ ((1, pos 5) ∷ []) ∷ []) ∷ (((2, pos 3) ∷ []) ∷ []) ∷ [];
+    objects = 2;
+  };
+  ends = Some (((1 ∷ 3 ∷ []) ∷ (1 ∷ []) ∷ []) ∷ ((1 ∷ []) ∷ []) ∷ []);
+  order = None;
+})
+unfolding csv_on_literals through objects up_to
+window_of_one = refl

@@ -13,3 +13,4 @@ mod SessionLemmas
 pub mod ToldLemmas
 pub mod TracedLemmas
 mod UnreadLemmas
+pub mod WindowedLemmas

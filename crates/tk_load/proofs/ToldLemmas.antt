@@ -2,11 +2,13 @@
 use Rattle.std.proofs.Common.{◌≡◌, ℕ, suc, List, [], ◌∷◌, ◌++◌, All, Option, Some, None, IfSome, option_map, Result, map, refl, ap, sym, subst, ◌∙◌, arith}
 use Rattle.std.proofs.lemmas.List.Elements.{All-head}
 use Rattle.tk_input.specs.Files.{HasRisen}
-use Rattle.tk_words.specs.Words.{SourceWords}
-use Rattle.tk_load.specs.Input.{File, ReadWords, input_of}
-use Rattle.tk_load.specs.Reads.{AreRead, FileReads, Gave, IsRead, Loads, Meets, log_of, words_of}
-use Rattle.tk_load.specs.Told.{AreTold, file_by, only, read_by}
-use Rattle.tk_load.specs.declared.input.Input.{Input}
+use Rattle.tk_words.specs.Words.{MultiWords, SourceWords}
+use Rattle.tk_load.specs.Faults.{Fault}
+use Rattle.tk_load.specs.Input.{File, ReadWords}
+use Rattle.tk_load.specs.MultiInput.{AreMultiRead, LoadsMulti, ReadMulti, given_by, multi_input_of, multi_words_of}
+use Rattle.tk_load.specs.Reads.{AreRead, FileReads, Gave, IsRead, LoadsBy, Meets, log_of, words_of}
+use Rattle.tk_load.specs.Told.{AreTold, file_by, files_of, multi_files_of, multi_read_by, only, read_by}
+use Rattle.tk_load.specs.declared.multi.MultiInput.{MultiInput}
 use Rattle.tk_load.specs.declared.status.Status.{Status}
 
 -- a read that did not fail gave what is told
@@ -49,7 +51,7 @@ module _ (reads : FileReads) (contents : List ℕ → List ℕ) where
   with read objects order logs = record { k = read.k; epsilon = read.epsilon; own_weight = read.own_weight; objects = objects; order = order; width = read.width; logs = logs }
 
   -- so the words with their files are those with what is told
-  all_told : (read : ReadWords) → AreTold reads contents (words_of read) → AreRead reads (words_of read) read → read ≡ read_by contents (words_of read)
+  all_told : (read : ReadWords) → AreTold reads contents (files_of (words_of read)) → AreRead reads (words_of read) read → read ≡ read_by contents (words_of read)
   all_told read are given =
       let names = map (λ (l : ℕ × List ℕ). l.1) (map log_of read.logs) ++ only (option_map (λ (f : File). f.name) read.order) in
       let objects = file_told read.objects (All-head Told read.objects.name names are.content) (All-head Stands read.objects.name names are.unfailed) given.objects in
@@ -59,11 +61,43 @@ module _ (reads : FileReads) (contents : List ℕ → List ℕ) where
       ∙ ap (λ (o : Option File). with read (file_by contents read.objects.name) o read.logs) order
       ∙ ap (λ (l : List (ℕ × File)). with read (file_by contents read.objects.name) (option_map (file_by contents) (option_map (λ (f : File). f.name) read.order)) l) logs.0
 
-  of_words : (words : SourceWords) (read : ReadWords) → words_of read ≡ words → AreTold reads contents words → AreRead reads words read → read ≡ read_by contents words
+  of_words : (words : SourceWords) (read : ReadWords) → words_of read ≡ words → AreTold reads contents (files_of words) → AreRead reads words read → read ≡ read_by contents words
   of_words words read same are given =
       subst (λ (w : SourceWords). read ≡ read_by contents w) same
-      (all_told read (subst (λ (w : SourceWords). AreTold reads contents w) (sym same) are)
+      (all_told read (subst (λ (w : SourceWords). AreTold reads contents (files_of w)) (sym same) are)
       (record { same = refl; objects = given.objects; logs = given.logs; order = given.order }))
 
-  pub meant_as_told : (words : SourceWords) (answer : Result Input Status) → AreTold reads contents words → Loads reads words answer → Meets (λ (input : Input). input) (input_of (read_by contents words)) answer
-  meant_as_told words answer are loads = subst (λ (r : ReadWords). Meets (λ (input : Input). input) (input_of r) answer) (of_words words loads.read loads.are_read.same are loads.are_read) loads.meets
+  pub meant_as_told : {A : Type 0} (meant : ReadWords → Result A Fault) (words : SourceWords) (answer : Result A Status) → AreTold reads contents (files_of words) → LoadsBy meant reads words answer
+      → Meets (λ (input : A). input) (meant (read_by contents words)) answer
+  meant_as_told {A} meant words answer are loads = subst (λ (r : ReadWords). Meets (λ (input : A). input) (meant r) answer) (of_words words loads.read loads.are_read.same are loads.are_read) loads.meets
+
+  -- ---- several queries
+
+  abbrev multi_with : File → File → Option File → List (ℕ × File) → ReadMulti
+  multi_with objects queries order logs = record { objects = objects; queries = queries; order = order; logs = logs }
+
+  all_queries_told : (read : ReadMulti) → AreTold reads contents (multi_files_of (multi_words_of read)) → AreMultiRead reads (multi_words_of read) read → read ≡ multi_read_by contents (multi_words_of read)
+  all_queries_told read are given =
+      let last = only (option_map (λ (f : File). f.name) read.order) in
+      let names = map (λ (l : ℕ × List ℕ). l.1) (map log_of read.logs) ++ last in
+      let behind = read.queries.name ∷ names in
+      let told = tail_of Told read.objects.name behind are.content in
+      let stand = tail_of Stands read.objects.name behind are.unfailed in
+      let objects = file_told read.objects (All-head Told read.objects.name behind are.content) (All-head Stands read.objects.name behind are.unfailed) given.objects in
+      let queries = file_told read.queries (All-head Told read.queries.name names told) (All-head Stands read.queries.name names stand) given.queries in
+      let logs = logs_told read.logs last (tail_of Told read.queries.name names told) (tail_of Stands read.queries.name names stand) given.logs in
+      let order = order_told read.order logs.1 logs.2 given.order in
+      ap (λ (f : File). multi_with f read.queries read.order read.logs) objects
+      ∙ ap (λ (f : File). multi_with (file_by contents read.objects.name) f read.order read.logs) queries
+      ∙ ap (λ (o : Option File). multi_with (file_by contents read.objects.name) (file_by contents read.queries.name) o read.logs) order
+      ∙ ap (λ (l : List (ℕ × File)). multi_with (file_by contents read.objects.name) (file_by contents read.queries.name) (option_map (file_by contents) (option_map (λ (f : File). f.name) read.order)) l) logs.0
+
+  of_queries : (words : MultiWords) (read : ReadMulti) → multi_words_of read ≡ words → AreTold reads contents (multi_files_of words) → AreMultiRead reads words read → read ≡ multi_read_by contents words
+  of_queries words read same are given =
+      subst (λ (w : MultiWords). read ≡ multi_read_by contents w) same
+      (all_queries_told read (subst (λ (w : MultiWords). AreTold reads contents (multi_files_of w)) (sym same) are)
+      (record { same = refl; objects = given.objects; queries = given.queries; logs = given.logs; order = given.order }))
+
+  pub queries_as_told : (words : MultiWords) (answer : Result MultiInput Status) → AreTold reads contents (multi_files_of words) → LoadsMulti reads words answer
+      → Meets given_by (multi_input_of (multi_read_by contents words)) answer
+  queries_as_told words answer are loads = subst (λ (r : ReadMulti). Meets given_by (multi_input_of r) answer) (of_queries words loads.read loads.are_read.same are loads.are_read) loads.meets

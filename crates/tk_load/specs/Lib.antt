@@ -10,3 +10,4 @@ pub mod Status
 pub mod Told
 pub mod Traced
 pub mod Whole
+pub mod Windowed

@@ -25,7 +25,10 @@ mod traced;
 
 pub use generate::make;
 pub use input::{Input, load};
-pub use laws::{a_right_trace_is_read, an_unreadable_file_is_counted, what_is_told_is_meant};
+pub use laws::{
+    a_right_trace_is_read, a_valid_set_is_valid_for_its_windows, a_window_goes_over_the_logs,
+    an_unreadable_file_is_counted, what_is_told_is_meant,
+};
 pub use multi::{MultiInput, load_multi};
 pub use sessions::{SessionInput, load_sessions};
 pub use status::{InputKind, Status};

@@ -1,5 +1,5 @@
 -- Several queries over common logs as contracts see them, and what an event leaves.
-use Rattle.std.specs.Prelude.{ℕ, ℤ, ◌≡◌, ◌-◌, ◌^◌, ◌<◌, true, if◌then◌else◌, List, [], ◌∷◌, ◌++◌, length, map, fold, set, slice_get, Option, Some, None, option_map, option_and_then, Result, Ok}
+use Rattle.std.specs.Prelude.{ℕ, ℤ, ◌≡◌, ◌-◌, ◌^◌, ◌<◌, Bool, true, false, if◌then◌else◌, List, [], ◌∷◌, ◌++◌, length, map, fold, set, slice_get, Option, Some, None, option_map, option_and_then, Result, Ok}
 use Rattle.std.specs.List.{zip}
 use Rattle.tk_input.specs.Logs.{IsCut, LogSet, beginnings, part_of}
 use Rattle.tk_input.specs.Records.{and_then}
@@ -57,6 +57,13 @@ next_multi m (Raise mon f) = option_map (λ change. with_raise m mon.0 f.0 (alon
 next_multi m (Check q mon) = next_in m q (alone.Check mon)
 next_multi m (Up q mon) = next_in m q (alone.Up mon)
 next_multi m (Down q mon) = next_in m q (alone.Down mon)
+
+-- whether an event is a raise of a common change
+abbrev pub is_raise : MultiEvent → Bool
+is_raise (Raise mon f) = true
+is_raise (Check q mon) = false
+is_raise (Up q mon) = false
+is_raise (Down q mon) = false
 
 -- what a step leaves: the event happened, or it does not happen and nothing changed
 abbrev pub Leaves : Option MultiView → MultiView → Moved → MultiView → Type 0

@@ -1,11 +1,11 @@
-ghost use Rattle.std.specs.Prelude.{◌≡◌, IfOk, IfErr, IfSome, OnErr, Ok, is_some, length, map, option_map, true};
+ghost use Rattle.std.specs.Prelude.{◌≡◌, IfOk, IfErr, IfSome, OnErr, Ok, is_ok, is_some, length, map, option_map, true};
 ghost use Rattle.std.specs.List.{zip};
 ghost use Rattle.tk_input.specs.Changes.{pair_of};
 ghost use Rattle.tk_input.specs.declared.event.Event.TheVariants.{Raise as RaiseAlone};
 ghost use Rattle.tk_drain.specs.Drive.{keep};
 ghost use Rattle.tk_input.specs.Logs.{beginnings};
 ghost use Rattle.tk_multi.specs.Alone.{Refuses};
-ghost use Rattle.tk_multi.specs.Multi.{GoesOn, Leaves, Steps, moved_at, multi_of, next_change as next_change_of, next_in, next_multi};
+ghost use Rattle.tk_multi.specs.Multi.{GoesOn, Leaves, Steps, is_raise, moved_at, multi_of, next_change as next_change_of, next_in, next_multi};
 ghost use Rattle.tk_multi.specs.Projection.{is_feeder};
 ghost use Rattle.tk_multi.specs.declared.event.MultiEvent.TheVariants.{Raise};
 
@@ -128,6 +128,7 @@ impl<N: Nodes> Multi<N> {
         ensures ok { IfOk result (λ moved. Steps self.old event moved self.new) }
         // Want of memory comes only of an event that is enabled, and of no raise.
         ensures enabled { OnErr result (is_some (next_multi self.old event) ≡ true) }
+        ensures raise { is_raise event ≡ true → is_ok result ≡ true }
         ensures err { OnErr result (self.new ≡ self.old) }
     {
         match event {

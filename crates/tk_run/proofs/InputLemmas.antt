@@ -1,47 +1,91 @@
 -- An input that the files tell is run.
-use Rattle.std.proofs.Common.{◌≡◌, ℕ, List, Some, Ok, Err, refl, ap, subst, inl, inr}
-use Rattle.tk_words.specs.Words.{Asked, ReplayWords, words_of}
-use Rattle.tk_words.specs.Words.Asked.{Replays}
+use Rattle.std.proofs.Common.{◌≡◌, ℕ, true, false, List, Some, Result, Err, is_ok, refl, sym, ap, subst, inl, inr}
+use Rattle.tk_words.specs.Words.{Asked, words_of}
+use Rattle.tk_words.specs.Words.Asked.{Checks, Generates, Lives, Queries, Replays, Restarts, Traces}
+use Rattle.tk_load.specs.Faults.{Fault}
+use Rattle.tk_load.specs.Generated.{generated_of}
 use Rattle.tk_load.specs.Input.{input_of}
-use Rattle.tk_load.specs.Reads.{Loads}
-use Rattle.tk_load.specs.Told.{AreTold, read_by}
+use Rattle.tk_load.specs.Laws.{RightTraceIsRead, WhatIsToldIsMeant, WhatIsToldOfQueriesIsMeant}
+use Rattle.tk_load.specs.MultiInput.{LoadsMulti, multi_input_of}
+use Rattle.tk_load.specs.Reads.{Loads, Meets, Tells}
+use Rattle.tk_load.specs.SessionInput.{LoadsSessions, session_input_of}
+use Rattle.tk_load.specs.Told.{multi_read_by, read_by}
+use Rattle.tk_load.specs.Traced.{LoadsTrace}
 use Rattle.tk_load.specs.declared.input.Input.{Input}
 use Rattle.tk_load.specs.declared.status.Status.{Status}
 use Rattle.tk_load.specs.declared.status.Status.TheVariants as s
-use Rattle.tk_load.proofs.ToldLemmas.{meant_as_told}
-use Rattle.tk_run.specs.Ends.{Ends, EndsAsked, EndsWords, IsDone, IsStoryOf, replay_text, served}
-use Rattle.tk_run.specs.Surroundings.{Surroundings}
+use Rattle.tk_run.specs.Ends.{Ends, EndsAsked, EndsWords, IsDone, IsStoryOf, IsToldBy, check_text, replay_text, served, summary_text, trace_text}
+use Rattle.tk_run.specs.Laws.{GivesInput}
+use Rattle.tk_run.specs.Multi.{AreAnswersOf, multi_text}
+use Rattle.tk_run.specs.Sessions.{AreStoriesOf, sessions_text}
+use Rattle.tk_run.specs.Surroundings.{Output, Surroundings}
 use Rattle.tk_run.proofs.EndsLemmas.{not_refused}
 
-module _ (words : List (List ℕ)) (asked : ReplayWords) (met : Surroundings) (understood : words_of words ≡ Some (Replays asked)) where
-  module _ (contents : List ℕ → List ℕ) (are : AreTold met.reads contents asked.sources) (input : Input) (is : input_of (read_by contents asked.sources) ≡ Ok input) where
-    no_fault : (status : Status) → Loads met.reads asked.sources (Err status) → IsDone status
-    no_fault (s.ReadFault file) loads = let meant = meant_as_told met.reads contents asked.sources (Err (s.ReadFault file)) are loads in absurd (cc (meant, is))
-    no_fault (s.BadInput file line kind) loads = let meant = meant_as_told met.reads contents asked.sources (Err (s.BadInput file line kind)) are loads in absurd (cc (meant, is))
-    no_fault (s.TooGreat mon obj) loads = let meant = meant_as_told met.reads contents asked.sources (Err (s.TooGreat mon obj)) are loads in absurd (cc (meant, is))
-    no_fault s.NoMemory loads = tt
-    no_fault s.Done loads = tt
-    no_fault s.Usage loads = absurd (meant_as_told met.reads contents asked.sources (Err s.Usage) are loads)
-    no_fault s.WriteFault loads = absurd (meant_as_told met.reads contents asked.sources (Err s.WriteFault) are loads)
-    no_fault s.LinkFault loads = absurd (meant_as_told met.reads contents asked.sources (Err s.LinkFault) are loads)
-    no_fault (s.LinkDiffers mon direction place sent received) loads =
-        absurd (meant_as_told met.reads contents asked.sources (Err (s.LinkDiffers mon direction place sent received)) are loads)
-    no_fault (s.BadTrace file fault) loads = absurd (meant_as_told met.reads contents asked.sources (Err (s.BadTrace file fault)) are loads)
+-- no fault is told of what is meant
+no_fault : {V : Type 0} (meant : Result V Fault) (fault : Fault) → is_ok meant ≡ true → meant ≡ Err fault → ⊥
+no_fault {V} meant fault ok is = let bad : false ≡ true = subst (λ (m : Result V Fault). is_ok m ≡ true) is ok in cc (bad)
 
-    ended : (status : Status) → (status ≡ s.WriteFault → ⊥) → Ends (Loads met.reads asked.sources) IsStoryOf replay_text met.output status → IsDone status
-    ended (s.ReadFault file) written ends = no_fault (s.ReadFault file) ends.0
-    ended (s.BadInput file line kind) written ends = no_fault (s.BadInput file line kind) ends.0
-    ended (s.TooGreat mon obj) written ends = no_fault (s.TooGreat mon obj) ends.0
-    ended s.NoMemory written ends = tt
-    ended s.Done written ends = tt
-    ended s.Usage written ends = absurd ends
-    ended s.WriteFault written ends = absurd (written refl)
-    ended s.LinkFault written ends = absurd ends
-    ended (s.LinkDiffers mon direction place sent received) written ends = absurd ends
-    ended (s.BadTrace file fault) written ends = no_fault (s.BadTrace file fault) ends.0
+meant_is_run : {V : Type 0} (meant : Result V Fault) (status : Status) → is_ok meant ≡ true → Tells status meant → IsDone status
+meant_is_run meant (s.ReadFault file) ok tells = absurd (no_fault meant _ ok tells)
+meant_is_run meant (s.BadInput file line kind) ok tells = absurd (no_fault meant _ ok tells)
+meant_is_run meant (s.TooGreat mon obj) ok tells = absurd (no_fault meant _ ok tells)
+meant_is_run meant s.NoMemory ok tells = tt
+meant_is_run meant s.Done ok tells = absurd tells
+meant_is_run meant s.Usage ok tells = absurd tells
+meant_is_run meant s.WriteFault ok tells = absurd tells
+meant_is_run meant s.LinkFault ok tells = absurd tells
+meant_is_run meant (s.LinkDiffers mon direction place sent received) ok tells = absurd tells
+meant_is_run meant (s.BadTrace file fault) ok tells = absurd tells
 
-    pub input_is_run : (status : Status) → (status ≡ s.WriteFault → ⊥) → EndsWords words met status → IsDone status
-    input_is_run status written (inl refused) = not_refused words (Replays asked) status (ap served understood) refused.0
-    input_is_run status written (inr ends) =
-        let same : ends.asked ≡ Replays asked = let found = ends.understood in cc (found, understood) in
-        ended status written (subst (λ (a : Asked). EndsAsked a met status) same ends.ends)
+-- a run whose input has no fault, and whose output was written
+ended : {I S : Type 0} (gives : Result I Status → Type 0) (IsOf : I → S → Type 0) (text : I → S → List ℕ) (output : Output) → ((status : Status) → gives (Err status) → IsDone status) → (status : Status) → (status ≡ s.WriteFault → ⊥)
+    → Ends gives IsOf text output status → IsDone status
+ended gives IsOf text output given (s.ReadFault file) written ends = given (s.ReadFault file) ends.0
+ended gives IsOf text output given (s.BadInput file line kind) written ends = given (s.BadInput file line kind) ends.0
+ended gives IsOf text output given (s.TooGreat mon obj) written ends = given (s.TooGreat mon obj) ends.0
+ended gives IsOf text output given (s.BadTrace file fault) written ends = given (s.BadTrace file fault) ends.0
+ended gives IsOf text output given s.NoMemory written ends = tt
+ended gives IsOf text output given s.Done written ends = tt
+ended gives IsOf text output given s.Usage written ends = absurd ends
+ended gives IsOf text output given s.WriteFault written ends = absurd (written refl)
+ended gives IsOf text output given s.LinkFault written ends = absurd ends
+ended gives IsOf text output given (s.LinkDiffers mon direction place sent received) written ends = absurd ends
+
+memory_is_free : (status : Status) → status ≡ s.NoMemory → IsDone status
+memory_is_free status is = subst IsDone (sym is) tt
+
+module _ (replay : WhatIsToldIsMeant input_of) (sessions : WhatIsToldIsMeant session_input_of) (queries : WhatIsToldOfQueriesIsMeant) (trace : RightTraceIsRead) where
+  asked_is_run : (met : Surroundings) (contents : List ℕ → List ℕ) (asked : Asked) → GivesInput met.reads contents asked → (status : Status) → (status ≡ s.WriteFault → ⊥) → EndsAsked asked met status → IsDone status
+  asked_is_run met contents (Replays words) given = ended (Loads met.reads words.sources) IsStoryOf replay_text met.output
+      (λ other loads. meant_is_run (input_of (read_by contents words.sources)) other given.1 (replay met.reads contents words.sources (Err other) given.0 loads))
+  asked_is_run met contents (Traces words) given = ended (Loads met.reads words.sources) IsStoryOf trace_text met.output
+      (λ other loads. meant_is_run (input_of (read_by contents words.sources)) other given.1 (replay met.reads contents words.sources (Err other) given.0 loads))
+  asked_is_run met contents (Restarts words) given = ended (LoadsSessions met.reads words) AreStoriesOf sessions_text met.output
+      (λ other loads. meant_is_run (session_input_of (read_by contents words)) other given.1 (sessions met.reads contents words (Err other) given.0 loads))
+  asked_is_run met contents (Queries words) given = ended (LoadsMulti met.reads words) AreAnswersOf multi_text met.output
+      (λ other loads. meant_is_run (multi_input_of (multi_read_by contents words)) other given.1 (queries met.reads contents words (Err other) given.0 loads))
+  asked_is_run met contents (Generates words) given = ended (Meets (λ (input : Input). input) (generated_of words)) IsStoryOf summary_text met.output
+      (λ other tells. meant_is_run (generated_of words) other given tells)
+  asked_is_run met contents (Checks file) given = ended (LoadsTrace met.reads file) IsToldBy check_text met.output
+      (λ other loads. memory_is_free other (trace met.reads file (contents file) other given.0 given.1 loads))
+  asked_is_run met contents (Lives words) given = absurd given
+
+  -- words that are understood and no wish for a live run are served
+  is_served : (reads : Surroundings) (contents : List ℕ → List ℕ) (asked : Asked) → GivesInput reads.reads contents asked → served (Some asked) ≡ Some asked
+  is_served met contents (Replays words) given = refl
+  is_served met contents (Traces words) given = refl
+  is_served met contents (Restarts words) given = refl
+  is_served met contents (Queries words) given = refl
+  is_served met contents (Generates words) given = refl
+  is_served met contents (Checks file) given = refl
+  is_served met contents (Lives words) given = absurd given
+
+  pub input_is_run : (words : List (List ℕ)) (asked : Asked) (met : Surroundings) (contents : List ℕ → List ℕ) (status : Status) → words_of words ≡ Some asked → GivesInput met.reads contents asked
+      → (status ≡ s.WriteFault → ⊥) → EndsWords words met status → IsDone status
+  input_is_run words asked met contents status understood given written (inl refused) = not_refused words asked status (let on = ap served understood in let here = is_served met contents asked given in cc (on, here)) refused.0
+  input_is_run words asked met contents status understood given written (inr ends) =
+      let on = ap served understood in
+      let here = is_served met contents asked given in
+      let found = ends.understood in
+      let same : ends.asked ≡ asked = cc (on, here, found) in
+      asked_is_run met contents asked given status written (subst (λ (a : Asked). EndsAsked a met status) same ends.ends)

@@ -54,6 +54,7 @@ abbrev pub text_with : Option (List (List (List ℕ))) → List (List ℕ) → S
 text_with None = text_of
 text_with (Some ends) = ticked_text_of ends
 
+-- the text of the story of an input
 abbrev pub replay_text : Input → KeptStory → List ℕ
 replay_text input kept = text_with input.ends input.names kept.story
 
@@ -80,6 +81,7 @@ IsToldBy trace kept = kept ≡ trace.story
 abbrev pub yes_text : List (List ℕ) → StoryView → List ℕ
 yes_text names s = sets_text names s ++ codes "yes\n"
 
+-- the text that a check writes of a trace
 abbrev pub check_text : Trace → KeptStory → List ℕ
 check_text trace kept = yes_text trace.names kept.story
 
@@ -139,10 +141,11 @@ pub record AreSeveral (Holds : List KeptStory → Type 0) (outcome : Outcome) : 
   pub none : outcome.story ≡ None
   pub holds : Holds outcome.stories.items
 
--- a generated run, which reads no file: what has run for its words, and how they have ended
+-- a generated run, which reads no file: what has run for its words
 abbrev pub RunsGenerated : GenerateWords → Output → Outcome → Type 0
 RunsGenerated words output = IsOne (HasRun (Meets (λ input. input) (generated_of words)) IsStoryOf summary_text output)
 
+-- how they have ended
 abbrev pub EndsGenerated : GenerateWords → Output → Status → Type 0
 EndsGenerated words output = Ends (Meets (λ input. input) (generated_of words)) IsStoryOf summary_text output
 

@@ -26,5 +26,6 @@ query_text told = query_title told.0.0 ++ text_of told.0.1 told.1.story
 abbrev pub queries_text : List QueryView → List (List (List ℕ)) → List KeptStory → List ℕ
 queries_text queries names stories = flat_map query_text (zip (zip (map (λ query. query.name) queries) names) stories)
 
+-- the texts of the stories of an input
 abbrev pub multi_text : MultiInput → List KeptStory → List ℕ
 multi_text input stories = queries_text input.queries (map (λ alone. alone.names) input.alones.items) stories

@@ -14,19 +14,21 @@ abbrev pub lines_in : Option (List (ℕ × SessionLine)) → List SessionLine
 lines_in None = []
 lines_in (Some order) = lines_of order
 
--- the stories of an input: the chain of its order over its settings and logs
-abbrev pub AreStoriesOf : SessionInput → List KeptStory → Type 0
-AreStoriesOf input stories = IsChainOf input.settings input.logs (lines_in input.order) stories
-
 -- each session is sound as far as it went, and the last one is finished
 pub record AreSound (stories : List KeptStory) : Type 0 where
   pub each : All (λ kept. IsSoundSoFar kept.story) stories
   pub last : (front : List KeptStory) (last : KeptStory) → stories ≡ front ++ last ∷ [] → IsSound last.story
 
--- the line in front of a session, and the session behind it
+-- the stories of an input: the chain of its order over its settings and logs, of which all of the headline holds
+pub record AreStoriesOf (input : SessionInput) (stories : List KeptStory) : Type 0 where
+  pub chain : IsChainOf input.settings input.logs (lines_in input.order) stories
+  pub sound : AreSound stories
+
+-- the line in front of a session
 abbrev pub session_title : ℕ → List ℕ
 session_title number = codes "session " ++ decimal number ++ codes "\n"
 
+-- both, of a numbered session
 abbrev pub numbered_text : List (List ℕ) → ℕ × KeptStory → List ℕ
 numbered_text names session = session_title session.0 ++ text_of names session.1.story
 

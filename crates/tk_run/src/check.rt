@@ -1,12 +1,13 @@
 //! A trace that is checked.
 
-ghost use Rattle.std.specs.Prelude.{◌≡◌, IfSome, IsErrOf, OnErr, OnOk, length};
-ghost use Rattle.tk_input.specs.Files.{HasRisen};
+ghost use Rattle.std.specs.Prelude.{◌≡◌, IfSome, OnErr, OnOk, length};
 ghost use Rattle.tk_input.specs.Sink.{Grows, GrowsByFront};
-ghost use Rattle.tk_load.specs.declared.status.Status.TheVariants.{Done, WriteFault as NotWritten};
+ghost use Rattle.tk_ledger.specs.Printing.{print_faults};
+ghost use Rattle.tk_load.specs.Reads.{AreKept};
+ghost use Rattle.tk_load.specs.declared.status.Status.TheVariants.{Done};
 ghost use Rattle.tk_run.specs.Ends.{EndsAsked, RunsAsked, yes_text};
 ghost use Rattle.tk_run.specs.Headline.{IsSound};
-ghost use Rattle.tk_run.specs.Outcome.{IfDone, IsWithout};
+ghost use Rattle.tk_run.specs.Outcome.{IfDone, IsWithout, faults_told};
 ghost use Rattle.tk_run.specs.Surroundings.{met_by};
 ghost use Rattle.tk_words.specs.Words.Asked.{Checks};
 
@@ -29,7 +30,7 @@ fn print_yes<O: Sink>(
     requires { length names.now ≡ story.now.story.settings.objects }
     ensures ok { OnOk result (Grows (O.written out.old) (O.written out.new) (yes_text names.now story.now.story)) }
     ensures err { OnErr result (GrowsByFront (O.written out.old) (O.written out.new) (yes_text names.now story.now.story)) }
-    ensures failed { IsErrOf result PrintFault.WriteFailed → HasRisen (O.fault_count out.old) (O.fault_count out.new) }
+    ensures counted { O.fault_count out.new ≡ print_faults result (O.fault_count out.old) }
 {
     print_sets(alloc, story, names, out)?;
     out.put(b"yes\n")?;
@@ -47,7 +48,8 @@ pub fn serve_check<F: Files, O: Sink>(
     ensures sound { IfSome result.story (λ s. IsSound s.story) }
     ensures ends { EndsAsked (Checks file.now) (met_by F.Files O.Sink files.old files.new out.old out.new) result.status }
     ensures without { (result.status ≡ Done → ⊥) → IsWithout result }
-    ensures unwritten { result.status ≡ NotWritten → HasRisen (O.fault_count out.old) (O.fault_count out.new) }
+    ensures kept { AreKept F.Files files.old files.new }
+    ensures counted { O.fault_count out.new ≡ faults_told result.status (O.fault_count out.old) }
 {
     let Trace { names, story } = match load_trace(alloc, file, files) {
         Ok(trace) => trace,

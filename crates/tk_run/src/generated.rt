@@ -1,8 +1,7 @@
 ghost use Rattle.std.specs.Prelude.{◌≡◌, IfSome};
-ghost use Rattle.tk_input.specs.Files.{HasRisen};
-ghost use Rattle.tk_load.specs.declared.status.Status.TheVariants.{Done, WriteFault as NotWritten};
+ghost use Rattle.tk_load.specs.declared.status.Status.TheVariants.{Done};
 ghost use Rattle.tk_run.specs.Ends.{EndsGenerated, RunsGenerated};
-ghost use Rattle.tk_run.specs.Outcome.{IfDone, IsWithout};
+ghost use Rattle.tk_run.specs.Outcome.{IfDone, IsWithout, faults_told};
 ghost use Rattle.tk_run.specs.Headline.{IsSound};
 ghost use Rattle.tk_run.specs.Surroundings.{output_by};
 ghost use Rattle.tk_words.specs.Asked.{asked_generate};
@@ -21,7 +20,7 @@ pub fn serve<O: Sink>(alloc: Global, words: &Generate, out: &mut O) -> Outcome
     ensures sound { IfSome result.story (λ s. IsSound s.story) }
     ensures ends { EndsGenerated (asked_generate words.now) (output_by O.Sink out.old out.new) result.status }
     ensures without { (result.status ≡ Done → ⊥) → IsWithout result }
-    ensures unwritten { result.status ≡ NotWritten → HasRisen (O.fault_count out.old) (O.fault_count out.new) }
+    ensures counted { O.fault_count out.new ≡ faults_told result.status (O.fault_count out.old) }
 {
     let input = match make(alloc, words) {
         Ok(input) => input,

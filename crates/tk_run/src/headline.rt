@@ -1,11 +1,14 @@
 // What holds of every finished run, and of every input. Each function is there for its clause alone.
 ghost use Rattle.std.specs.Prelude.{◌≡◌, List};
 ghost use Rattle.tk_load.specs.declared.input.Input.{Input};
-ghost use Rattle.tk_load.specs.declared.sessions.SessionInput.{SessionInput};
+ghost use Rattle.tk_base.specs.Settings.{Setup};
+ghost use Rattle.tk_input.specs.Logs.{LogSet};
 ghost use Rattle.tk_run.specs.Ends.{IsStoryOf};
 ghost use Rattle.tk_run.specs.Headline.{IsSound, IsSoundSoFar};
-ghost use Rattle.tk_run.specs.Laws.{InputIsRun, WrittenTraceIsChecked};
-ghost use Rattle.tk_run.specs.Sessions.{AreSound, AreStoriesOf};
+ghost use Rattle.tk_run.specs.Laws.{InputIsRun, PublishedIsValidForItsWindows, WrittenTraceIsChecked};
+ghost use Rattle.tk_run.specs.Sessions.{AreSound};
+ghost use Rattle.tk_session.specs.Chain.{IsChainOf};
+ghost use Rattle.tk_session.specs.declared.session_line.SessionLine.{SessionLine};
 ghost use Rattle.tk_story.specs.Kept.{KeptStory};
 ghost use Rattle.tk_story.specs.Moments.{IsOver};
 ghost use Rattle.tk_story.specs.Story.{IsStory, StoryView};
@@ -14,7 +17,10 @@ ghost use Rattle.tk_verify.specs.Recorded.{ReachesItsEnd};
 use tk_journal::{
     a_start_is_set_up, publications_are_numbered, publications_never_go_back, stop_ends_the_journal,
 };
-use tk_load::a_right_trace_is_read;
+use tk_load::{
+    a_right_trace_is_read, a_valid_set_is_valid_for_its_windows, a_window_goes_over_the_logs,
+    what_is_told_is_meant,
+};
 use tk_session::each_session_is_legal;
 use tk_story::{a_moment_is_a_story, published_is_valid, quiet_is_valid};
 use tk_trace::nothing_is_wrong_with_a_finished_run;
@@ -44,9 +50,10 @@ pub fn a_story_is_sound_so_far()
     publications_never_go_back();
 }
 
-/// Each session of an input is sound as far as it went, and the last one is finished.
+/// Each session of an order is sound as far as it went, and the last one is finished.
 pub fn sessions_are_sound()
-    ensures { (input : SessionInput) (stories : List KeptStory) → AreStoriesOf input stories → AreSound stories }
+    ensures { (settings : Setup) (logs : LogSet) (order : List SessionLine) (stories : List KeptStory)
+        → IsChainOf settings logs order stories → AreSound stories }
 {
     each_session_is_legal();
     a_story_is_sound_so_far();
@@ -58,17 +65,28 @@ pub fn an_input_has_one_story()
     ensures { (input : Input) (a b : KeptStory) → IsStoryOf input a → IsStoryOf input b → a ≡ b }
 {}
 
-/// Where the words of a replay and the contents of its files give an input, no read of these files fails and the output
-/// is written, the run is done, or no memory was found.
+/// Where words and the contents of their files give an input, no read of these files fails and the output is written, the
+/// run is done, or no memory was found.
 pub fn an_input_is_run()
     ensures { InputIsRun }
-{}
+{
+    what_is_told_is_meant();
+    a_right_trace_is_read();
+}
 
 /// Where a file tells the trace of an input's story, as `trace` writes it and at most 64 MiB, no read of it fails and the
 /// output is written, its check is done, or no memory was found.
 pub fn a_written_trace_is_checked()
     ensures { WrittenTraceIsChecked }
 {
-    a_right_trace_is_read();
+    an_input_is_run();
     nothing_is_wrong_with_a_finished_run();
+}
+
+/// Where the words ask for a window, a set that was published where ticks end is valid for the windows at these ticks.
+pub fn a_set_is_valid_for_its_windows()
+    ensures { PublishedIsValidForItsWindows }
+{
+    a_window_goes_over_the_logs();
+    a_valid_set_is_valid_for_its_windows();
 }

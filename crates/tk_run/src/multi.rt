@@ -1,11 +1,12 @@
-ghost use Rattle.std.specs.Prelude.{◌≡◌, ◌+◌, All, IfOk, IsErrOf, OnErr, OnOk, length};
+ghost use Rattle.std.specs.Prelude.{◌≡◌, ◌+◌, All, IfOk, OnErr, OnOk, length};
 ghost use Rattle.std.specs.List.{zip};
-ghost use Rattle.tk_input.specs.Files.{HasRisen};
 ghost use Rattle.tk_input.specs.Sink.{Grows, GrowsByFront};
-ghost use Rattle.tk_load.specs.declared.status.Status.TheVariants.{Done, WriteFault as NotWritten};
+ghost use Rattle.tk_ledger.specs.Printing.{print_faults};
+ghost use Rattle.tk_load.specs.Reads.{AreKept};
+ghost use Rattle.tk_load.specs.declared.status.Status.TheVariants.{Done};
 ghost use Rattle.tk_run.specs.Ends.{EndsAsked, RunsAsked};
 ghost use Rattle.tk_run.specs.Multi.{queries_text, query_title};
-ghost use Rattle.tk_run.specs.Outcome.{IfDone, IsWithout};
+ghost use Rattle.tk_run.specs.Outcome.{IfDone, IsWithout, faults_told};
 ghost use Rattle.tk_run.specs.Surroundings.{met_by};
 ghost use Rattle.tk_words.specs.Asked.{AreOfMonitors, asked_multi};
 ghost use Rattle.tk_words.specs.Words.Asked.{Queries as Asks};
@@ -49,7 +50,7 @@ fn print_queries<O: Sink>(
     ensures ok { OnOk result (Grows (O.written out.old) (O.written out.new) (queries_text queries.now names.now stories.now)) }
     ensures err { OnErr result
         (GrowsByFront (O.written out.old) (O.written out.new) (queries_text queries.now names.now stories.now)) }
-    ensures failed { IsErrOf result PrintFault.WriteFailed → HasRisen (O.fault_count out.old) (O.fault_count out.new) }
+    ensures counted { O.fault_count out.new ≡ print_faults result (O.fault_count out.old) }
 {
     for i in 0..queries.len() {
         let title = title_of(alloc, queries.name(i as u32 + 1))?;
@@ -72,7 +73,8 @@ pub fn serve_queries<R: Threads + Sync, F: Files, O: Sink>(
     ensures ends { EndsAsked (Asks (asked_multi words.now))
         (met_by F.Files O.Sink files.old files.new out.old out.new) result.status }
     ensures without { (result.status ≡ Done → ⊥) → IsWithout result }
-    ensures unwritten { result.status ≡ NotWritten → HasRisen (O.fault_count out.old) (O.fault_count out.new) }
+    ensures kept { AreKept F.Files files.old files.new }
+    ensures counted { O.fault_count out.new ≡ faults_told result.status (O.fault_count out.old) }
 {
     let MultiInput {
         queries,

@@ -1,9 +1,10 @@
-ghost use Rattle.std.specs.Prelude.{◌≡◌, IfSome, IsErrOf, OnErr, OnOk, length};
-ghost use Rattle.tk_input.specs.Files.{HasRisen};
+ghost use Rattle.std.specs.Prelude.{◌≡◌, IfSome, OnErr, OnOk, length};
 ghost use Rattle.tk_input.specs.Sink.{Grows, GrowsByFront};
-ghost use Rattle.tk_load.specs.declared.status.Status.TheVariants.{Done, WriteFault as NotWritten};
+ghost use Rattle.tk_ledger.specs.Printing.{print_faults};
+ghost use Rattle.tk_load.specs.Reads.{AreKept};
+ghost use Rattle.tk_load.specs.declared.status.Status.TheVariants.{Done};
 ghost use Rattle.tk_run.specs.Ends.{EndsAsked, RunsAsked, text_with};
-ghost use Rattle.tk_run.specs.Outcome.{IfDone, IsWithout};
+ghost use Rattle.tk_run.specs.Outcome.{IfDone, IsWithout, faults_told};
 ghost use Rattle.tk_run.specs.Headline.{IsSound};
 ghost use Rattle.tk_run.specs.Surroundings.{met_by};
 ghost use Rattle.tk_words.specs.Asked.{AreOfMonitors, IsCarriage, asked_replay};
@@ -33,7 +34,7 @@ fn print_with<O: Sink>(
     ensures ok { OnOk result (Grows (O.written out.old) (O.written out.new) (text_with ends.now names.now story.now.story)) }
     ensures err { OnErr result
         (GrowsByFront (O.written out.old) (O.written out.new) (text_with ends.now names.now story.now.story)) }
-    ensures failed { IsErrOf result PrintFault.WriteFailed → HasRisen (O.fault_count out.old) (O.fault_count out.new) }
+    ensures counted { O.fault_count out.new ≡ print_faults result (O.fault_count out.old) }
 {
     match ends {
         None => print(alloc, story, names, out),
@@ -58,7 +59,8 @@ pub fn replay<R: Threads + Sync, F: Files, O: Sink>(
     ensures ends { EndsAsked (Replays (asked_replay words.now))
         (met_by F.Files O.Sink files.old files.new out.old out.new) result.status }
     ensures without { (result.status ≡ Done → ⊥) → IsWithout result }
-    ensures unwritten { result.status ≡ NotWritten → HasRisen (O.fault_count out.old) (O.fault_count out.new) }
+    ensures kept { AreKept F.Files files.old files.new }
+    ensures counted { O.fault_count out.new ≡ faults_told result.status (O.fault_count out.old) }
 {
     let input = match load(rt, alloc, &words.sources, files) {
         Ok(input) => input,

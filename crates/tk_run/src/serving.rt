@@ -1,9 +1,9 @@
 ghost use Rattle.std.specs.Prelude.{◌≡◌, IfSome, map, string_bytes};
-ghost use Rattle.tk_input.specs.Files.{HasRisen};
-ghost use Rattle.tk_load.specs.declared.status.Status.TheVariants.{Done, WriteFault as NotWritten};
+ghost use Rattle.tk_load.specs.Reads.{AreKept};
+ghost use Rattle.tk_load.specs.declared.status.Status.TheVariants.{Done};
 ghost use Rattle.tk_run.specs.Ends.{EndsWords, RunsWords};
 ghost use Rattle.tk_run.specs.Headline.{IsSound};
-ghost use Rattle.tk_run.specs.Outcome.{IfDone, IsWithout};
+ghost use Rattle.tk_run.specs.Outcome.{IfDone, IsWithout, faults_told};
 ghost use Rattle.tk_run.specs.Surroundings.{met_by};
 
 use crate::check::serve_check;
@@ -37,7 +37,8 @@ pub fn run<R: Threads + Sync, F: Files, O: Sink>(
     // any other status tells the fault that there is
     ensures ends { EndsWords (map string_bytes words.now)
         (met_by F.Files O.Sink files.old files.new out.old out.new) result.status }
-    ensures unwritten { result.status ≡ NotWritten → HasRisen (O.fault_count out.old) (O.fault_count out.new) }
+    ensures kept { AreKept F.Files files.old files.new }
+    ensures counted { O.fault_count out.new ≡ faults_told result.status (O.fault_count out.old) }
 {
     match read(alloc, words) {
         Ok(Command::Replay(words)) => replay(rt, alloc, &words, files, out),

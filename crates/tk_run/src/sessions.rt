@@ -1,18 +1,20 @@
 //! Runs in which the coordinator may restart.
 
-ghost use Rattle.std.specs.Prelude.{◌≡◌, All, IfOk, IsErrOf, None, OnErr, OnOk, length};
-ghost use Rattle.tk_input.specs.Files.{HasRisen};
+ghost use Rattle.std.specs.Prelude.{◌≡◌, All, IfOk, None, OnErr, OnOk, length};
 ghost use Rattle.tk_input.specs.Sink.{Grows, GrowsByFront};
+ghost use Rattle.tk_ledger.specs.Printing.{print_faults};
 ghost use Rattle.tk_load.specs.Whole.{AreAgreed};
-ghost use Rattle.tk_load.specs.declared.status.Status.TheVariants.{Done, WriteFault as NotWritten};
+ghost use Rattle.tk_load.specs.Reads.{AreKept};
+ghost use Rattle.tk_load.specs.declared.status.Status.TheVariants.{Done};
 ghost use Rattle.tk_run.specs.Ends.{EndsAsked, RunsAsked};
-ghost use Rattle.tk_run.specs.Outcome.{IfDone, IsWithout};
+ghost use Rattle.tk_run.specs.Outcome.{IfDone, IsWithout, faults_told};
 ghost use Rattle.tk_run.specs.Sessions.{AreStoriesOf, lines_in, session_title, stories_text};
 ghost use Rattle.tk_run.specs.Surroundings.{met_by};
 ghost use Rattle.tk_session.specs.Chain.{IsChainOf};
 ghost use Rattle.tk_words.specs.Asked.{AreOfMonitors, asked_sources};
 ghost use Rattle.tk_words.specs.Words.Asked.{Restarts};
 
+use crate::headline::sessions_are_sound;
 use crate::outcome::Outcome;
 use crate::titled::print_titled;
 use itoa::Buffer;
@@ -68,6 +70,7 @@ fn stories_of(alloc: Global, input: SessionInput) -> Result<Told, NoMemory>
         order,
     } = input;
     let stories = tell_by(alloc, settings, logs, order)?;
+    sessions_are_sound();
     Ok(Told { names, stories })
 }
 
@@ -92,7 +95,7 @@ fn print_sessions<O: Sink>(
     requires { All (λ kept. length names.now ≡ kept.story.settings.objects) stories.now }
     ensures ok { OnOk result (Grows (O.written out.old) (O.written out.new) (stories_text names.now stories.now)) }
     ensures err { OnErr result (GrowsByFront (O.written out.old) (O.written out.new) (stories_text names.now stories.now)) }
-    ensures failed { IsErrOf result PrintFault.WriteFailed → HasRisen (O.fault_count out.old) (O.fault_count out.new) }
+    ensures counted { O.fault_count out.new ≡ print_faults result (O.fault_count out.old) }
 {
     for i in 0..stories.len() {
         let title = title_of(alloc, i as u64 + 1)?;
@@ -116,7 +119,8 @@ pub fn serve_sessions<R: Threads + Sync, F: Files, O: Sink>(
     ensures ends { EndsAsked (Restarts (asked_sources words.now))
         (met_by F.Files O.Sink files.old files.new out.old out.new) result.status }
     ensures without { (result.status ≡ Done → ⊥) → IsWithout result }
-    ensures unwritten { result.status ≡ NotWritten → HasRisen (O.fault_count out.old) (O.fault_count out.new) }
+    ensures kept { AreKept F.Files files.old files.new }
+    ensures counted { O.fault_count out.new ≡ faults_told result.status (O.fault_count out.old) }
 {
     let input = match load_sessions(rt, alloc, words, files) {
         Ok(input) => input,

@@ -1,7 +1,6 @@
 //! A text of several stories.
 
-ghost use Rattle.std.specs.Prelude.{◌≡◌, ◌++◌, IsErrOf, OnErr, OnOk, length};
-ghost use Rattle.tk_input.specs.Files.{HasRisen};
+ghost use Rattle.std.specs.Prelude.{◌≡◌, ◌++◌, OnErr, OnOk, length};
 ghost use Rattle.tk_input.specs.Sink.{Grows, GrowsByFront};
 ghost use Rattle.tk_ledger.specs.Printing.{print_faults};
 ghost use Rattle.tk_ledger.specs.Text.{text_of};
@@ -23,7 +22,6 @@ pub fn print_titled<O: Sink>(
     ensures ok { OnOk result (Grows (O.written out.old) (O.written out.new) (title.now ++ text_of names.now story.now.story)) }
     ensures err { OnErr result (GrowsByFront (O.written out.old) (O.written out.new)
         (title.now ++ text_of names.now story.now.story)) }
-    ensures failed { IsErrOf result PrintFault.WriteFailed → HasRisen (O.fault_count out.old) (O.fault_count out.new) }
     ensures counted { O.fault_count out.new ≡ print_faults result (O.fault_count out.old) }
 {
     out.put(title)?;

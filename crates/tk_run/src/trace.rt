@@ -1,11 +1,11 @@
 //! The trace of a run, in place of its text.
 
 ghost use Rattle.std.specs.Prelude.{◌≡◌, IfSome};
-ghost use Rattle.tk_input.specs.Files.{HasRisen};
-ghost use Rattle.tk_load.specs.declared.status.Status.TheVariants.{Done, WriteFault as NotWritten};
+ghost use Rattle.tk_load.specs.Reads.{AreKept};
+ghost use Rattle.tk_load.specs.declared.status.Status.TheVariants.{Done};
 ghost use Rattle.tk_run.specs.Ends.{EndsAsked, RunsAsked};
 ghost use Rattle.tk_run.specs.Headline.{IsSound};
-ghost use Rattle.tk_run.specs.Outcome.{IfDone, IsWithout};
+ghost use Rattle.tk_run.specs.Outcome.{IfDone, IsWithout, faults_told};
 ghost use Rattle.tk_run.specs.Surroundings.{met_by};
 ghost use Rattle.tk_words.specs.Asked.{AreOfMonitors, IsCarriage, asked_replay};
 ghost use Rattle.tk_words.specs.Words.Asked.{Traces};
@@ -37,7 +37,8 @@ pub fn serve_trace<R: Threads + Sync, F: Files, O: Sink>(
     ensures ends { EndsAsked (Traces (asked_replay words.now))
         (met_by F.Files O.Sink files.old files.new out.old out.new) result.status }
     ensures without { (result.status ≡ Done → ⊥) → IsWithout result }
-    ensures unwritten { result.status ≡ NotWritten → HasRisen (O.fault_count out.old) (O.fault_count out.new) }
+    ensures kept { AreKept F.Files files.old files.new }
+    ensures counted { O.fault_count out.new ≡ faults_told result.status (O.fault_count out.old) }
 {
     let input = match load(rt, alloc, &words.sources, files) {
         Ok(input) => input,

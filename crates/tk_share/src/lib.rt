@@ -1,7 +1,7 @@
 //! Dealing: a leeway is split into whole shares, by weights.
 //!
 //! It promises that the shares sum to the leeway, that no share falls as the leeway grows, and that no
-//! share of a leeway of at least 0 is negative. It stands on nothing and takes no memory.
+//! share of a leeway of at least 0 is negative. It stands on the sums of tk_base, and takes no memory.
 #![tactic(auto)]
 
 mod dealing;

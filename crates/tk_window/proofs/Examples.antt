@@ -1,10 +1,11 @@
 -- The ticks of small logs, what a window makes of them, and which ticks end where. Objects a and b.
-use Rattle.std.proofs.Common.{◌≡◌, ℕ, ℤ, pos, List, ◌∷◌, [], Ok, Err, Some, None, codes, refl}
+use Rattle.std.proofs.Common.{◌≡◌, ℕ, suc, ◌≤◌, ℤ, pos, List, ◌∷◌, [], length, Ok, Err, Some, None, codes, refl, arith}
 use Rattle.std.specs.Prelude.{neg_ℤ}
 use Rattle.csv.proofs.OnLiterals.{csv_on_literals}
 use Rattle.tk_input.specs.Records.{through}
 use Rattle.tk_input.specs.declared.part.PartFault.TheVariants as fault
 use Rattle.tk_window.specs.Ticks.{ticked_of}
+use Rattle.tk_window.specs.Validity.{IsWindowValid}
 use Rattle.tk_window.specs.Window.{expansion, tick_ending, up_to, window_sum}
 
 abbrev names : List (List ℕ)
@@ -77,3 +78,17 @@ first_of_several = refl
 
 pub before_all : tick_ending (0 ∷ 2 ∷ []) 0 ≡ Some 0
 before_all = refl
+
+-- ---- validity
+
+-- without a row of ticks for each monitor no set is valid
+pub no_row_of_ticks : (width n k : ℕ) (epsilon : ℤ) (row : List (List (List (ℕ × ℤ)))) (logs : List (List (List (List (ℕ × ℤ))))) (set : List ℕ)
+    → IsWindowValid width (row ∷ logs) n k epsilon [] set → ⊥
+no_row_of_ticks width n k epsilon row logs set valid = absurd (omega (arith, valid.are_ticks.shape))
+
+-- nor without a tick for each log, nor at one past the last
+pub no_tick : (set : List ℕ) → IsWindowValid 1 ((ticks ∷ []) ∷ []) 2 1 (pos 0) ([] ∷ []) set → ⊥
+no_tick set valid = let none : 0 ≡ 1 = (valid.are_ticks.each 0).shape in absurd (omega (arith, none))
+
+pub past_the_last : (set : List ℕ) → IsWindowValid 1 ((ticks ∷ []) ∷ []) 2 1 (pos 0) ((3 ∷ []) ∷ []) set → ⊥
+past_the_last set valid = let past : 3 ≤ 2 = (valid.are_ticks.each 0).within 0 in absurd (omega (arith, past))

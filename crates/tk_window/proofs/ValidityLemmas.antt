@@ -1,14 +1,15 @@
 -- The totals at a cut where ticks end are those of the windows.
-use Rattle.std.proofs.Common.{◌≡◌, ℕ, ℤ, ◌+ℤ◌, List, [], ◌∷◌, length, map, take, Option, Some, None, option_map, refl, sym, ap, subst, ◌∙◌, arith}
-use Rattle.std.specs.Prelude.{◌==◌, ◌≤ℤ◌}
+use Rattle.std.proofs.Common.{◌≡◌, ℕ, suc, zero, ◌≤◌, ℤ, ◌+ℤ◌, List, [], ◌∷◌, length, map, take, Option, Some, None, option_map, refl, sym, ap, subst, ◌∙◌, arith}
+use Rattle.std.specs.Prelude.{◌==◌, ◌≤ℤ◌, slice_index_or}
 use Rattle.std.specs.List.{zip}
 use Rattle.std.proofs.lemmas.Bool.{eqb-true}
+use Rattle.std.proofs.lemmas.List.{length-map}
 use Rattle.std.proofs.lemmas.List.FromFn.{length-map-range_with_len}
 use Rattle.std.proofs.lemmas.List.Quantifiers.{position-Some}
-use Rattle.tk_input.specs.Logs.{IsValid, sum_for, total, value_of}
+use Rattle.tk_input.specs.Logs.{ArePlaces, IsCut, IsValid, sum_for, total, value_of}
 use Rattle.tk_input.proofs.SumLemmas.{int_sum-cons}
 use Rattle.tk_window.specs.TickEnds.{all_of, ticks_at, ticks_in}
-use Rattle.tk_window.specs.Validity.{IsWindowValid, expanded_ends, expanded_logs, window_total, window_value}
+use Rattle.tk_window.specs.Validity.{AreTicksIn, AreTicksOf, IsWindowValid, expanded_ends, expanded_logs, window_total, window_value}
 use Rattle.tk_window.specs.Window.{end_of, expansion, tick_ending, up_to, window_sum}
 use Rattle.tk_window.proofs.WindowLemmas.{sums_to_window}
 
@@ -64,10 +65,63 @@ total_at_ticks width o (row ∷ logs) (places ∷ cut) ticks found =
     ∙ sym (int_sum-cons (window_value width row f.head o) (map (λ (p : List (List (List (ℕ × ℤ))) × List ℕ). window_value width p.0 p.1 o) (zip logs f.tail)))
     ∙ ap (λ (ts : List (List ℕ)). window_total width (row ∷ logs) o ts) (sym f.is)
 
--- so a set is valid for both or for neither
+-- ---- the ticks themselves
+
+-- a tick that ends at a place is one of the log, or stands before it
+one_tick : (width place t : ℕ) (log : List (List (ℕ × ℤ))) → tick_ending (expansion width log).ends place ≡ Some t → t ≤ length log
+one_tick width place t log found =
+    let (within, is, first) = position-Some (λ e. e == place) (0 ∷ (expansion width log).ends) t 0 found in
+    omega (arith, within, length-map-range_with_len (λ u. length (up_to width log u)) 1 (length log))
+
+-- none of no log, and one more of one log more
+no_ticks : AreTicksIn [] []
+no_ticks = record { shape = refl; within = λ f. omega arith }
+
+tick_more : (log : List (List (ℕ × ℤ))) (row : List (List (List (ℕ × ℤ)))) (t : ℕ) (ticks : List ℕ) → t ≤ length log → AreTicksIn row ticks → AreTicksIn (log ∷ row) (t ∷ ticks)
+tick_more log row t ticks one are = record { shape = omega (arith, are.shape); within = at }
+  where
+    at : (f : ℕ) → slice_index_or (t ∷ ticks) f 0 ≤ length (slice_index_or (log ∷ row) f [])
+    at zero = one
+    at (suc f) = are.within f
+
+-- those of one monitor, at one place a log
+ticks_are_in : (width : ℕ) (row : List (List (List (ℕ × ℤ)))) (places ticks : List ℕ) → ticks_in (map (λ ts. (expansion width ts).ends) row) places ≡ Some ticks
+    → length places ≡ length row → AreTicksIn row ticks
+ticks_are_in width [] [] ticks found same = let none : [] ≡ ticks = cc in subst (AreTicksIn []) none no_ticks
+ticks_are_in width [] (place ∷ places) ticks found same = absurd (omega (arith, same))
+ticks_are_in width (log ∷ row) [] ticks found same = absurd (omega (arith, same))
+ticks_are_in width (log ∷ row) (place ∷ places) ticks found same =
+    let f = parted (tick_ending (expansion width log).ends place) (map (λ (p : List ℕ × ℕ). tick_ending p.0 p.1) (zip (map (λ ts. (expansion width ts).ends) row) places)) ticks found in
+    subst (AreTicksIn (log ∷ row)) (sym f.is) (tick_more log row f.head f.tail (one_tick width place f.head log f.here) (ticks_are_in width row places f.tail f.later (omega (arith, same))))
+
+-- the same of rows
+no_rows : AreTicksOf [] []
+no_rows = record { shape = refl; each = λ j. no_ticks }
+
+row_more : (row : List (List (List (ℕ × ℤ)))) (logs : List (List (List (List (ℕ × ℤ))))) (first : List ℕ) (ticks : List (List ℕ)) → AreTicksIn row first → AreTicksOf logs ticks → AreTicksOf (row ∷ logs) (first ∷ ticks)
+row_more row logs first ticks one are = record { shape = omega (arith, are.shape); each = at }
+  where
+    at : (j : ℕ) → AreTicksIn (slice_index_or (row ∷ logs) j []) (slice_index_or (first ∷ ticks) j [])
+    at zero = one
+    at (suc j) = are.each j
+
+-- and those of all, at a cut
+ticks_are_of : (width : ℕ) (logs : List (List (List (List (ℕ × ℤ))))) (cut ticks : List (List ℕ)) → ticks_at (expanded_ends width logs) cut ≡ Some ticks → IsCut (expanded_logs width logs) cut → AreTicksOf logs ticks
+ticks_are_of width [] [] ticks found is_cut = let none : [] ≡ ticks = cc in subst (AreTicksOf []) none no_rows
+ticks_are_of width [] (places ∷ cut) ticks found is_cut = absurd (omega (arith, is_cut.shape))
+ticks_are_of width (row ∷ logs) [] ticks found is_cut = absurd (omega (arith, is_cut.shape))
+ticks_are_of width (row ∷ logs) (places ∷ cut) ticks found is_cut =
+    let f = parted (ticks_in (map (λ ts. (expansion width ts).ends) row) places) (map (λ (p : List (List ℕ) × List ℕ). ticks_in p.0 p.1) (zip (expanded_ends width logs) cut)) ticks found in
+    let here : ArePlaces (map (λ ts. (expansion width ts).part) row) places = is_cut.each 0 in
+    let many : length places ≡ length row = omega (arith, here.shape, length-map row (λ (ts : List (List (ℕ × ℤ))). (expansion width ts).part)) in
+    let later : IsCut (expanded_logs width logs) cut = record { shape = omega (arith, is_cut.shape); each = λ j. is_cut.each (suc j) } in
+    subst (AreTicksOf (row ∷ logs)) (sym f.is) (row_more row logs f.head f.tail (ticks_are_in width row places f.head f.here many) (ticks_are_of width logs cut f.tail f.later later))
+
+-- so a set that is valid at the cut is valid for the windows
 pub valid_at_ticks : (width n k : ℕ) (epsilon : ℤ) (logs : List (List (List (List (ℕ × ℤ))))) (cut ticks : List (List ℕ)) (set : List ℕ) → ticks_at (expanded_ends width logs) cut ≡ Some ticks
     → IsValid (expanded_logs width logs) n k epsilon cut set → IsWindowValid width logs n k epsilon ticks set
 valid_at_ticks width n k epsilon logs cut ticks set found valid = record {
+  are_ticks = ticks_are_of width logs cut ticks found valid.is_cut;
   size = valid.size;
   ascends = valid.ascends;
   within = valid.within;

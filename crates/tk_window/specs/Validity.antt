@@ -1,5 +1,5 @@
 -- Sets that are valid for the sums of windows.
-use Rattle.std.specs.Prelude.{◌≡◌, ℕ, ◌≤◌, ℤ, ◌+ℤ◌, ◌≤ℤ◌, List, length, map, All, Contains}
+use Rattle.std.specs.Prelude.{◌≡◌, ℕ, ◌≤◌, ℤ, ◌+ℤ◌, ◌≤ℤ◌, List, [], length, map, slice_index_or, All, Contains}
 use Rattle.std.specs.List.{zip}
 use Rattle.tk_base.specs.Ascending.{IsAscending}
 use Rattle.tk_base.specs.Sum.{int_sum}
@@ -20,9 +20,20 @@ window_value width row ticks o = int_sum (map (λ p. window_sum width p.0 p.1 o)
 abbrev pub window_total : ℕ → List (List (List (List (ℕ × ℤ)))) → ℕ → List (List ℕ) → ℤ
 window_total width logs o ticks = int_sum (map (λ p. window_value width p.0 p.1 o) (zip logs ticks))
 
--- the set has k objects of a catalogue of n, each of whose totals over the windows at these ticks plus epsilon is at
--- least that of every object outside
+-- one tick per log of a monitor, none past its last; tick 0 stands before the first
+pub record AreTicksIn (row : List (List (List (ℕ × ℤ)))) (ticks : List ℕ) : Type 0 where
+  pub shape : length ticks ≡ length row
+  pub within : (f : ℕ) → slice_index_or ticks f 0 ≤ length (slice_index_or row f [])
+
+-- ticks of the logs
+pub record AreTicksOf (logs : List (List (List (List (ℕ × ℤ))))) (ticks : List (List ℕ)) : Type 0 where
+  pub shape : length ticks ≡ length logs
+  pub each : (j : ℕ) → AreTicksIn (slice_index_or logs j []) (slice_index_or ticks j [])
+
+-- the ticks are ones of the logs, and the set has k objects of a catalogue of n, each of whose totals over the windows
+-- at these ticks plus epsilon is at least that of every object outside
 pub record IsWindowValid (width : ℕ) (logs : List (List (List (List (ℕ × ℤ))))) (n k : ℕ) (epsilon : ℤ) (ticks : List (List ℕ)) (set : List ℕ) : Type 0 where
+  pub are_ticks : AreTicksOf logs ticks
   pub size : length set ≡ k
   pub ascends : IsAscending set
   pub within : All (λ t. t ≤ n) set

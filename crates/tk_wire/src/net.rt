@@ -40,6 +40,7 @@ pub trait Rest {
 
 /// Wakes the one who waits in the rest that came with it.
 pub trait Bell {
+    /// Ends that rest, or the next one where nobody waits. Nothing is promised of it.
     fn ring(&self);
 }
 

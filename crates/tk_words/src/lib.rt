@@ -31,4 +31,4 @@ pub use live::Live;
 pub use multi::Multi;
 pub use replay::Replay;
 pub use sources::Sources;
-pub use verb::Verb;
+pub use verb::{Verb, verb_of};

@@ -2,6 +2,7 @@ pub mod BeginLemmas
 pub mod EnabledLemmas
 pub mod EventLemmas
 pub mod IdleLemmas
+pub mod MomentLemmas
 pub mod NodesLemmas
 pub mod QuietLemmas
 pub mod RangeLemmas

@@ -1,7 +1,7 @@
 -- What may happen in a story leaves a story.
 use Rattle.tk_frames.specs.declared.frame.Frame.TheVariants as f
 use Rattle.tk_journal.specs.declared.noted.Noted.TheVariants as n
-use Rattle.std.proofs.Common.{◌≡◌, ℕ, suc, zero, ◌-◌, ◌<◌, ◌&&◌, pos, Bool, true, false, List, [], ◌∷◌, ◌++◌, length, take, get_or, replicate, Option, Some, None, refl, sym, ap, ◌∙◌, subst, arith, append_assoc, append-nil, inl, inr}
+use Rattle.std.proofs.Common.{◌≡◌, ℕ, suc, zero, ◌-◌, ◌&&◌, pos, Bool, true, false, List, [], ◌∷◌, ◌++◌, length, take, get_or, replicate, Option, Some, None, refl, sym, ap, ◌∙◌, subst, arith, append_assoc, append-nil, inl, inr}
 use Rattle.std.specs.Prelude.{ℤ, nat_lt, nat_le, is_some, slice_get, if◌then◌else◌}
 use Rattle.std.specs.List.{cons_option, enumerate_from}
 use Rattle.std.specs.Option.{option_map}
@@ -40,14 +40,14 @@ use Rattle.tk_story.proofs.UpLemmas.{up_is_taken}
 
 -- ---- fronts
 
-taken_front : (xs rest : List Frame) → take (length xs) (xs ++ rest) ≡ xs
+taken_front : {A : Type 0} (xs rest : List A) → take (length xs) (xs ++ rest) ≡ xs
 taken_front [] rest = refl
 taken_front (x ∷ xs) rest = ap (λ ys. x ∷ ys) (taken_front xs rest)
 
-pub front_by : (xs ys rest : List Frame) → ys ≡ xs ++ rest → IsFront xs ys
+pub front_by : {A : Type 0} (xs ys rest : List A) → ys ≡ xs ++ rest → IsFront xs ys
 front_by xs ys rest is = record { is = sym (ap (take (length xs)) is ∙ taken_front xs rest) }
 
-pub front_more : (xs ys more : List Frame) → IsFront xs ys → IsFront xs (ys ++ more)
+pub front_more : {A : Type 0} (xs ys more : List A) → IsFront xs ys → IsFront xs (ys ++ more)
 front_more xs ys more h = let r = rest_of xs ys h in front_by xs (ys ++ more) (r.rest ++ more) (ap (λ zs. zs ++ more) r.is ∙ append_assoc xs r.rest more)
 
 pub record NextIs (xs ys : List Frame) (g : Frame) : Type 0 where
@@ -67,15 +67,15 @@ next_is xs ys g h got = let r = rest_of xs ys h in first_is xs ys r.rest g r.is 
 
 -- ---- options
 
-if_some : {X : Type 0} (b : Bool) (x t : X) → (if b then Some x else None) ≡ Some t → (b ≡ true) × (x ≡ t)
+pub if_some : {X : Type 0} (b : Bool) (x t : X) → (if b then Some x else None) ≡ Some t → (b ≡ true) × (x ≡ t)
 if_some true x t e = (refl, (cc))
 if_some false x t e = absurd (cc)
 
-if_none : {X : Type 0} (b : Bool) (x t : X) → (if b then None else Some x) ≡ Some t → (b ≡ false) × (x ≡ t)
+pub if_none : {X : Type 0} (b : Bool) (x t : X) → (if b then None else Some x) ≡ Some t → (b ≡ false) × (x ≡ t)
 if_none true x t e = absurd (cc)
 if_none false x t e = (refl, (cc))
 
-mapped_some : {X Y : Type 0} (g : X → Y) (o : Option X) (t : Y) → option_map g o ≡ Some t → (x : X) × (o ≡ Some x) × (g x ≡ t)
+pub mapped_some : {X Y : Type 0} (g : X → Y) (o : Option X) (t : Y) → option_map g o ≡ Some t → (x : X) × (o ≡ Some x) × (g x ≡ t)
 mapped_some g None t e = absurd (cc)
 mapped_some g (Some x) t e = (x, refl, (cc))
 
@@ -83,7 +83,7 @@ not_some : {X : Type 0} (o : Option X) → is_some o ≡ false → o ≡ None
 not_some None is = refl
 not_some (Some x) is = absurd (true≢false is)
 
-guarded : {X : Type 0} (b : Bool) (o : Option X) (t : X) → (if b then o else None) ≡ Some t → (b ≡ true) × (o ≡ Some t)
+pub guarded : {X : Type 0} (b : Bool) (o : Option X) (t : X) → (if b then o else None) ≡ Some t → (b ≡ true) × (o ≡ Some t)
 guarded true o t e = (refl, e)
 guarded false o t e = absurd (cc)
 
@@ -92,12 +92,19 @@ monitor_is s mon is = let both = and_parts (nat_le 1 mon) (nat_le mon s.settings
 
 -- ---- one trail goes on
 
+pub trail_there : (s : StoryView) → IsStory s → (mon : ℕ) → IsMonitor s.settings mon → (trail : List Entry) → trail_of (with_trail s mon trail) mon ≡ trail
+trail_there s h mon m trail =
+    get_or-set_same s.trails (mon - 1) trail [] (let a = m.from_one in let b = m.within in let c = h.count in omega (arith, a, b, c))
+
+pub trail_elsewhere : (s : StoryView) (mon : ℕ) → IsMonitor s.settings mon → (trail : List Entry) (q : ℕ) → IsMonitor s.settings q → (q ≡ mon → ⊥)
+    → trail_of (with_trail s mon trail) q ≡ trail_of s q
+trail_elsewhere s mon m trail q r apart =
+    get_or-set_other s.trails (mon - 1) (q - 1) trail [] (λ same. apart (let a = m.from_one in let b = r.from_one in omega (arith, a, b, same)))
+
 trail_step : (s : StoryView) → IsStory s → (mon : ℕ) → IsMonitor s.settings mon → (trail : List Entry) → IsLegalTrail (setup_of s mon) trail → IsOrderedLink s.journal mon trail → IsStory (with_trail s mon trail)
 trail_step s h mon m trail legal link =
-    let inside : mon - 1 < length s.trails = (let a = m.from_one in let b = m.within in let c = h.count in omega (arith, a, b, c)) in
-    let own : trail_of (with_trail s mon trail) mon ≡ trail = get_or-set_same s.trails (mon - 1) trail [] inside in
-    let other : (q : ℕ) → IsMonitor s.settings q → (q ≡ mon → ⊥) → trail_of (with_trail s mon trail) q ≡ trail_of s q = λ q r apart.
-    get_or-set_other s.trails (mon - 1) (q - 1) trail [] (λ same. apart (let a = m.from_one in let b = r.from_one in omega (arith, a, b, same))) in
+    let own = trail_there s h mon m trail in
+    let other = trail_elsewhere s mon m trail in
     record {
       limits = h.limits;
       logs = h.logs;

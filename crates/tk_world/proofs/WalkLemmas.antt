@@ -294,7 +294,7 @@ begins_inputs s h = refl
 pub runs_there : (s : StoryView) (events : List Event) → IsStory s → RunsBy s events → after (Some (begin s.settings s.logs s.from)) events ≡ Some s
 runs_there s events h runs = walk_runs s (opened (start s.settings)) (replicate s.settings.monitors []) events h (begins_within s h) runs
 
-pub one_reached : (b s t : StoryView) (events : List Event) → after (Some b) events ≡ Some s → after (Some b) events ≡ Some t → s ≡ t
+one_reached : (b s t : StoryView) (events : List Event) → after (Some b) events ≡ Some s → after (Some b) events ≡ Some t → s ≡ t
 one_reached b s t events x y = let e : Some s ≡ Some t = sym x ∙ y in cc
 
 pub stands_alone : (s t : StoryView) (events : List Event) → IsStory s → IsStory t → s.settings ≡ t.settings → s.logs ≡ t.logs → s.from ≡ t.from → RunsBy s events → RunsBy t events → s ≡ t

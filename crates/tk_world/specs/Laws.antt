@@ -3,6 +3,7 @@ use Rattle.std.specs.Prelude.{ℕ, ◌≡◌, List, length, Some}
 use Rattle.tk_base.specs.Settings.{Setup, IsWithinLimits}
 use Rattle.tk_input.specs.Logs.{AreLogs, IsCut, LogSet}
 use Rattle.tk_input.specs.declared.event.Event.{Event}
+use Rattle.tk_story.specs.Moments.{IsMoment}
 use Rattle.tk_story.specs.Story.{IsStory, StoryView}
 use Rattle.tk_world.specs.Events.{begin, after}
 use Rattle.tk_world.specs.Runs.{RunsBy}
@@ -13,6 +14,12 @@ BeginningIsAStory =
     (settings : Setup) (logs : LogSet) (from : List (List ℕ))
     → IsWithinLimits settings → AreLogs logs → logs.objects ≡ settings.objects → length logs.logs ≡ settings.monitors
     → IsCut logs.logs from → IsStory (begin settings logs from)
+
+-- each state on the way of a run is a moment of the story that it leads to
+abbrev pub EachStateIsAMoment : Type 0
+EachStateIsAMoment =
+    (t s : StoryView) (events : List Event)
+    → IsStory t → after (Some t) events ≡ Some s → IsMoment t s
 
 -- a story that runs by some events is where they lead to from its beginning
 abbrev pub RunLeadsToItsStory : Type 0

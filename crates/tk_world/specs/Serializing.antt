@@ -1,4 +1,4 @@
--- How far a story is walked while its events are written down.
+-- How far a story is walked while its events are written down. No public clause cites this file.
 use Rattle.tk_journal.specs.declared.noted.Noted.TheVariants as n
 use Rattle.std.specs.Prelude.{ℕ, ◌≡◌, ◌+◌, ◌-◌, ◌<◌, ◌==◌, Bool, true, false, if◌then◌else◌, List, [], ◌∷◌, ◌++◌, length, slice_index_or}
 use Rattle.tk_base.specs.declared.ids.Mon.{Mon}

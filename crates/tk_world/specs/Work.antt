@@ -1,8 +1,7 @@
 -- A set of monitors. No public clause cites this file.
-use Rattle.std.specs.Prelude.{ℕ, ◌-◌, ◌<◌, Bool, false, ◌&&◌, ◌==◌, nat_le, List, Option, Some, None}
+use Rattle.std.specs.Prelude.{ℕ, ◌-◌, Bool, false, ◌&&◌, ◌==◌, nat_le, List}
 use Rattle.std.specs.List.{list_any}
 use Rattle.std.specs.Int.{bit_at}
-use Rattle.tk_base.specs.declared.ids.Mon.{Mon}
 use Rattle.tk_journal.specs.declared.noted.Noted.{Noted}
 use Rattle.tk_journal.specs.declared.noted.Noted.TheVariants as n
 use Rattle.tk_world.specs.declared.work.Work.{Work}
@@ -10,11 +9,6 @@ use Rattle.tk_world.specs.declared.work.Work.{Work}
 -- whether a monitor is in the set
 unfoldable pub has : Work → ℕ → Bool
 has work mon = nat_le 1 mon && bit_at work.bits (mon - 1) == 1
-
--- a number is in front of the one that was found; where none was found, each is
-abbrev pub IsBefore : ℕ → Option Mon → Type 0
-IsBefore mon None = Unit {0}
-IsBefore mon (Some found) = mon < found.0
 
 -- whether an entry of a journal sends a frame to a monitor, and whether one of some entries does
 abbrev pub sends_to : ℕ → Noted → Bool

@@ -1,5 +1,5 @@
 -- A world as contracts see it: what it runs over, what a step leaves, and which monitors are at rest.
-use Rattle.std.specs.Prelude.{ℕ, ◌≡◌, ◌≤◌, Bool, true, false, List, ◌∷◌, [], ◌++◌, length, Option, Some, None}
+use Rattle.std.specs.Prelude.{ℕ, ◌≡◌, ◌≤◌, ◌<◌, Bool, true, false, List, ◌∷◌, [], ◌++◌, length, Option, Some, None}
 use Rattle.tk_base.specs.Settings.{Setup}
 use Rattle.tk_base.specs.declared.ids.Mon.{Mon}
 use Rattle.tk_input.specs.Logs.{IsCut, LogSet}
@@ -9,7 +9,6 @@ use Rattle.tk_journal.specs.Laws.{IsMonitor}
 use Rattle.tk_story.specs.Kept.{KeptStory}
 use Rattle.tk_story.specs.Story.{StoryView, setup_of}
 use Rattle.tk_world.specs.Events.{next_of, check_at, up_at, down_at}
-use Rattle.tk_world.specs.Work.{IsBefore}
 use Rattle.tk_world.specs.declared.moved.Moved.{Moved}
 use Rattle.tk_world.specs.declared.moved.Moved.TheVariants.{Yes, Idle}
 
@@ -42,6 +41,11 @@ pub record IsAtRest (s : StoryView) (mon : ℕ) : Type 0 where
   pub check : next_of s (check_at mon) ≡ None
   pub up : next_of s (up_at mon) ≡ None
   pub down : next_of s (down_at mon) ≡ None
+
+-- a number is in front of the one that was found; where none was found, each is
+abbrev pub IsBefore : ℕ → Option Mon → Type 0
+IsBefore mon None = Unit {0}
+IsBefore mon (Some found) = mon < found.0
 
 -- each monitor from a number on is at rest, up to the one that was found
 abbrev pub AreAtRest : StoryView → ℕ → Option Mon → Type 0

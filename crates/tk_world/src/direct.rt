@@ -1,12 +1,11 @@
-ghost use Rattle.std.specs.Prelude.{◌≡◌, IfOk};
-ghost use Rattle.tk_journal.specs.Legal.{opened, start};
-ghost use Rattle.tk_journal.specs.Readings.{monitors};
-ghost use Rattle.tk_world.specs.Nodes.{fresh_seats};
+ghost use Rattle.std.specs.Prelude.{◌≡◌, IfOk, map};
+ghost use Rattle.tk_world.specs.Nodes.{IsFresh};
 ghost use Rattle.tk_world.specs.World.{CanRun};
 
 use crate::nodes::Nodes;
 use crate::seat::{Seat, new_seats};
 use std::alloc::Global;
+use std::marker::Model;
 use tk_base::{Cut, Feeder, Mon, NoMemory, Settings};
 use tk_coord::{CoordRefusal, Coordinator};
 use tk_input::Logs;
@@ -20,6 +19,14 @@ pub struct Direct {
     seats: Vec<Seat>,
 }
 
+impl Model for Direct {
+    ghost use Rattle.tk_world.specs.Nodes.{NodesView};
+
+    ghost Value = { NodesView };
+
+    ghost view = { λ d. record { coordinator = d.coordinator; seats = d.seats.items } };
+}
+
 impl Direct {
     /// A coordinator that has opened, and the monitors of some logs, which have taken and sent nothing.
     pub fn new(
@@ -30,8 +37,7 @@ impl Direct {
     ) -> Result<Direct, NoMemory>
         requires { CanRun settings logs.now from.now }
         ensures settings { IfOk result (λ d. d.coordinator.settings ≡ settings) }
-        ensures journal { IfOk result (λ d. d.coordinator.journal ≡ opened (start settings)) }
-        ensures seats { IfOk result (λ d. d.seats.items ≡ fresh_seats settings logs.now from.now) }
+        ensures fresh { IfOk result (λ d. IsFresh d logs.now from.now) }
     {
         Ok(Direct {
             seats: new_seats(alloc, &settings, logs, from)?,
@@ -60,8 +66,20 @@ fn of_monitor(refusal: MonitorRefusal) -> NoMemory
     }
 }
 
+/// The monitors of some seats.
+fn monitors_of(alloc: Global, seats: Vec<Seat>) -> Result<Vec<Monitor>, NoMemory>
+    ensures { IfOk result (λ monitors. monitors.items ≡ map (λ seat. seat.monitor) seats.items) }
+{
+    let mut monitors = Vec::with_capacity(alloc, seats.len())?;
+    for seat in seats {
+        let Seat { monitor, .. } = seat;
+        monitors.push(monitor)?;
+    }
+    Ok(monitors)
+}
+
 impl Nodes for Direct {
-    ghost seen = { λ d. record { coordinator = d.coordinator; seats = d.seats.items } };
+    ghost seen = { λ d. d };
 
     fn coordinator(&self) -> &Coordinator {
         &self.coordinator
@@ -121,11 +139,13 @@ impl Nodes for Direct {
 
     fn into_parts(self, alloc: Global) -> Result<(Coordinator, Vec<Monitor>), NoMemory> {
         let Direct { coordinator, seats } = self;
-        let mut monitors = Vec::with_capacity(alloc, seats.len())?;
-        for seat in seats {
-            let Seat { monitor, .. } = seat;
-            monitors.push(monitor)?;
+        match monitors_of(alloc, seats) {
+            Ok(monitors) => Ok((coordinator, monitors)),
+            Err(NoMemory) => {
+                // By name: `?` would drop each of its fields here, which is dear to prove.
+                drop(coordinator);
+                Err(NoMemory)
+            }
         }
-        Ok((coordinator, monitors))
     }
 }

@@ -6,7 +6,7 @@ ghost use Rattle.tk_story.specs.Story.{IsStory, StoryView};
 ghost use Rattle.tk_story.specs.Moments.{AreMembersValid, IsStill};
 ghost use Rattle.tk_world.specs.Order.{events_of};
 ghost use Rattle.tk_world.specs.Runs.{RunsBy};
-ghost use Rattle.tk_world.specs.Laws.{BeginningIsAStory, EventsTellOneStory, ReachedStoryRuns, RunLeadsToItsStory};
+ghost use Rattle.tk_world.specs.Laws.{BeginningIsAStory, EachStateIsAMoment, EventsTellOneStory, ReachedStoryRuns, RunLeadsToItsStory};
 
 /// The opening alone is a story.
 pub fn a_beginning_is_a_story()
@@ -23,17 +23,20 @@ pub fn a_run_leaves_a_story()
     ensures { (s t : StoryView) (events : List Event) → IsStory s → after (Some s) events ≡ Some t → IsStory t }
 {}
 
+/// Each state of a run is a moment of the story that the run leads to.
+pub fn each_state_is_a_moment()
+    ensures { EachStateIsAMoment }
+{}
+
 /// Where nothing but a raise or a retune can happen, the story is still, and its members hold at the ends of its trails.
 pub fn where_nothing_moves_the_members_are_valid()
     ensures still { (s : StoryView) → IsStory s → CanOnlyChange s → IsStill s }
     ensures holds { (s : StoryView) → IsStory s → CanOnlyChange s → AreMembersValid s }
 {}
 
-/// Two stories that the same events lead to from the same beginning are one; a story that runs by the reader's form is
-/// where its events lead; so two stories that begin alike and run by the same events are one.
+/// A story runs by some events, in the reader's form, where they lead to it from its beginning; so two stories that
+/// begin alike and run by the same events are one.
 pub fn one_story()
-    ensures reached { (b s t : StoryView) (events : List Event) → after (Some b) events ≡ Some s
-        → after (Some b) events ≡ Some t → s ≡ t }
     ensures runs { RunLeadsToItsStory }
     ensures reads { ReachedStoryRuns }
     ensures alone { EventsTellOneStory }

@@ -21,7 +21,8 @@ mod world;
 pub use direct::Direct;
 pub use laws::{
     a_beginning_is_a_story, a_run_leaves_a_story, each_event_leaves_a_story,
-    each_story_has_its_events, one_story, where_nothing_moves_the_members_are_valid,
+    each_state_is_a_moment, each_story_has_its_events, one_story,
+    where_nothing_moves_the_members_are_valid,
 };
 pub use moved::Moved;
 pub use nodes::Nodes;

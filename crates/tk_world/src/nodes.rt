@@ -13,9 +13,11 @@ pub trait Nodes {
     /// The coordinator, and each monitor with how far its two links were walked.
     ghost seen: { Self → NodesView };
 
+    /// The coordinator alone.
     fn coordinator(&self) -> &Coordinator
         ensures { result.now ≡ (seen self.now).coordinator };
 
+    /// A monitor alone.
     fn monitor(&self, mon: Mon) -> &Monitor
         requires { HasSeat (seen self.now) mon.0 }
         ensures { AtSeat (seen self.now) mon.0 (λ seat. result.now ≡ seat.monitor) };

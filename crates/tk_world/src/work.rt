@@ -1,5 +1,6 @@
 ghost use Rattle.std.specs.Prelude.{◌≡◌, ℕ, ◌≤◌, ◌==◌, ◌||◌, ◌&&◌, not, Bool, true, false, IfSome};
-ghost use Rattle.tk_world.specs.Work.{IsBefore, has, is_sent};
+ghost use Rattle.tk_world.specs.Work.{has, is_sent};
+ghost use Rattle.tk_world.specs.World.{IsBefore};
 
 use tk_base::Mon;
 use tk_journal::Noted;

@@ -1,7 +1,7 @@
 //! `topk`: replays change logs through the top-k protocol, and prints each published set with the log
 //! prefixes of which it speaks, then a ledger of messages.
 //!
-//! It makes the true files and the output, and calls the library of runs, which promises the rest.
+//! It makes the true files, the output and the net, and calls `run` or `live`, which promise the rest.
 #![tactic(auto)]
 
 use std::alloc::AllocGlobal;
@@ -17,6 +17,7 @@ use tk_live::live;
 use tk_net::LoopNet;
 use tk_run::{Status, fault_line, run};
 use tk_serve::OpenGate;
+use tk_words::{Verb, verb_of};
 
 /// A number for a live run, another one for each: bytes that the system draws.
 fn run_number(rt: &impl RandomSource) -> u64 {
@@ -53,14 +54,6 @@ fn run_live<R: AllocGlobal + RandomSource + Print + rt::Files + rt::Net + Thread
     );
     leave(outcome.story, Vec::new(alloc));
     outcome.status
-}
-
-/// Whether the words are those of a live run.
-fn are_live(words: &[String]) -> bool {
-    match words {
-        [] => false,
-        [word, ..] => word.as_str() == "live",
-    }
 }
 
 /// The words of the command line, without the program's name.
@@ -101,8 +94,10 @@ fn tell(rt: &HostRuntime, status: &Status) {
 
 fn main(rt: HostRuntime) -> ExitCode {
     let status = match words_of(&rt) {
-        Ok(words) if are_live(words.as_slice()) => run_live(&rt, words.as_slice()),
-        Ok(words) => run_words(&rt, words.as_slice()),
+        Ok(words) => match verb_of(words.as_slice()) {
+            Some(Verb::Live) => run_live(&rt, words.as_slice()),
+            _ => run_words(&rt, words.as_slice()),
+        },
         Err(NoMemory) => Status::NoMemory,
     };
     tell(&rt, &status);

@@ -5,7 +5,7 @@ use Rattle.tk_hub.specs.Lines.{AreNamed, IsAt}
 use Rattle.tk_hub.specs.declared.course.HubTurn.TheVariants as t
 use Rattle.tk_hub.proofs.TakenLemmas.{reaches_settings}
 use Rattle.tk_hub.proofs.TurnLemmas.{at_heard, exchanges_ended, exchanges_finished, exchanges_nothing, exchanges_unwritten, exchanges_wanting, exchanges_written, no_error, open_passed, works_of}
-use Rattle.tk_hub.proofs.WriteLemmas.{all_named, writes_nothing}
+use Rattle.tk_hub.proofs.WriteLemmas.{all_named, no_fault, writes_nothing}
 use Rattle.tk_hub.proofs.hub.exchange.Goals as goal
 
 pub returns-then-is_err-clause-works : goal.returns-then-is_err-clause-works
@@ -41,6 +41,9 @@ returns-then-not-goes_on-clause-cut g c = λ is. absurd (c.exchange-turn.ensures
 
 pub returns-then-not-goes_on-clause-failed : goal.returns-then-not-goes_on-clause-failed
 returns-then-not-goes_on-clause-failed g c = λ is. absurd (c.exchange-turn.ensures.unwritten is)
+
+pub returns-then-not-goes_on-clause-counted : goal.returns-then-not-goes_on-clause-counted
+returns-then-not-goes_on-clause-counted g c = no_fault c.exchange-turn.result (g.O.Sink.fault_count c.args.out.now) c.exchange-turn.ensures.unwritten
 
 pub write-requires-clause-at : goal.write-requires-clause-at
 write-requires-clause-at g c =
@@ -83,3 +86,6 @@ returns-else-is_finished-clause-works g c =
     works_of g.W.Wire.counts c.exchange-turn.result c.greet.result c.args.seats.now c.args.lobby.now c.greet.new.seats c.greet.new.self c.exchange-turn.new.self c.write.new.self c.greet.ensures.greets c.greet.ensures.rest
     (λ failed. absurd (no_error c.greet.result (sym c.is_err.ensures.value ∙ c.if-is_err.false) failed))
     (exchanges_written c.exchange-turn.result c.greet.new.seats c.exchange-turn.new.self c.write.new.self on c.exchange-turn.ensures.hears (c.exchange-turn.ensures.said on) (c.in-Ok.ensures.all ∙ ap length journal) (λ is. absurd (false≢true (sym c.if-is_finished.false ∙ c.is_finished.ensures.1 is))))
+
+pub returns-else-is_finished-clause-counted : goal.returns-else-is_finished-clause-counted
+returns-else-is_finished-clause-counted g c = c.in-Ok.ensures.counted ∙ no_fault c.exchange-turn.result (g.O.Sink.fault_count c.args.out.now) c.exchange-turn.ensures.unwritten

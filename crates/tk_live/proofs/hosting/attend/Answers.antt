@@ -57,6 +57,7 @@ returns-in-Some-after g c =
       kept = e.kept;
       course = e.course;
       finished = e.finished;
+      counts = g.N.Link.Wire.counts;
       goes = e.goes going.course going.unfinished;
     }) (sym c.after.ensures ∙ c.in-Some-after.is)
 
@@ -74,5 +75,6 @@ loop-preserved g c =
       kept = e.kept;
       course = e.course;
       finished = e.finished;
+      counts = g.N.Link.Wire.counts;
       goes = e.goes going.course going.unfinished;
     }) (sym c.after.ensures ∙ c.in_default-after.is)

@@ -2,5 +2,6 @@ use Rattle.tk_run.proofs.InputLemmas.{input_is_run}
 use Rattle.tk_run.proofs.headline.an_input_is_run.Goals as goal
 
 pub returns : goal.returns
-returns c = λ words asked met contents input status understood are is written ends.
-    input_is_run words asked met understood contents are input is status written ends
+returns c = λ words asked met contents status understood given written ends.
+    let told = c.what_is_told_is_meant.ensures in
+    input_is_run told.replay told.sessions told.queries c.a_right_trace_is_read.ensures words asked met contents status understood given written ends

@@ -1,4 +1,4 @@
-use Rattle.std.proofs.Common.{rules, ◌≡◌, ℕ, List}
+use Rattle.std.proofs.Common.{rules}
 use Rattle.tk_load.specs.Reads.{Loads, reads_by}
 use Rattle.tk_words.specs.Asked.{asked_sources}
 use Rattle.tk_run.specs.Ends.{IsStoryOf, IsTracedOf, trace_text}

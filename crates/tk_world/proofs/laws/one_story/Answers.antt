@@ -1,9 +1,6 @@
 use Rattle.tk_world.proofs.ReadLemmas.{reads}
-use Rattle.tk_world.proofs.WalkLemmas.{one_reached, runs_there, stands_alone}
+use Rattle.tk_world.proofs.WalkLemmas.{runs_there, stands_alone}
 use Rattle.tk_world.proofs.laws.one_story.Goals as goal
-
-pub returns-clause-reached : goal.returns-clause-reached
-returns-clause-reached c = one_reached
 
 pub returns-clause-runs : goal.returns-clause-runs
 returns-clause-runs c = runs_there

@@ -31,9 +31,9 @@ returns-clause-goes g c = λ _ _.
     let after = c.conclude-self-inside.new.lobby in
     let lines = c.exchange-turn.new.lines in
     let old : HubView g.row.W.Denot = record { run = s.seats.run; coordinator = s.seats.coordinator; links = s.seats.links; held = s.lobby.held; strangers = s.lobby.strangers; lines = s.lines; course = s.course } in
-    let turns = turns_concluded turn old mid c.exchange-turn.new.lobby (record { lobby = after; links = last.links }) lines c.conclude-self-inside.result c.exchange-turn.ensures.works c.conclude-self-inside.ensures.closes c.conclude-self-inside.ensures.course in
+    let turns = turns_concluded g.W.Wire.counts turn old mid c.exchange-turn.new.lobby (record { lobby = after; links = last.links }) lines c.conclude-self-inside.result c.exchange-turn.ensures.works c.conclude-self-inside.ensures.closes c.conclude-self-inside.ensures.course in
     let New : SeatsView g.row.W.Denot → HubView g.row.W.Denot = λ v. record { run = v.run; coordinator = v.coordinator; links = v.links; held = after.held; strangers = after.strangers; lines = lines; course = c.conclude-self-inside.result } in
-    subst (λ v. Turns turn v (New last)) c.self.view_is (subst (λ v. Turns turn old (New v)) (sym c.conclude-self-inside.ensures.rest) turns)
+    subst (λ v. Turns g.W.Wire.counts turn v (New last)) c.self.view_is (subst (λ v. Turns g.W.Wire.counts turn old (New v)) (sym c.conclude-self-inside.ensures.rest) turns)
 
 pub invariant_of-self : goal.invariant_of-self
 invariant_of-self g c =
