@@ -1,10 +1,10 @@
 -- The coordinator's border: its size, and what it is above and below.
-use Rattle.std.proofs.Common.{◌≡◌, ℕ, suc, ◌&&◌, ◌-◌, ◌^◌, ◌<◌, ◌≤◌, ℤ, pos, ◌+ℤ◌, ◌≤ℤ◌, unsigned_abs, List, [], ◌∷◌, length, map, get_or, Contains, Option, Some, None, Bool, true, false, not, refl, sym, ap, ap₂, ◌∙◌, subst, arith, inl, inr}
+use Rattle.std.proofs.Common.{◌≡◌, ℕ, suc, ◌&&◌, ◌-◌, ◌^◌, ◌<◌, ◌≤◌, ℤ, pos, ◌+ℤ◌, ◌≤ℤ◌, unsigned_abs, List, [], ◌∷◌, length, map, get_or, Contains, Option, Some, None, not, refl, sym, ap, ap₂, ◌∙◌, subst, arith, inl, inr}
 use Rattle.std.specs.Prelude.{unwrap_or, is_some, IsSome, ◌==◌}
 use Rattle.std.specs.List.{All, fold}
 use Rattle.std.specs.Int.{int_min, int_max}
 use Rattle.std.proofs.lemmas.Int.{ints, fold-int_max_bounds, fold-int_max_reached, fold-int_min_bounds}
-use Rattle.std.proofs.lemmas.Bool.{cases_Bool, cases_lt, and_parts, true≢false, false≢true}
+use Rattle.std.proofs.lemmas.Bool.{cases_Bool, cases_lt, and_parts, true≢false, false≢true, not-true}
 use Rattle.std.proofs.lemmas.List.{length-map, get_or-map, get_or_default, get_or_past}
 use Rattle.std.proofs.lemmas.List.Elements.{All-cons, All-map, All-contains}
 use Rattle.tk_base.specs.Objects.{objects, is_in}
@@ -112,14 +112,10 @@ in_outside n set s some within out =
     is_in_contained (outside n set) s
     (is_in-filter (λ o. not (is_in set o)) (objects n) s ∙ ap₂ ◌&&◌ (contained_is_in (objects n) s (in_catalogue n s some within)) (ap not (outside_is_not_in set s out)))
 
-pub not_true : (b : Bool) → not b ≡ true → b ≡ false
-not_true true e = sym e
-not_true false e = refl
-
 pub of_outside : (n : ℕ) (set : List ℕ) (s : ℕ) → Contains (outside n set) s → Contains (objects n) s × (Contains set s → ⊥)
 of_outside n set s found =
     let both = and_parts (is_in (objects n) s) (not (is_in set s)) (sym (is_in-filter (λ o. not (is_in set o)) (objects n) s) ∙ contained_is_in (outside n set) s found) in
-    (is_in_contained (objects n) s both.0, λ in'. true≢false (sym (contained_is_in set s in') ∙ not_true (is_in set s) both.1))
+    (is_in_contained (objects n) s both.0, λ in'. true≢false (sym (contained_is_in set s in') ∙ not-true (is_in set s) both.1))
 
 -- ---- the border
 

@@ -4,8 +4,7 @@ use Rattle.std.specs.Prelude.{◌==◌}
 use Rattle.std.specs.Cmp.{IsStrictWeakOrder}
 use Rattle.std.specs.List.{count_by}
 use Rattle.std.specs.List.Sorted.{IsSortedBy}
-use Rattle.std.proofs.lemmas.Bool.{cases_eq, cases_Bool, true≢false, true_from_ne_false}
-use Rattle.std.proofs.lemmas.Bool.Decides.{nat_tests}
+use Rattle.std.proofs.lemmas.Bool.{cases_eq, cases_Bool, true≢false, true_from_ne_false, le-ltb, lt-ltb}
 use Rattle.std.proofs.lemmas.List.{length-take-le, get_or-take, get_or-drop, length-drop, get_or_default}
 use Rattle.std.proofs.lemmas.List.Sums.{sum_by-cons, sum_by-take-drop, count_by-le-length, get_or-le-sum_by}
 use Rattle.std.proofs.lemmas.List.Sorted.{sorted_far}
@@ -36,12 +35,6 @@ count_by-map p f [] = refl
 count_by-map p f (x ∷ xs) =
     sum_by-cons (λ y. cond (p y) 1 0) (f x) (map f xs) ∙ ap (λ (n : ℕ). cond (p (f x)) 1 0 + n) (count_by-map p f xs) ∙ sym (sum_by-cons (λ y. cond (p (f y)) 1 0) x xs)
 
-below_false : (a b : ℕ) → b ≤ a → nat_lt a b ≡ false
-below_false a b h = grind (arith, nat_tests)
-
-below_true : (a b : ℕ) → a < b → nat_lt a b ≡ true
-below_true a b h = grind (arith, nat_tests)
-
 -- what stands later in a sorted list does not come before
 pub not_before : {X : Type 0} (lt : X → X → Bool) → IsStrictWeakOrder lt → (s : List X) (i j : ℕ) (last d : X) → IsSortedBy lt s → last ≡ get_or s i last → i ≤ j → j < length s → lt (get_or s j d) last ≡ false
 not_before lt o s i j last d up is before within =
@@ -70,8 +63,8 @@ many_before lt o s i last x up within is late =
 -- so fewer than i + 1 come before an element exactly where it is not past the element at i
 pub before_count : {X : Type 0} (lt : X → X → Bool) → IsStrictWeakOrder lt → (s : List X) (i : ℕ) (last x : X) → IsSortedBy lt s → i < length s → last ≡ get_or s i last → nat_lt (count_by (λ q. lt q x) s) (i + 1) ≡ not (lt last x)
 before_count lt o s i last x up within is = elim (cases_Bool (lt last x)) [
-  | inl late ↦ below_false (count_by (λ q. lt q x) s) (i + 1) (many_before lt o s i last x up within is late) ∙ sym (ap not late)
-  | inr early ↦ below_true (count_by (λ q. lt q x) s) (i + 1) (omega (arith, few_before lt o s i last x up within is early)) ∙ sym (ap not early)
+  | inl late ↦ le-ltb (count_by (λ q. lt q x) s) (i + 1) (many_before lt o s i last x up within is late) ∙ sym (ap not late)
+  | inr early ↦ lt-ltb (count_by (λ q. lt q x) s) (i + 1) (omega (arith, few_before lt o s i last x up within is early)) ∙ sym (ap not early)
 ]
 
 -- where an ascending or otherwise distinct list has a number, it has it once

@@ -2,7 +2,6 @@
 use Rattle.std.proofs.Common.{◌≡◌, ℕ, ◌<◌, ◌≤◌, ℤ, pos, List, [], ◌∷◌, length, map, get_or, if◌then◌else◌, sym, ap, ◌∙◌, subst, arith}
 use Rattle.std.specs.List.{All}
 use Rattle.std.proofs.lemmas.List.{length-map, get_or_default}
-use Rattle.std.proofs.lemmas.List.FromFn.{length-range_with_len}
 use Rattle.tk_base.specs.Ascending.{IsAscending}
 use Rattle.tk_base.specs.Objects.{is_in}
 use Rattle.tk_base.specs.Pairs.{objects_of}
@@ -17,6 +16,7 @@ use Rattle.tk_alloc.specs.Rounds.{AreReports, chosen, total, totals}
 use Rattle.tk_alloc.proofs.AskedLemmas.{IsSet, set_of}
 use Rattle.tk_alloc.proofs.FullLemmas.{IsCalled}
 use Rattle.tk_alloc.proofs.PartLemmas.{objects_put}
+use Rattle.tk_alloc.proofs.WideLemmas.{reports_count}
 
 -- what the code has read and computed before it deals
 pub record IsGathered (setup : Setup) (grid : Grid) (present : List ℕ) (reports : List Reported) (first : Reported) (sums : List (ℕ × ℤ)) (members : List ℕ) : Type 0 where
@@ -32,16 +32,13 @@ pub record IsGathered (setup : Setup) (grid : Grid) (present : List ℕ) (report
   pub present_up : IsAscending present
   pub sums_up : IsAscending (objects_of sums)
 
-pub report_count : (monitors : ℕ) (all : List ℕ) (reports : List Reported) → AreReports monitors all reports → length reports ≡ monitors
-report_count monitors all reports r = sym (length-map reports (λ (q : Reported). q.mon.0)) ∙ ap length r.order ∙ length-range_with_len 1 monitors
-
 -- the objects of the reports are those of the first
 pub over_first : (reports : List Reported) (first : Reported) → 0 < length reports → first ≡ get_or reports 0 first → objects_of first.values ≡ objects_over reports
 over_first [] first some head = absurd (omega arith)
 over_first (r ∷ reports) first some head = ap (λ (q : Reported). objects_of q.values) head
 
 pub first_over : (setup : Setup) (reports : List Reported) (first : Reported) → IsWithinLimits setup → AreReports setup.monitors (objects_over reports) reports → first ≡ get_or reports 0 first → objects_of first.values ≡ objects_over reports
-first_over setup reports first limits reported head = over_first reports first (omega (arith, limits.some_monitor, report_count setup.monitors (objects_over reports) reports reported)) head
+first_over setup reports first limits reported head = over_first reports first (omega (arith, limits.some_monitor, reports_count setup.monitors (objects_over reports) reports reported)) head
 
 -- there are at least k objects to choose from
 pub enough : (setup : Setup) (grid : Grid) (present : List ℕ) (reports : List Reported) (first : Reported) (sums : List (ℕ × ℤ)) → length present ≤ length (objects_over reports) → IsReady setup grid present (objects_over reports)

@@ -1,9 +1,8 @@
 -- The search for the first factor past its limit.
-use Rattle.std.proofs.Common.{◌≡◌, ℕ, suc, zero, ◌+◌, ◌^◌, ◌<◌, ◌≤◌, ℤ, pos, unsigned_abs, List, [], ◌∷◌, length, map, get_or, Some, true, false, nat_lt, refl, sym, ap, ◌∙◌, subst, arith, inl, inr}
+use Rattle.std.proofs.Common.{◌≡◌, ℕ, suc, zero, ◌+◌, ◌^◌, ◌<◌, ℤ, pos, unsigned_abs, List, [], ◌∷◌, length, map, get_or, Some, true, false, nat_lt, refl, sym, ap, ◌∙◌, subst, arith, inl, inr}
 use Rattle.std.specs.Prelude.{slice_get}
 use Rattle.std.specs.List.{All}
-use Rattle.std.proofs.lemmas.Bool.{cases_lt, cases_order}
-use Rattle.std.proofs.lemmas.Bool.Decides.{nat_tests}
+use Rattle.std.proofs.lemmas.Bool.{cases_lt, cases_order, ltb-false, ltb-true}
 use Rattle.std.proofs.lemmas.List.{length-map, get_or-map, get_or_default}
 use Rattle.std.proofs.lemmas.List.Elements.{All-cons, All-map}
 use Rattle.std.proofs.lemmas.Option.{get_or_from_slice_get}
@@ -18,12 +17,6 @@ use Rattle.tk_alloc.specs.Limit.{AreAllWithin, Gives, IsFirstPast}
 use Rattle.tk_alloc.specs.Parts.{by_monitor}
 use Rattle.tk_alloc.proofs.ReplacementLemmas.{numbers_by}
 use Rattle.tk_alloc.specs.Search.{by_node, IsEven, placed, AreWithin, IsFirstNode}
-
-not_below : (a b : ℕ) → nat_lt a b ≡ false → b ≤ a
-not_below a b e = grind (arith, nat_tests)
-
-below : (a b : ℕ) → nat_lt a b ≡ true → a < b
-below a b e = grind (arith, nat_tests)
 
 -- the factors of a place are within their limit at the first nodes
 abbrev pub FirstAreWithin : List (ℕ × List (ℕ × ℤ)) → ℕ → ℕ → Type 0
@@ -41,12 +34,7 @@ node_of change n c d within is =
 pub length-by_node : (change : Reallocation) → length (by_node change) ≡ suc (length change.at.items)
 length-by_node change = ap suc (length-map change.at.items (λ (m : MonChange). (m.mon.0, m.changes)))
 
--- the coordinator's factor is within
-pub own_within : (change : Reallocation) (i o : ℕ) (z : ℤ) → slice_get change.own i ≡ Some (o, z) → nat_lt (2 ^ 112) (unsigned_abs z) ≡ false → FirstAreWithin (by_node change) (0 + 1) i
-own_within change i o z read small zero d h = subst IsFactor (sym (placed_is change.own i o z read)) (not_below (2 ^ 112) (unsigned_abs z) small)
-own_within change i o z read small (suc j) d h = absurd (omega arith)
-
--- the factor at one more monitor is
+-- the factor at one more monitor is within
 pub more_within : (change : Reallocation) (n i o : ℕ) (c : MonChange) (z : ℤ) → n < length change.at.items → c ≡ get_or change.at.items n c → slice_get c.changes i ≡ Some (o, z) → nat_lt (2 ^ 112) (unsigned_abs z) ≡ false
     → FirstAreWithin (by_node change) (n + 1) i → FirstAreWithin (by_node change) (n + 1 + 1) i
 more_within change n i o c z within is read small before j d h = elim (cases_lt j (n + 1)) [
@@ -54,24 +42,10 @@ more_within change n i o c z within is read small before j d h = elim (cases_lt 
   | inr ge ↦
       let e : j ≡ suc n = omega arith in
       let at : get_or (by_node change) j d ≡ (c.mon.0, c.changes) = ap (λ (m : ℕ). get_or (by_node change) m d) e ∙ node_of change n c d within is in
-      subst IsFactor (sym (ap (λ (x : ℕ × List (ℕ × ℤ)). placed x.1 i) at ∙ placed_is c.changes i o z read)) (not_below (2 ^ 112) (unsigned_abs z) small)
+      subst IsFactor (sym (ap (λ (x : ℕ × List (ℕ × ℤ)). placed x.1 i) at ∙ placed_is c.changes i o z read)) (ltb-false (2 ^ 112) (unsigned_abs z) small)
 ]
 
-pub all_within : (change : Reallocation) (n i : ℕ) → length change.at.items ≤ n → FirstAreWithin (by_node change) (n + 1) i → AreWithin (by_node change) i
-all_within change n i whole within k d h = within k d (omega (arith, length-by_node change))
-
--- the coordinator's factor is past
-pub own_first : (change : Reallocation) (i o : ℕ) (z : ℤ) → slice_get change.own i ≡ Some (o, z) → nat_lt (2 ^ 112) (unsigned_abs z) ≡ true → IsFirstNode (by_node change) i 0 z
-own_first change i o z read great = record {
-  entry = 0;
-  within = omega arith;
-  before = λ j d h. absurd (omega arith);
-  number = λ d. refl;
-  factor_is = λ d. placed_is change.own i o z read;
-  past = below (2 ^ 112) (unsigned_abs z) great;
-}
-
--- a monitor's factor is, where those before it are not
+-- a monitor's factor is past, where those before it are not
 pub monitor_first : (change : Reallocation) (n i o : ℕ) (c : MonChange) (z : ℤ) → n < length change.at.items → c ≡ get_or change.at.items n c → slice_get c.changes i ≡ Some (o, z) → nat_lt (2 ^ 112) (unsigned_abs z) ≡ true
     → FirstAreWithin (by_node change) (n + 1) i → IsFirstNode (by_node change) i c.mon.0 z
 monitor_first change n i o c z within is read great before = record {
@@ -80,7 +54,7 @@ monitor_first change n i o c z within is read great before = record {
   before = λ j d h. before j d (omega arith);
   number = λ d. ap (λ (x : ℕ × List (ℕ × ℤ)). x.0) (node_of change n c d within is);
   factor_is = λ d. ap (λ (x : ℕ × List (ℕ × ℤ)). placed x.1 i) (node_of change n c d within is) ∙ placed_is c.changes i o z read;
-  past = below (2 ^ 112) (unsigned_abs z) great;
+  past = ltb-true (2 ^ 112) (unsigned_abs z) great;
 }
 
 -- ---- the first past the limit of all

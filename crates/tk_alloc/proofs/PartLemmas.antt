@@ -4,9 +4,8 @@ use Rattle.std.specs.Prelude.{unwrap_or, slice_get}
 use Rattle.std.proofs.lemmas.List.{length-map, get_or-map, map-append, take_more, take_all}
 use Rattle.std.proofs.lemmas.List.Sums.{fold_push}
 use Rattle.std.proofs.lemmas.Option.{get_or_from_slice_get}
-use Rattle.tk_base.specs.declared.ids.Obj.{Obj}
 use Rattle.tk_base.specs.Ascending.{IsAscending}
-use Rattle.tk_base.specs.Pairs.{pairs_of, objects_of}
+use Rattle.tk_base.specs.Pairs.{objects_of}
 use Rattle.tk_base.proofs.AscendingLemmas.{ascending_positive}
 use Rattle.tk_base.proofs.PairsLemmas.{value_at-found}
 use Rattle.tk_share.specs.Shares.{share}
@@ -17,10 +16,6 @@ use Rattle.tk_alloc.specs.declared.terms.Terms.{Terms}
 use Rattle.tk_alloc.specs.Parts.{Part, monitor, above, value_of}
 use Rattle.tk_alloc.specs.Rounds.{AreValues, total}
 use Rattle.tk_alloc.specs.Terms.{dealt_by, border_by, parts_of}
-
--- one more pair
-pub pairs_push : (xs : List (Obj × ℤ)) (x : Obj × ℤ) → pairs_of (xs ++ x ∷ []) ≡ pairs_of xs ++ (x.0.0, x.1) ∷ []
-pairs_push xs x = map-append {B = ℕ × ℤ} (λ (p : Obj × ℤ). (p.0.0, p.1)) xs (x ∷ [])
 
 -- what a pair at a place of some values tells
 pub record IsRead (values : List (ℕ × ℤ)) (objects : List ℕ) (i o : ℕ) (v : ℤ) : Type 0 where

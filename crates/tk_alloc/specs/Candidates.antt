@@ -14,6 +14,7 @@ candidate present p = record { total = record { 0 = p.1 }; newcomer = not (is_in
 abbrev pub candidate_cmp : Candidate → Candidate → Ordering
 candidate_cmp a b = ordering_then (int_cmp b.total.0 a.total.0) (ordering_then (bool_cmp a.newcomer b.newcomer) (nat_cmp a.obj b.obj))
 
+-- whether one candidate comes before another in this order
 abbrev pub comes_first : Candidate → Candidate → Bool
 comes_first a b = is_lt (candidate_cmp a b)
 

@@ -65,7 +65,8 @@ fn gap_at(terms: &Terms, table: &Table, report: &Reported, place: usize) -> i128
     requires part { TakesPart table.now terms.now report.now }
     requires objects { All (λ o. o ≤ length table.now.rows) (objects_of terms.now.own_values) }
     requires place { place < length terms.now.own_values }
-    ensures value { result ≡ above table.now (object_at terms.now place) (monitor (border_by terms.now.borders report.now) report.now) }
+    ensures value { result
+        ≡ above table.now (object_at terms.now place) (monitor (border_by terms.now.borders report.now) report.now) }
     ensures size { unsigned_abs result ≤ 2 ^ 114 }
 {
     let (o, value) = report.values.at(place);

@@ -9,10 +9,6 @@ before-take : (xs : List ℕ) (n k : ℕ) → k < n → get_or (0 ∷ take n xs)
 before-take xs n zero h = refl
 before-take xs n (suc k) h = get_or-take n xs k 0 (omega arith)
 
--- the empty front ascends
-pub ascending_none : (xs : List ℕ) → IsAscending (take 0 xs)
-ascending_none xs k h = absurd (omega (arith, length-take 0 xs))
-
 -- a front ascends with one more number that is above the one before
 pub ascending_more : (xs : List ℕ) (i : ℕ) → i < length xs → IsAscending (take i xs) → get_or (0 ∷ xs) i 0 < get_or xs i 0 → IsAscending (take (i + 1) xs)
 ascending_more xs i within front rise k h =

@@ -13,12 +13,6 @@ pub each_front : {A : Type 0} (Allows : List A → A → Type 0) (before xs ys :
 each_front Allows before [] ys each = tt
 each_front Allows before (x ∷ xs) ys each = (each.0, each_front Allows (before ++ x ∷ []) xs ys each.1)
 
--- what stands behind a front goes on from it
-pub each_rest : {A : Type 0} (Allows : List A → A → Type 0) (before xs ys : List A) → EachFrom Allows before (xs ++ ys) → EachFrom Allows (before ++ xs) ys
-each_rest Allows before [] ys each = subst (λ front. EachFrom Allows front ys) (sym (append-nil before)) each
-each_rest Allows before (x ∷ xs) ys each =
-    subst (λ front. EachFrom Allows front ys) (append_assoc before (x ∷ []) xs) (each_rest Allows (before ++ x ∷ []) xs ys each.1)
-
 -- a front and what goes on from it are a history
 pub each_join : {A : Type 0} (Allows : List A → A → Type 0) (before xs ys : List A) → EachFrom Allows before xs → EachFrom Allows (before ++ xs) ys → EachFrom Allows before (xs ++ ys)
 each_join Allows before [] ys each rest = subst (λ front. EachFrom Allows front ys) (append-nil before) rest
@@ -37,15 +31,6 @@ each_place Allows before [] each p d within = absurd (omega arith)
 each_place Allows before (x ∷ xs) each zero d within = subst (λ front. Allows front x) (sym (append-nil before)) each.0
 each_place Allows before (x ∷ xs) each (suc p) d within =
     subst (λ front. Allows front (get_or xs p d)) (append_assoc before (x ∷ []) (take p xs)) (each_place Allows (before ++ x ∷ []) xs each.1 p d (omega arith))
-
--- where the entry at each place is allowed over those in front of it, the list is a history
-pub each_from_places : {A : Type 0} (Allows : List A → A → Type 0) (before xs : List A) → ((p : ℕ) (d : A) → p < length xs → Allows (before ++ take p xs) (get_or xs p d)) → EachFrom Allows before xs
-each_from_places Allows before [] places = tt
-each_from_places Allows before (x ∷ xs) places = (
-  subst (λ front. Allows front x) (append-nil before) (places 0 x (omega arith)),
-  each_from_places Allows (before ++ x ∷ []) xs (λ p d within.
-      subst (λ front. Allows front (get_or xs p d)) (sym (append_assoc before (x ∷ []) (take p xs))) (places (suc p) d (omega arith))),
-)
 
 -- what holds of a front, and goes on over each entry that is allowed there, holds of the whole
 pub each_carries : {A : Type 0} (Allows : List A → A → Type 0) (P : List A → Type 0) → ((front : List A) (e : A) → P front → Allows front e → P (front ++ e ∷ [])) → (before xs : List A) → P before → EachFrom Allows before xs → P (before ++ xs)

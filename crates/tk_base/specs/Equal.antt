@@ -9,8 +9,10 @@ use Rattle.std.proofs.Common.{rules}
 abbrev pub pair_eq : ℕ × ℤ → ℕ × ℤ → Bool
 pair_eq p q = nat_eq p.0 q.0 && int_eq p.1 q.1
 
+-- the test of `==` at numbers is symmetric and transitive
 pub numbers_equal : IsPartialEquivalence nat_eq
 numbers_equal = search (comparing, rules)
 
+-- so is that at pairs
 pub pairs_equal : IsPartialEquivalence pair_eq
 pairs_equal = search (comparing, rules)

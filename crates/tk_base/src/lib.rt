@@ -14,8 +14,6 @@ mod obj_set;
 mod pairs;
 mod places;
 mod settings;
-#[cfg(test)]
-mod tests;
 
 pub use cut::Cut;
 pub use ids::{Feeder, Mon, Obj};

@@ -112,10 +112,6 @@ pub outside_none : (set : List ℕ) → outside 0 set ≡ []
 unfolding objects
 outside_none set = refl
 
--- the level of the next object is that at the index
-pub level_next : (levels : List ℤ) (i : ℕ) → get_or levels i (pos 0) ≡ level_at levels (i + 1)
-level_next levels i = ap (λ k. get_or levels k (pos 0)) (omega arith)
-
 mapped_twice : (own : List ℤ) (members : List ℕ) (epsilon : ℤ) → map (λ t. level_at own t +ℤ epsilon) members ≡ map (λ y. y +ℤ epsilon) (map (level_at own) members)
 mapped_twice own [] epsilon = refl
 mapped_twice own (t ∷ members) epsilon = ap (λ rest. (level_at own t +ℤ epsilon) ∷ rest) (mapped_twice own members epsilon)

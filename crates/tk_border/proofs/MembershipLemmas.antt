@@ -1,5 +1,5 @@
 -- Looking an object up, and sets that hold other sets.
-use Rattle.std.proofs.Common.{◌≡◌, ℕ, suc, zero, ◌+◌, ◌<◌, Bool, true, false, ◌||◌, ◌&&◌, eqb, List, [], ◌∷◌, length, get_or, take, Contains, refl, sym, ap, ap₂, ◌∙◌, subst, arith, inl, inr, eq-eqb}
+use Rattle.std.proofs.Common.{◌≡◌, ℕ, suc, zero, ◌+◌, ◌<◌, Bool, true, false, ◌&&◌, eqb, List, [], ◌∷◌, length, get_or, take, Contains, refl, sym, ap, ap₂, ◌∙◌, subst, arith, inl, inr, eq-eqb}
 use Rattle.std.proofs.lemmas.Bool.{false≢true, or_cases, or_left, or_right, and_parts, eqb-true, false_from_ne_true}
 use Rattle.std.proofs.lemmas.List.{take_all}
 use Rattle.std.proofs.lemmas.List.Folds.{list_any_at, list_all_more, list_all_at}
@@ -45,11 +45,3 @@ pub holds_from : (set members : List ℕ) → ((o : ℕ) → is_in members o ≡
 holds_from set [] within = refl
 holds_from set (q ∷ members) within =
     ap₂ ◌&&◌ (within q (or_left (eqb q q) (is_in members q) (eq-eqb q q refl))) (holds_from set members (λ o here. within o (or_right (eqb q o) (is_in members o) here)))
-
-pub holds_itself : (members : List ℕ) → holds members members ≡ true
-holds_itself members = holds_from members members (λ o here. here)
-
--- a union holds its left set, such as a resolution set the members
-pub union_holds : (set members failed : List ℕ) → ((o : ℕ) → is_in set o ≡ (is_in members o || is_in failed o)) → holds set members ≡ true
-union_holds set members failed union =
-    holds_from set members (λ o here. union o ∙ or_left (is_in members o) (is_in failed o) here)

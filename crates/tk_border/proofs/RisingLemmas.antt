@@ -1,7 +1,7 @@
 -- Ascending lists by recursion, and as what they hold.
-use Rattle.std.proofs.Common.{◌≡◌, ℕ, suc, zero, ◌+◌, ◌<◌, ◌≤◌, Bool, true, false, ◌||◌, ◌&&◌, cond, eqb, ltb, leb, List, [], ◌∷◌, ◌++◌, length, get_or, filter, refl, sym, ap, ap₂, ◌∙◌, arith, inl, inr, eq-eqb, ne_eqb}
+use Rattle.std.proofs.Common.{◌≡◌, ℕ, suc, zero, ◌+◌, ◌<◌, ◌≤◌, Bool, true, false, ◌||◌, ◌&&◌, cond, eqb, ltb, leb, List, [], ◌∷◌, ◌++◌, length, get_or, filter, refl, sym, ap, ap₂, ◌∙◌, arith, inl, inr, eq-eqb, ne_eqb, suc-add}
 use Rattle.std.specs.List.{range_with_len, All}
-use Rattle.std.proofs.lemmas.Bool.{cases_lt, cases_Bool, cases_eq, false≢true, cases_order, or_cases, eqb-true}
+use Rattle.std.proofs.lemmas.Bool.{cases_lt, cases_eq, false≢true, cases_order, or_cases, eqb-true}
 use Rattle.std.proofs.lemmas.Bool.Decides.{nat_tests}
 use Rattle.std.proofs.lemmas.List.Elements.{All-head, All-tail}
 use Rattle.tk_base.specs.Ascending.{IsAscending}
@@ -153,26 +153,10 @@ is_in-positive xs o up here = elim (cases_lt 0 o) [
 pub in_catalogue : (n o : ℕ) → 0 < o → o ≤ n → (ltb 0 o && leb o n) ≡ true
 in_catalogue n o low high = grind (arith, nat_tests)
 
--- of rising numbers up to n none is lost among the objects
-pub in_range : (xs : List ℕ) (n o : ℕ) → Rises 0 xs → All (λ q. q ≤ n) xs → (is_in (objects n) o && is_in xs o) ≡ is_in xs o
-in_range xs n o up short = elim (cases_Bool (is_in xs o)) [
-  | inl here ↦ rw (is_in-objects n o, in_catalogue n o (is_in-positive xs o up here) (is_in-within xs n o short here)) refl
-  | inr not_here ↦ rw not_here (and_comm (is_in (objects n) o) false)
-]
-
--- a rising set is the filter of the objects by it
-pub filter_is_in : (xs : List ℕ) (n : ℕ) → Rises 0 xs → All (λ q. q ≤ n) xs → filter (is_in xs) (objects n) ≡ xs
-filter_is_in xs n up short =
-    same_rising 0 0 (filter (is_in xs) (objects n)) xs (rises-filter (is_in xs) 0 (objects n) (rises-objects n)) up
-    (λ o. is_in-filter (is_in xs) (objects n) o ∙ in_range xs n o up short)
-
-suc_plus : (m n : ℕ) → suc m + n ≡ suc (m + n)
-suc_plus m n = omega arith
-
 pub range-append : (a m n : ℕ) → range_with_len a (m + n) ≡ range_with_len a m ++ range_with_len (a + m) n
 range-append a zero n = ap₂ range_with_len (omega arith) (omega arith)
 range-append a (suc m) n =
-    ap (range_with_len a) (suc_plus m n)
+    ap (range_with_len a) (suc-add m n)
     ∙ ap (λ rest. a ∷ rest) (range-append (a + 1) m n ∙ ap (λ b. range_with_len (a + 1) m ++ range_with_len b n) (omega arith))
 
 -- one more object

@@ -1,7 +1,7 @@
 -- The resolution set, one object more and as what it holds.
 use Rattle.std.proofs.Common.{◌≡◌, ℕ, suc, zero, ◌+◌, ◌-◌, ◌<◌, ◌≤◌, Bool, true, false, ◌||◌, ◌&&◌, cond, List, [], ◌∷◌, ◌++◌, filter, refl, sym, ap, ap₂, ◌∙◌, arith, inl, inr}
 use Rattle.std.specs.List.{range_with_len, All}
-use Rattle.std.proofs.lemmas.Bool.{cases_Bool, or_cases, or_from, false≢true}
+use Rattle.std.proofs.lemmas.Bool.{cases_Bool, or_cases, or_from}
 use Rattle.std.proofs.lemmas.List.Elements.{filter-append}
 use Rattle.tk_base.specs.Ascending.{IsAscending}
 use Rattle.tk_base.specs.Objects.{objects, is_in}
@@ -67,9 +67,3 @@ resolution_none members failed = refl
 pub resolution_ascends : (n : ℕ) (members failed : List ℕ) → IsAscending (resolution n members failed)
 resolution_ascends n members failed =
     ascends (resolution n members failed) (rises-filter (in_either members failed) 0 (objects n) (rises-objects n))
-
--- each turn passes an object of the one set or the other
-pub turn_passes : (a b : Bool) → (a || b) ≡ true → 0 < cond a 1 0 + cond b 1 0
-turn_passes true b here = omega arith
-turn_passes false true here = omega arith
-turn_passes false false here = absurd (false≢true here)

@@ -28,19 +28,21 @@ holds set members = list_all (is_in set) members
 abbrev pub level_at : List ℤ → ℕ → ℤ
 level_at levels o = slice_index_or levels (o - 1) (pos 0)
 
--- the lesser of the least so far and one more number, and the greater
+-- the lesser of the least so far and one more number
 abbrev pub lowered : Option ℤ → ℤ → Option ℤ
 lowered None y = Some y
 lowered (Some x) y = Some (int_min x y)
 
+-- the greater of the greatest so far and one more number
 abbrev pub raised : Option ℤ → ℤ → Option ℤ
 raised None y = Some y
 raised (Some x) y = Some (int_max x y)
 
--- the least of some numbers, and the greatest, if there is one
+-- the least of some numbers, if there is one
 unfoldable pub least_of : List ℤ → Option ℤ
 least_of numbers = fold lowered None numbers
 
+-- the greatest of some numbers, if there is one
 unfoldable pub greatest_of : List ℤ → Option ℤ
 greatest_of numbers = fold raised None numbers
 

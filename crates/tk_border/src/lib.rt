@@ -15,6 +15,3 @@ pub use borders::{border, own_border};
 pub use broken::failed;
 pub use members::{are_members, holds};
 pub use union::resolution;
-
-#[cfg(test)]
-mod tests;

@@ -1,5 +1,5 @@
 -- What a piece that goes down the connection of a monitor leaves.
-use Rattle.std.proofs.Common.{◌≡◌, ◌≤◌, ◌<◌, ℕ, ◌-◌, min, ◌++◌, List, [], ◌∷◌, length, take, set, Bool, true, false, Option, Some, None, refl, ap, ap₂, sym, ◌∙◌, append_assoc, arith, subst, length-append}
+use Rattle.std.proofs.Common.{◌≡◌, ◌<◌, ℕ, ◌-◌, min, ◌++◌, List, [], ◌∷◌, length, take, set, Bool, true, false, Option, Some, None, refl, ap, ap₂, sym, ◌∙◌, append_assoc, arith, subst, length-append}
 use Rattle.std.specs.Prelude.{if◌then◌else◌, slice_get}
 use Rattle.std.specs.Borrow.{Bor}
 use Rattle.std.proofs.lemmas.List.{append-nil, get_or-set_other, take_all}
@@ -45,7 +45,7 @@ use Rattle.tk_trail.specs.Readings.{is_stopped as has_stopped}
 use Rattle.tk_trail.specs.declared.entry.Entry.{Entry}
 use Rattle.tk_trail.specs.declared.refusal.MonitorRefusal.{MonitorRefusal}
 use Rattle.tk_trail.specs.declared.refusal.MonitorRefusal.TheVariants.{AfterStop as AfterStopDown}
-use Rattle.tk_bytes.proofs.LineLemmas.{front_taken, none_given, open_link, open_port, seated, some_length, sure_of}
+use Rattle.tk_bytes.proofs.LineLemmas.{front_taken, none_given, open_link, open_port, seated, some_length, sure_of, no_frames}
 
 -- ---- a piece that left the hub's wire
 
@@ -217,10 +217,6 @@ told_others mon old new says = record {
   others = λ place apart. ap (λ (h : HubView SureView). link_at h.links place) says.rest ∙ get_or-set_other old.links (mon - 1) place (Some says.now) None apart;
 }
 
-no_frame : (xs : List Frame) → length xs ≤ 0 → xs ≡ []
-no_frame [] short = refl
-no_frame (x ∷ xs) short = absurd (omega (arith, short))
-
 -- where all was written before, what is given changes nothing of what is left
 pub left_told : (mon : ℕ) (old new : HubView SureView) (line : Line) → IsLine mon old line → SaysTo mon old new → IsWrittenTo mon old → IsWrittenTo mon new → left_down mon new line ≡ left_down mon old line
 left_told mon old new line l s before after =
@@ -234,7 +230,7 @@ left_told mon old new line l s before after =
     let two : x'.written ≡ length said = after x' s.is ∙ ap (λ (k : CoordinatorView). length (frames_to mon k.journal)) (told_same mon old new s) in
     let sizes = ap (λ (fs : List Frame). length fs) (sym (all x'.written two) ∙ says.reached ∙ ap (λ (fs : List Frame). fs ++ says.frames) (all x.written one)) in
     let parts = length-append said says.frames in
-    let none : says.frames ≡ [] = no_frame says.frames (omega (arith, sizes, parts)) in
+    let none : says.frames ≡ [] = no_frames says.frames (omega (arith, sizes, parts)) in
     let output : x.output ≡ says.given ++ x'.output = sym (append-nil x.output) ∙ ap (λ (fs : List Frame). x.output ++ spellings x.version fs) (sym none) ∙ says.output in
     let tells : x.tells ≡ true = (let e : x ≡ l.link = (let t : Some x ≡ Some l.link = sym s.was ∙ l.at in cc) in ap (λ (k : LinkView SureView). k.tells) e ∙ l.joined.tells_there) in
     let d = says.departed tells in

@@ -1,14 +1,12 @@
 -- The lines of all monitors, one after the other.
-use Rattle.std.proofs.Common.{◌≡◌, ◌<◌, ℕ, suc, zero, ◌+◌, ◌-◌, ◌++◌, List, [], ◌∷◌, length, length-append, map, get_or, replicate, Option, None, refl, ap, sym, ◌∙◌, arith, subst, inl, inr}
+use Rattle.std.proofs.Common.{◌≡◌, ◌<◌, ℕ, suc, zero, ◌+◌, ◌-◌, ◌++◌, List, [], ◌∷◌, length, length-append, get_or, replicate, Option, None, refl, ap, sym, ◌∙◌, arith, subst, inl, inr}
 use Rattle.std.proofs.lemmas.Bool.{cases_eq}
 use Rattle.std.proofs.lemmas.List.{get_or_append_left, get_or_push}
 use Rattle.slab.specs.Slab.{Slab}
-use Rattle.tk_base.specs.Settings.{Setup}
 use Rattle.tk_coord.specs.Coordinator.{CoordinatorView}
 use Rattle.tk_frames.specs.declared.frame.Frame.{Frame}
-use Rattle.tk_input.specs.Logs.{LogSet}
 use Rattle.tk_journal.specs.Links.{frames_from}
-use Rattle.tk_journal.specs.Legal.{inputs_of, opened, start}
+use Rattle.tk_journal.specs.Legal.{inputs_of}
 use Rattle.tk_journal.specs.Readings.{monitors}
 use Rattle.tk_monitor.specs.Monitored.{MonitorView}
 use Rattle.tk_trail.specs.Readings.{taken_by}
@@ -20,11 +18,10 @@ use Rattle.tk_hub.specs.Hub.{HubView, IsHub}
 use Rattle.tk_hub.specs.Seats.{link_at}
 use Rattle.tk_hub.specs.Visitor.{VisitorView}
 use Rattle.tk_hub.specs.declared.course.Course.TheVariants as cs
-use Rattle.tk_world.specs.Nodes.{IsFresh, fresh_seat}
 use Rattle.tk_world.specs.declared.seat.Seat.{Seat}
 use Rattle.tk_bytes.specs.Greeting.{AreMade, CanJoin, IsNobody, SeatsOne}
 use Rattle.tk_bytes.specs.Line.{IsLine, KeepsOthers}
-use Rattle.tk_bytes.specs.Wired.{AreWired, IsWalked, seat_of, seen_of}
+use Rattle.tk_bytes.specs.Wired.{IsWalked}
 use Rattle.tk_bytes.specs.declared.line.Line.{Line}
 use Rattle.tk_bytes.specs.declared.walked.Walked.{Walked}
 use Rattle.tk_bytes.proofs.WiredLemmas.{other_walked}
@@ -108,19 +105,3 @@ made_more count hub new lines w made walked seats =
             (made.each k d (omega (arith, below, apart))))
       ];
     }
-
--- ---- all of them
-
-pub all_wired : (count : ℕ) (hub : HubView SureView) (lines : List Walked) → AreMade count hub lines → count ≡ hub.coordinator.settings.monitors → AreWired hub lines
-all_wired count hub lines made all = record {
-  going = made.going;
-  count = made.size ∙ all;
-  each = λ k d below. made.each k d (omega (arith, below, made.size));
-}
-
-pub is_fresh : (settings : Setup) (logs : LogSet) (from : List (List ℕ)) (hub : HubView SureView) (lines : List Walked) → hub.coordinator.settings ≡ settings → hub.coordinator.journal ≡ opened (start settings) → map seat_of lines ≡ map (fresh_seat settings logs from) (monitors settings)
-    → IsFresh (seen_of hub lines) logs from
-is_fresh settings logs from hub lines same journal seats = record {
-  journal = journal ∙ ap (λ (s : Setup). opened (start s)) (sym same);
-  seats = seats ∙ ap (λ (s : Setup). map (fresh_seat s logs from) (monitors s)) (sym same);
-}

@@ -26,7 +26,7 @@ one_at [] k x is = absurd (cc)
 one_at (y ∷ ys) zero x is = ap (λ z. z ∷ ys) (let e : y ≡ x = cc in e)
 one_at (y ∷ ys) (suc k) x is = one_at ys k x is
 
-within_at : {X : Type 0} (xs : List X) (k : ℕ) (x : X) → slice_get xs k ≡ Some x → k < length xs
+pub within_at : {X : Type 0} (xs : List X) (k : ℕ) (x : X) → slice_get xs k ≡ Some x → k < length xs
 within_at [] k x is = absurd (cc)
 within_at (y ∷ ys) zero x is = omega arith
 within_at (y ∷ ys) (suc k) x is = let more = within_at ys k x is in omega (arith, more)

@@ -1,6 +1,6 @@
 -- What a step of a node leaves of the lines.
 use Rattle.tk_journal.specs.declared.noted.Noted.TheVariants as n
-use Rattle.std.proofs.Common.{◌≡◌, ◌≤◌, ◌<◌, ◌==◌, ℕ, suc, zero, ◌+◌, ◌-◌, Bool, true, false, List, [], ◌∷◌, ◌++◌, length, length-append, map, set, get_or, Some, None, refl, ap, ap₂, sym, ◌∙◌, arith, subst, inl, inr}
+use Rattle.std.proofs.Common.{◌≡◌, ◌≤◌, ◌<◌, ◌==◌, ℕ, ◌+◌, ◌-◌, Bool, true, false, List, [], ◌∷◌, ◌++◌, length, length-append, map, set, get_or, Some, None, refl, ap, ap₂, sym, ◌∙◌, arith, subst, inl, inr}
 use Rattle.std.specs.Prelude.{if◌then◌else◌, pos, slice_get, Result, Ok, Err, IfErr, OnOk}
 use Rattle.std.specs.List.{cons_option}
 use Rattle.std.proofs.lemmas.Bool.{cases_eq, ne_eqb}
@@ -292,11 +292,6 @@ down_seen mon hub hub' lines w line has at g taken kept =
       is = seats_set hub hub' lines mon w (record { line = line; taken = w.taken + 1; got = w.got }) (record { monitor = having_taken w.line.port.monitor g.frame; taken = w.taken + 1; got = w.got }) hub.coordinator kept
           (ap (λ (m : MonitorView). record { monitor = m; taken = w.taken + 1; got = w.got }) taken);
     })
-
-pub within_sent : {X : Type 0} (xs : List X) (k : ℕ) (x : X) → slice_get xs k ≡ Some x → k < length xs
-within_sent [] k x is = absurd (cc)
-within_sent (y ∷ ys) zero x is = omega arith
-within_sent (y ∷ ys) (suc k) x is = let more = within_sent ys k x is in omega (arith, more)
 
 -- ---- a retune
 

@@ -55,11 +55,12 @@ pub record KeepsOthers (mon : ℕ) (old new : HubView SureView) : Type 0 where
   pub run : new.run ≡ old.run
   pub others : (place : ℕ) → (place ≡ mon - 1 → ⊥) → link_at new.links place ≡ link_at old.links place
 
--- how many bytes of a monitor are said and not heard, and how many to it
+-- how many bytes of one end are said, and not heard at the other, if that is there
 abbrev pub left_between : LinkView SureView → Option (LinkView SureView) → List ℕ → ℕ
 left_between x None between = 0
 left_between x (Some y) between = length (under_way x y between)
 
+-- how many bytes of a monitor are said and not heard
 abbrev pub left_up : ℕ → HubView SureView → Line → ℕ
 left_up mon hub line = left_between line.port.link (link_at hub.links (mon - 1)) line.up.bytes
 
@@ -84,10 +85,11 @@ CarriesUp mon result old before new =
 
 -- ---- the other way
 
--- all that was sent to a monitor is written, and given as far as the wire has room
+-- all that was sent to a monitor is written to its link
 abbrev pub IsWrittenTo : ℕ → HubView SureView → Type 0
 IsWrittenTo mon hub = (link : LinkView SureView) → link_at hub.links (mon - 1) ≡ Some link → link.written ≡ length (frames_to mon hub.coordinator.journal)
 
+-- so it is, and given as far as the wire has room
 abbrev pub IsSaidTo : ℕ → HubView SureView → Type 0
 IsSaidTo mon hub = (link : LinkView SureView) → link_at hub.links (mon - 1) ≡ Some link → IsSaid (frames_to mon hub.coordinator.journal) link
 
@@ -100,10 +102,12 @@ pub record SaysTo (mon : ℕ) (old new : HubView SureView) : Type 0 where
   pub says : Says (frames_to mon old.coordinator.journal) before now
   pub rest : new ≡ record old { links = set old.links (mon - 1) (Some now) }
 
+-- how many bytes of one end, if it is there, are said and not heard at the other
 abbrev pub left_behind : Option (LinkView SureView) → LinkView SureView → List ℕ → ℕ
 left_behind None y between = 0
 left_behind (Some x) y between = length (under_way x y between)
 
+-- how many bytes to a monitor are said and not heard
 abbrev pub left_down : ℕ → HubView SureView → Line → ℕ
 left_down mon hub line = left_behind (link_at hub.links (mon - 1)) line.port.link line.down.bytes
 

@@ -14,6 +14,7 @@ use Rattle.tk_bytes.specs.declared.walked.Walked.{Walked}
 abbrev pub seat_of : Walked → Seat
 seat_of w = record { monitor = w.line.port.monitor; taken = w.taken; got = w.got }
 
+-- a hub and its lines as a world sees them: its coordinator, with a seat for each line
 abbrev pub seen_of : HubView SureView → List Walked → NodesView
 seen_of hub lines = record { coordinator = hub.coordinator; seats = map seat_of lines }
 

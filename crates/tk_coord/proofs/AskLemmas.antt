@@ -1,7 +1,7 @@
 -- The Collects of a new round: whoever is asked is waited for, and whoever is not has reported.
 use Rattle.std.proofs.Common.{◌≡◌, ℕ, suc, ◌-◌, ◌<◌, ◌&&◌, Bool, true, false, not, List, ◌∷◌, ◌++◌, length, Option, Some, None, set, refl, sym, ap, ◌∙◌, subst, arith, inl, inr, eq-eqb, ne_eqb}
 use Rattle.std.specs.Prelude.{slice_get, is_some, if◌then◌else◌}
-use Rattle.std.proofs.lemmas.Bool.{cases_eq, eqb-true}
+use Rattle.std.proofs.lemmas.Bool.{cases_eq, eqb-true, not-false}
 use Rattle.std.proofs.lemmas.List.{length-set}
 use Rattle.std.proofs.lemmas.Option.{slice_get_within}
 use Rattle.tk_base.specs.Objects.{is_in}
@@ -136,11 +136,6 @@ peers_asked s j round asked opener but old new k same count changed h = record {
       ∙ sym (peer_asked s j round asked (asked_mons s opener) (suc i) opener k (asked_one s opener (suc i) range));
 }
 
--- what is not refused holds
-not_true : (b : Bool) → not b ≡ false → b ≡ true
-not_true true h = refl
-not_true false h = cc
-
 -- the reports, with that of the monitor with which the round begins
 abbrev pub with_opener : Option Reported → List Reported → List Reported
 with_opener None gathered = gathered
@@ -186,7 +181,7 @@ round_asked s j entries round opener old gathered a h =
           let within : i < length gathered = (let c = opener_count opener gathered in let l = slice_get_within (with_opener opener gathered) i r at in omega (arith, c, l)) in
           let range : IsMonitor s (suc i) = record { from_one = omega arith; within = (let c = h.count in omega (arith, within, c)) } in
           let none : is_in mons (suc i) ≡ false = sym (waits_now s j round.number round.asked mons (suc i) k) ∙ w in
-          let own = opener_there opener gathered i r (not_true (is_opener opener (suc i)) (sym (asked_one s opener (suc i) range) ∙ none)) at within in
+          let own = opener_there opener gathered i r (not-false (is_opener opener (suc i)) (sym (asked_one s opener (suc i) range) ∙ none)) at within in
           report_now s j round.number round.asked mons (suc i) k none
           ∙ ap (λ q. answered_report q (answer_of q j)) own.0
           ∙ (a.report r own.1).1;

@@ -17,12 +17,13 @@ use Rattle.tk_coord.specs.declared.step.Outcome.{Outcome}
 use Rattle.tk_coord.specs.declared.step.Reply.TheVariants as reply
 use Rattle.tk_coord.specs.State.{Stands}
 
--- what a monitor's current answer says, if it is a Settled
+-- what the last fresh Settled says, if that is the current answer
 abbrev pub settled_as : Option Answer → Option Progress → Option Progress
 settled_as (Some a.Settled) progress = progress
 settled_as (Some a.Report) progress = None
 settled_as None progress = None
 
+-- what the current answer of a peer's monitor says, if it is a Settled
 abbrev pub settled_by : Option Peer → Option Progress
 settled_by None = None
 settled_by (Some peer) = settled_as peer.answer peer.progress

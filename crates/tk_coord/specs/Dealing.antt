@@ -104,6 +104,7 @@ abbrev pub assigns_in : Option Peer → ℕ
 assigns_in None = 0
 assigns_in (Some peer) = peer.assigns
 
+-- the same, by the peers of all monitors
 abbrev pub assigns_by : List Peer → ℕ → ℕ
 assigns_by peers mon = assigns_in (slice_get peers (mon - 1))
 

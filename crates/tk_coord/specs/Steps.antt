@@ -44,14 +44,17 @@ with_got j mon frame = j ++ n.Got mon frame ∷ []
 
 -- ---- frames by their kind
 
+-- a frame is a Report
 abbrev pub IsReport : Frame → Type 0
 IsReport (f.Report seq border failed values) = Unit {0}
 IsReport frame = ⊥
 
+-- a frame is a Settled
 abbrev pub IsSettled : Frame → Type 0
 IsSettled (f.Settled seq last places) = Unit {0}
 IsSettled frame = ⊥
 
+-- a frame is Values
 abbrev pub AreValues : Frame → Type 0
 AreValues (f.Values round seq border values) = Unit {0}
 AreValues frame = ⊥

@@ -34,9 +34,9 @@ use Rattle.tk_world.specs.Events.{is_monitor}
 use Rattle.tk_story.specs.Story.{StoryView, setup_of, trail_of}
 use Rattle.tk_story.proofs.QuietLemmas.{joined}
 use Rattle.tk_drain.specs.Reads.{local_of, nobody, reading, readings}
-use Rattle.tk_drain.proofs.ReadLemmas.{monitor_is}
 use Rattle.tk_drain.proofs.TurnReads.{Turning, goes_by, mid, once_most, same_mid, stops_count, turned, turns_by, wide_got}
 use Rattle.tk_drain.proofs.TurnFalls.{report_strains}
+use Rattle.tk_world.proofs.StepLemmas.{monitor_is}
 
 pub present_by : (b : Bool) (x : Local) → (b ≡ true → x.present ≡ true) → (if b then x else nobody).present ≡ true
 present_by true x each = each refl

@@ -1,5 +1,5 @@
 -- Every story settles; and what holds where it has.
-use Rattle.std.proofs.Common.{◌≡◌, ℕ, suc, zero, ◌+◌, ◌<◌, ◌≤◌, true, List, [], ◌∷◌, Option, Some, None, refl, sym, ap, ◌∙◌, subst, arith, inl, inr}
+use Rattle.std.proofs.Common.{◌≡◌, ℕ, suc, zero, ◌+◌, ◌<◌, ◌≤◌, true, List, [], ◌∷◌, Option, Some, None, refl, sym, ap, ◌∙◌, subst, arith, inl, inr, le_refl}
 use Rattle.std.specs.Prelude.{◌⊎◌}
 use Rattle.std.specs.List.{list_all}
 use Rattle.std.proofs.lemmas.Bool.{and_from, cases_eq}
@@ -35,7 +35,7 @@ found_or : (s : StoryView) (e : Event) (o : Option StoryView) → is_settling e 
 found_or s e None settling is = inr is
 found_or s e (Some u) settling is = inl (record { event = e; then = u; settling = settling; is = is })
 
-none_more : (P : ℕ → Type 0) (a k : ℕ) → P a → ((q : ℕ) → a + 1 ≤ q → q < a + 1 + k → P q) → (q : ℕ) → a ≤ q → q < a + suc k → P q
+pub none_more : (P : ℕ → Type 0) (a k : ℕ) → P a → ((q : ℕ) → a + 1 ≤ q → q < a + 1 + k → P q) → (q : ℕ) → a ≤ q → q < a + suc k → P q
 none_more P a k here rest q low high = elim (cases_eq a q) [
   | inl same ↦ subst P same here
   | inr apart ↦ rest q (omega (arith, low, apart)) (omega (arith, high))
@@ -107,11 +107,8 @@ settles_by (suc n) s h low = elim (search_all s) [
       first_of s f (settles_by n f.then (next_is_story s f.then f.event h f.is) (subst (λ (q : ℕ). energy_of_all q (readings f.then) ≤ n) (sym (ap (λ z. z.monitors) x.settings)) less))
 ]
 
-same_most : (n : ℕ) → n ≤ n
-same_most n = omega arith
-
 pub every_story_settles : (s : StoryView) → IsStory s → SettlesTo s
-every_story_settles s h = settles_by (energy_of_all s.settings.monitors (readings s)) s h (same_most (energy_of_all s.settings.monitors (readings s)))
+every_story_settles s h = settles_by (energy_of_all s.settings.monitors (readings s)) s h (le_refl (energy_of_all s.settings.monitors (readings s)))
 
 -- ---- where nothing moves
 

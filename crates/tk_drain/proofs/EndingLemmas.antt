@@ -12,7 +12,7 @@ use Rattle.tk_story.specs.Kept.{KeptStory}
 use Rattle.tk_story.specs.Moments.{IsOver}
 use Rattle.tk_story.specs.Story.{IsStory, StoryView, setup_of}
 use Rattle.tk_story.proofs.OverLemmas.{still_is_over}
-use Rattle.tk_drain.specs.Drive.{Finishes, IsFinishing, all_raises, keep}
+use Rattle.tk_drain.specs.Drive.{Finishes, all_raises, keep}
 use Rattle.tk_drain.specs.Drive.Finishes.{Done, Passes, Raises}
 use Rattle.tk_drain.proofs.KeepLemmas.{Leads, leads_join, leads_none, leads_one, leads_story}
 use Rattle.tk_drain.proofs.RestLemmas.{settles_rests}
@@ -94,21 +94,6 @@ part_ends (e ∷ events) a c mon g most (Raises event rest kept settled end stor
 
 -- ---- finishing
 
-pub finished_leads : (a c : KeptStory) → IsFinishing a c → Finished a c
-finished_leads a c f =
-    let r = settles_rests a f.settled f.count f.settles in
-    let x = finishes_leads (all_raises a.story.logs) f.settled c f.finishes in
-    record {
-      took = r.calms.took ++ x.took;
-      leads = leads_join a f.settled c r.calms.took x.took r.calms.leads x.leads;
-      idle = λ _. x.idle r.idle;
-    }
-
-pub finished_idle : (a c : KeptStory) → IsFinishing a c → CanOnlyChange c.story
-finished_idle a c f =
-    let r = settles_rests a f.settled f.count f.settles in
-    (finishes_leads (all_raises a.story.logs) f.settled c f.finishes).idle r.idle
-
 more_than : (n p q : ℕ) → n ≤ q → n ≤ p + q
 more_than n p q low = omega (arith, low)
 
@@ -138,10 +123,3 @@ raised_over b c logs h idle same finishes =
     (enough_raises b.story.logs mon g here.monitor.from_one (equal_monitors b.story h mon here.monitor) here.from_one here.one_of)))))
     in
     still_is_over c.story hc (idle_is_still c.story hc (x.idle idle)) (all_ended c.story hc part)
-
--- so finishing ends the run
-pub finished_over : (a c : KeptStory) (f : IsFinishing a c) → IsStory f.settled.story → IsOver c.story
-finished_over a c f h =
-    let r = settles_rests a f.settled f.count f.settles in
-    let alike = run_alike a.story f.settled.story r.calms.took r.calms.leads.runs in
-    raised_over f.settled c a.story.logs h r.idle (sym alike.logs) f.finishes

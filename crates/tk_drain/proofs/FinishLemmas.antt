@@ -1,6 +1,6 @@
 -- Settling raises nothing: a story whose parts are at their ends settles into one that is over.
 use Rattle.tk_journal.specs.declared.noted.Noted.TheVariants as n
-use Rattle.std.proofs.Common.{◌≡◌, ℕ, ◌-◌, ◌==◌, true, List, [], ◌∷◌, ◌++◌, length, Option, Some, None, refl, sym, ap, ◌∙◌, subst, arith, inl, inr}
+use Rattle.std.proofs.Common.{◌≡◌, ℕ, ◌-◌, ◌==◌, true, List, [], ◌∷◌, ◌++◌, length, Some, refl, sym, ap, ◌∙◌, subst, arith, inl, inr}
 use Rattle.std.specs.List.{list_all, zip}
 use Rattle.std.proofs.lemmas.Bool.{and_parts, cases_eq, false≢true}
 use Rattle.std.proofs.lemmas.List.{get_or-set_other}
@@ -8,7 +8,7 @@ use Rattle.tk_frames.specs.declared.frame.Frame.{Frame}
 use Rattle.tk_journal.specs.Laws.{IsMonitor}
 use Rattle.tk_trail.specs.Setup.{MonitorSetup}
 use Rattle.tk_trail.specs.Frames.{answer_to, due_at}
-use Rattle.tk_trail.specs.Legal.{after_take, with_answer}
+use Rattle.tk_trail.specs.Legal.{after_take}
 use Rattle.tk_trail.specs.Readings.{at_ends, places_at}
 use Rattle.tk_trail.specs.declared.entry.Entry.{Entry}
 use Rattle.tk_trail.specs.declared.entry.Entry.TheVariants.{Took, Sent}
@@ -20,10 +20,10 @@ use Rattle.tk_story.specs.Story.{IsStory, StoryView, setup_of, trail_of}
 use Rattle.tk_story.specs.Moments.{IsOver}
 use Rattle.tk_world.proofs.IdleLemmas.{idle_is_still}
 use Rattle.tk_story.proofs.OverLemmas.{still_is_over}
-use Rattle.tk_world.proofs.StepLemmas.{next_is_story}
+use Rattle.tk_world.proofs.StepLemmas.{next_is_story, mapped_some, guarded, monitor_is, trail_there}
 use Rattle.tk_drain.specs.Settling.{is_settling}
-use Rattle.tk_drain.proofs.ReadLemmas.{guarded, mapped_some, monitor_is, own_trail}
 use Rattle.tk_drain.proofs.SettleLemmas.{lower_from}
+use Rattle.tk_world.proofs.EventLemmas.{answered_places}
 
 -- the parts of each monitor are at their ends
 abbrev pub AtEnds : StoryView → Type 0
@@ -33,18 +33,14 @@ ends_by : (setup : MonitorSetup) (a b : List Entry) → places_at setup b ≡ pl
 unfolding at_ends
 ends_by setup a b places = ap (λ (ps : List ℕ). list_all (λ p. p.1 == length p.0) (zip setup.parts ps)) places
 
-answer_places : (setup : MonitorSetup) (trail : List Entry) (answer : Option Frame) → places_at setup (with_answer trail answer) ≡ places_at setup trail
-answer_places setup trail None = refl
-answer_places setup trail (Some g) = places_at-sent setup trail g
-
 pub after_places : (setup : MonitorSetup) (trail : List Entry) (frame : Frame) → places_at setup (after_take setup trail frame) ≡ places_at setup trail
-after_places setup trail frame = answer_places setup (trail ++ Took frame ∷ []) (answer_to setup (trail ++ Took frame ∷ []) frame) ∙ places_at-took setup trail frame
+after_places setup trail frame = answered_places setup (trail ++ Took frame ∷ []) (answer_to setup (trail ++ Took frame ∷ []) frame) ∙ places_at-took setup trail frame
 
 trail_ends : (s : StoryView) → IsStory s → (mon : ℕ) → IsMonitor s.settings mon → (trail : List Entry) → places_at (setup_of s mon) trail ≡ places_at (setup_of s mon) (trail_of s mon) → AtEnds s → AtEnds (with_trail s mon trail)
 trail_ends s h mon m trail places ends q r = elim (cases_eq q mon) [
   | inl same ↦
       subst (λ (z : ℕ). at_ends (setup_of s z) (trail_of (with_trail s mon trail) z) ≡ true) (sym same)
-      (ap (at_ends (setup_of s mon)) (own_trail s h mon m trail) ∙ ends_by (setup_of s mon) (trail_of s mon) trail places ∙ ends mon m)
+      (ap (at_ends (setup_of s mon)) (trail_there s h mon m trail) ∙ ends_by (setup_of s mon) (trail_of s mon) trail places ∙ ends mon m)
   | inr apart ↦
       ap (at_ends (setup_of s q)) (get_or-set_other s.trails (mon - 1) (q - 1) trail [] (λ same. apart (let a = m.from_one in let b = r.from_one in omega (arith, a, b, same)))) ∙ ends q r
 ]

@@ -1,11 +1,10 @@
 -- Values under the last number, of a monitor that is present, are its present values.
 use Rattle.tk_frames.specs.declared.frame.Frame.TheVariants as f
-use Rattle.std.proofs.Common.{◌≡◌, ℕ, ℤ, pos, true, List, Contains, Option, Some, refl, sym, ap, ◌∙◌, subst}
+use Rattle.std.proofs.Common.{◌≡◌, ℕ, ℤ, pos, true, List, Contains, Option, refl, sym, ap, ◌∙◌, subst}
 use Rattle.std.specs.Prelude.{unwrap_or}
 use Rattle.std.proofs.lemmas.Bool.{true≢false}
 use Rattle.tk_base.specs.Pairs.{objects_of}
 use Rattle.tk_alloc.specs.Parts.{value_of}
-use Rattle.tk_alloc.specs.declared.reported.Reported.{Reported}
 use Rattle.tk_alloc.proofs.LeewayLemmas.{value_put}
 use Rattle.tk_trail.specs.Setup.{MonitorSetup}
 use Rattle.tk_trail.specs.Frames.{values_at, values_over}
@@ -14,13 +13,11 @@ use Rattle.tk_trail.specs.Readings.{is_broken, sent_by, value_of_object}
 use Rattle.tk_trail.specs.declared.entry.Entry.{Entry}
 use Rattle.tk_trail.proofs.LevelsLemmas.{value-same}
 use Rattle.tk_journal.specs.Legal.{Opening}
-use Rattle.tk_journal.specs.Links.{frames_from}
-use Rattle.tk_journal.specs.Readings.{assigns_sent, last_round, values_of}
+use Rattle.tk_journal.specs.Readings.{assigns_sent}
 use Rattle.tk_journal.specs.declared.noted.Noted.{Noted}
 use Rattle.tk_story.specs.Links.{IsJoined}
 use Rattle.tk_trail.specs.Still.{is_present}
-use Rattle.tk_journal.proofs.GatheredLemmas.{Gathered}
-use Rattle.tk_story.proofs.JoinLemmas.{front_has, under_the_last}
+use Rattle.tk_story.proofs.JoinLemmas.{under_the_last}
 use Rattle.tk_trail.proofs.PairLemmas.{answer_no_values, report_no_values, settled_no_values}
 use Rattle.tk_drain.proofs.PresentLemmas.{objects_asked}
 use Rattle.tk_drain.proofs.StrainedLemmas.{sent_there}
@@ -53,9 +50,3 @@ values_of_present o j mon setup trail round border values h in' present q of =
     let asked : Contains said.asked q = subst (λ xs. Contains xs q) (ap objects_of said.is ∙ objects_asked (value_of_object setup x) said.asked) of in
     let read : value_of values q ≡ value_of_object setup x q = ap (λ vs. value_of vs q) said.is ∙ ap (λ (v : Option ℤ). unwrap_or v (pos 0)) (value_put (value_of_object setup x) said.asked q asked) in
     sym (value-same setup x trail (record { places = now.places; assigns = now.assigns }) q) ∙ sym read
-
--- what an open round has gathered
-pub gathered_of_present : (o : Opening) (j : List Noted) (mon : ℕ) (setup : MonitorSetup) (trail : List Entry) (r : Reported) → IsJoined o j mon setup trail → Gathered mon j → values_of (last_round j) mon j ≡ Some r
-    → is_present (assigns_sent mon j) trail ≡ true → (q : ℕ) → Contains (objects_of r.values) q → value_of_object setup trail q ≡ value_of r.values q
-gathered_of_present o j mon setup trail r h g is present q of =
-    values_of_present o j mon setup trail (last_round j) r.border r.values h (front_has (f.Values (last_round j) (assigns_sent mon j) r.border r.values) (frames_from mon j) (sent_by trail) h.up (g r is)) present q of

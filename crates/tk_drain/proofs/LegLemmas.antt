@@ -34,16 +34,6 @@ pub record LegUpTo (leg : Leg) (old now : KeptStory) (moved : Moved) (next : ℕ
   pub is : now ≡ keep_all old (map (leg_at leg) (range_with_len 1 (next - 1)))
   pub grows : Grows moved old now
 
-pub leg_begin : (leg : Leg) (old : KeptStory) → IsStory old.story → LegUpTo leg old old Idle 1
-leg_begin leg old h = record {
-  story = h;
-  settings = refl;
-  from_one = omega arith;
-  most = omega arith;
-  is = refl;
-  grows = refl;
-}
-
 -- ---- one step
 
 pub moves_keep : (old new : KeptStory) (e : Event) (moved : Moved) → Moves old e moved new → new ≡ keep old e
@@ -282,13 +272,6 @@ swept_idle a is =
 
 pub grown_moves : (a b : KeptStory) → b ≡ swept a → length a.events < length b.events → CanOnlyChange a.story → ⊥
 grown_moves a b is grows c = let e = ap (λ (k : KeptStory). length k.events) (is ∙ idle_swept a c) in omega (arith, e, grows)
-
--- what two parts moved
-pub grows_first : (a b c : KeptStory) (y : Moved) → Grows Yes a b → Grows y b c → Grows Yes a c
-grows_first a b c y p q = let s = grown_most y b c q in omega (arith, p, s)
-
-pub grows_then : (a b c : KeptStory) (y : Moved) → Grows Idle a b → Grows y b c → Grows y a c
-grows_then a b c y p q = subst (λ (z : KeptStory). Grows y z c) p q
 
 pub sweep_tells : (a b : KeptStory) (moved : Moved) → b ≡ swept a → Grows moved a b → (moved ≡ Idle → CanOnlyChange a.story) × (CanOnlyChange a.story → moved ≡ Idle)
 sweep_tells a b Idle is grows = (λ _. swept_idle a (sym is ∙ grows), λ _. refl)

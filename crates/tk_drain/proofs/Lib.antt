@@ -5,7 +5,6 @@ pub mod EnergyLemmas
 pub mod FinishLemmas
 pub mod GivenLemmas
 pub mod KeepLemmas
-pub mod LowerLemmas
 pub mod MoveLemmas
 pub mod PartLemmas
 pub mod PassLemmas

@@ -1,10 +1,11 @@
--- Each event of a settling costs energy, and opens no more rounds than are left.
+-- Each event of a settling costs energy, of all together and of its monitor, and opens no more rounds than are left.
 use Rattle.std.proofs.Common.{◌≡◌, ℕ, suc, zero, ◌+◌, ◌*◌, ◌<◌, ◌≤◌, ◌&&◌, ◌||◌, Bool, true, false, List, [], ◌∷◌, refl, sym, ap, ◌∙◌, subst, arith, inl, inr}
 use Rattle.std.specs.Prelude.{if◌then◌else◌, ◌⊎◌}
 use Rattle.std.specs.List.{range_with_len, list_all, list_any}
-use Rattle.std.proofs.lemmas.Bool.{cases_Bool, cases_eq, true≢false, false≢true, and_parts, and_from}
+use Rattle.std.proofs.lemmas.Bool.{cases_Bool, cases_eq, true≢false, false≢true, and_parts, and_from, or_right, or_left}
 use Rattle.tk_drain.specs.Energy.{Falls, Local, local_energy, shared_energy}
 use Rattle.tk_drain.specs.Moves.{Checks, Ends, Goes, Lessens, Lone, LoneOpens, Opens, OpensNext, Plain, Readings, Short, Takes, Turns, all_present, any_strained, left_of, rounds_left, shared_of}
+use Rattle.tk_drain.specs.Settling.{Lowers}
 use Rattle.tk_drain.proofs.EnergyLemmas.{energy_falls}
 
 -- ---- Bools as numbers
@@ -54,7 +55,7 @@ all_kept p q a (suc k) each h =
     let both = and_parts (p a) (list_all p (range_with_len (a + 1) k)) h in
     and_from (q a) (list_all q (range_with_len (a + 1) k)) (each a (omega arith) (omega arith) both.0) (all_kept p q (a + 1) k (λ j low high. each j (omega (arith, low)) (omega (arith, high))) both.1)
 
-all_at : (p : ℕ → Bool) (a k at : ℕ) → a ≤ at → at < a + k → list_all p (range_with_len a k) ≡ true → p at ≡ true
+pub all_at : (p : ℕ → Bool) (a k at : ℕ) → a ≤ at → at < a + k → list_all p (range_with_len a k) ≡ true → p at ≡ true
 all_at p a zero at low high h = absurd (omega (arith, low, high))
 all_at p a (suc k) at low high h =
     let both = and_parts (p a) (list_all p (range_with_len (a + 1) k)) h in
@@ -63,30 +64,11 @@ all_at p a (suc k) at low high h =
       | inr ne ↦ all_at p (a + 1) k at (omega (arith, low, ne)) (omega (arith, high)) both.1
     ]
 
-or_first : (a b : Bool) → a ≡ true → (a || b) ≡ true
-or_first true b h = refl
-or_first false b h = absurd (false≢true h)
-
-or_second : (a b : Bool) → b ≡ true → (a || b) ≡ true
-or_second true b h = refl
-or_second false b h = h
-
 any_at : (p : ℕ → Bool) (a k at : ℕ) → a ≤ at → at < a + k → p at ≡ true → list_any p (range_with_len a k) ≡ true
 any_at p a zero at low high h = absurd (omega (arith, low, high))
 any_at p a (suc k) at low high h = elim (cases_eq a at) [
-  | inl e ↦ or_first (p a) (list_any p (range_with_len (a + 1) k)) (subst (λ q. p q ≡ true) (sym e) h)
-  | inr ne ↦ or_second (p a) (list_any p (range_with_len (a + 1) k)) (any_at p (a + 1) k at (omega (arith, low, ne)) (omega (arith, high)) h)
-]
-
-or_either : (a b : Bool) → (a || b) ≡ true → (a ≡ true) ⊎ (b ≡ true)
-or_either true b h = inl refl
-or_either false b h = inr h
-
-any_kept : (p q : ℕ → Bool) (a k : ℕ) → ((j : ℕ) → p j ≡ true → q j ≡ true) → list_any p (range_with_len a k) ≡ true → list_any q (range_with_len a k) ≡ true
-any_kept p q a zero each h = h
-any_kept p q a (suc k) each h = elim (or_either (p a) (list_any p (range_with_len (a + 1) k)) h) [
-  | inl here ↦ or_first (q a) (list_any q (range_with_len (a + 1) k)) (each a here)
-  | inr later ↦ or_second (q a) (list_any q (range_with_len (a + 1) k)) (any_kept p q (a + 1) k each later)
+  | inl e ↦ or_left (p a) (list_any p (range_with_len (a + 1) k)) (subst (λ q. p q ≡ true) (sym e) h)
+  | inr ne ↦ or_right (p a) (list_any p (range_with_len (a + 1) k)) (any_at p (a + 1) k at (omega (arith, low, ne)) (omega (arith, high)) h)
 ]
 
 all_same : (p q : ℕ → Bool) (xs : List ℕ) → ((j : ℕ) → p j ≡ q j) → list_all p xs ≡ list_all q xs
@@ -198,8 +180,25 @@ unpaid b = if b then 0 else 2
 shared_costs : (m c : ℕ) (r r' : Readings) → four r'.waiting + unpaid r'.stopped + 6 * rounds_left m r' + c ≤ four r.waiting + unpaid r.stopped + 6 * rounds_left m r → shared_energy (shared_of m r') + c ≤ shared_energy (shared_of m r)
 shared_costs m c r r' h = h
 
-falls_less : (m at c opened : ℕ) (r r' : Readings) → Falls m at c (shared_of m r) (shared_of m r') r.local r'.local → rounds_left m r' + opened ≤ rounds_left m r → Lessens m opened r r'
-falls_less m at c opened r r' f rounds = record { energy = energy_falls m at c (shared_of m r) (shared_of m r') r.local r'.local f; rounds = rounds }
+-- what an event costs, and how many rounds it opens
+pub record FallsBy (m at opened : ℕ) (r r' : Readings) : Type 0 where
+  pub cost : ℕ
+  pub falls : Falls m at cost (shared_of m r) (shared_of m r') r.local r'.local
+  pub rounds : rounds_left m r' + opened ≤ rounds_left m r
+
+falling : (m at c opened : ℕ) (r r' : Readings) → Falls m at c (shared_of m r) (shared_of m r') r.local r'.local → rounds_left m r' + opened ≤ rounds_left m r → FallsBy m at opened r r'
+falling m at c opened r r' f rounds = record { cost = c; falls = f; rounds = rounds }
+
+-- of all together it takes energy, and rounds
+pub lessens_by : (m at opened : ℕ) (r r' : Readings) → FallsBy m at opened r r' → Lessens m opened r r'
+lessens_by m at opened r r' f = record { energy = energy_falls m at f.cost (shared_of m r) (shared_of m r') r.local r'.local f.falls; rounds = f.rounds }
+
+-- of each monitor it raises none, and lowers its own
+pub lowers_by : (m at opened : ℕ) (r r' : Readings) → FallsBy m at opened r r' → Lowers m at r r'
+lowers_by m at opened r r' f = record {
+  each = λ j low high. let o = f.falls.others j low high in let s = f.falls.shared in omega (arith, o, s);
+  here = let o = f.falls.here in let s = f.falls.shared in omega (arith, o, s);
+}
 
 due_back : (b c : Bool) → c ≡ b → c ≡ true → b ≡ true
 due_back b c e h = sym e ∙ h
@@ -230,8 +229,8 @@ strain_most r r' j = let e = two_most (r'.local j).strained in omega (arith, e)
 kept_all : (m at : ℕ) (r r' : Readings) (sent : ℕ → ℕ) (stops : ℕ) → Turns m at r r' sent stops → all_present m r ≡ true → all_present m r' ≡ true
 kept_all m at r r' sent stops t = all_kept (λ j. (r.local j).present) (λ j. (r'.local j).present) 1 m (λ j low high. t.present j)
 
-pub plain_lessens : (m at stops : ℕ) (r r' : Readings) → Plain m at stops r r' → Lessens m 0 r r'
-plain_lessens m at stops r r' h =
+pub plain_falls : (m at stops : ℕ) (r r' : Readings) → Plain m at stops r r' → FallsBy m at 0 r r'
+plain_falls m at stops r r' h =
     let t = h.turn in
     let all = all_present m r' in
     let some = any_strained m r' in
@@ -243,10 +242,10 @@ plain_lessens m at stops r r' h =
     let now : rounds_left m r' ≡ left_of r.waiting r.wide all some r'.streak = ap (λ b. left_of b r'.wide all some r'.streak) h.waiting ∙ ap (λ b. left_of r.waiting b all some r'.streak) h.wide in
     let wait : four r'.waiting ≡ four r.waiting = ap four h.waiting in
     let paid = t.paid in
-    falls_less m at (2 * stops) 0 r r' (turn_falls m at stops 0 0 (2 * stops) r r' (λ j. 0) t (λ j. omega arith) (strain_same r r' h.strained) (omega arith) (shared_costs m (2 * stops) r r' (omega (arith, left, now, wait, paid)))) (omega (arith, left, now))
+    falling m at (2 * stops) 0 r r' (turn_falls m at stops 0 0 (2 * stops) r r' (λ j. 0) t (λ j. omega arith) (strain_same r r' h.strained) (omega arith) (shared_costs m (2 * stops) r r' (omega (arith, left, now, wait, paid)))) (omega (arith, left, now))
 
-pub opens_lessens : (m at stops : ℕ) (r r' : Readings) (sent : ℕ → ℕ) → Opens m at stops r r' sent → Lessens m 1 r r'
-opens_lessens m at stops r r' sent h =
+pub opens_falls : (m at stops : ℕ) (r r' : Readings) (sent : ℕ → ℕ) → Opens m at stops r r' sent → FallsBy m at 1 r r'
+opens_falls m at stops r r' sent h =
     let t = h.turn in
     let all = all_present m r in
     let same : all_present m r' ≡ all = all_same (λ j. (r'.local j).present) (λ j. (r.local j).present) (range_with_len 1 m) h.same in
@@ -255,10 +254,10 @@ opens_lessens m at stops r r' sent h =
     let now : rounds_left m r' ≡ left_of true r'.wide all (any_strained m r') r'.streak = ap (λ b. left_of b r'.wide (all_present m r') (any_strained m r') r'.streak) h.opened ∙ ap (λ b. left_of true r'.wide b (any_strained m r') r'.streak) same in
     let wait : four r'.waiting ≡ 4 = ap four h.opened in
     let paid = t.paid in
-    falls_less m at (2 + 2 * stops) 1 r r' (turn_falls m at stops 1 0 (2 + 2 * stops) r r' sent t h.most (strain_same r r' h.strained) (omega arith) (shared_costs m (2 + 2 * stops) r r' (omega (arith, left, before, now, wait, paid)))) (omega (arith, left, before, now))
+    falling m at (2 + 2 * stops) 1 r r' (turn_falls m at stops 1 0 (2 + 2 * stops) r r' sent t h.most (strain_same r r' h.strained) (omega arith) (shared_costs m (2 + 2 * stops) r r' (omega (arith, left, before, now, wait, paid)))) (omega (arith, left, before, now))
 
-pub ends_lessens : (m at stops : ℕ) (r r' : Readings) (sent : ℕ → ℕ) → Ends m at stops r r' sent → Lessens m 0 r r'
-ends_lessens m at stops r r' sent h =
+pub ends_falls : (m at stops : ℕ) (r r' : Readings) (sent : ℕ → ℕ) → Ends m at stops r r' sent → FallsBy m at 0 r r'
+ends_falls m at stops r r' sent h =
     let t = h.turn in
     let all : all_present m r' ≡ true = all_of m r' h.renewed in
     let left = ending r.wide r'.wide (all_present m r) (any_strained m r) (any_strained m r') r.streak r'.streak h.mended (λ s. let e = goes_strained m 0 r r' h.goes all s in omega (arith, e)) in
@@ -267,10 +266,10 @@ ends_lessens m at stops r r' sent h =
     let was : four r.waiting ≡ 4 = ap four h.opened in
     let wait : four r'.waiting ≡ 0 = ap four h.closed in
     let paid = t.paid in
-    falls_less m at (4 + 2 * stops) 0 r r' (turn_falls m at stops 1 2 (4 + 2 * stops) r r' sent t h.most (strain_most r r') (omega arith) (shared_costs m (4 + 2 * stops) r r' (omega (arith, left, before, now, was, wait, paid)))) (omega (arith, left, before, now))
+    falling m at (4 + 2 * stops) 0 r r' (turn_falls m at stops 1 2 (4 + 2 * stops) r r' sent t h.most (strain_most r r') (omega arith) (shared_costs m (4 + 2 * stops) r r' (omega (arith, left, before, now, was, wait, paid)))) (omega (arith, left, before, now))
 
-pub next_lessens : (m at stops : ℕ) (r r' : Readings) (sent : ℕ → ℕ) → OpensNext m at stops r r' sent → Lessens m 1 r r'
-next_lessens m at stops r r' sent h =
+pub next_falls : (m at stops : ℕ) (r r' : Readings) (sent : ℕ → ℕ) → OpensNext m at stops r r' sent → FallsBy m at 1 r r'
+next_falls m at stops r r' sent h =
     let t = h.turn in
     let all = all_present m r in
     let same : all_present m r' ≡ all = all_same (λ j. (r'.local j).present) (λ j. (r.local j).present) (range_with_len 1 m) h.same in
@@ -281,10 +280,10 @@ next_lessens m at stops r r' sent h =
     let was : four r.waiting ≡ 4 = ap four h.was in
     let wait : four r'.waiting ≡ 4 = ap four h.opened in
     let paid = t.paid in
-    falls_less m at (2 + 2 * stops) 1 r r' (turn_falls m at stops 1 0 (2 + 2 * stops) r r' sent t h.most (strain_same r r' h.strained) (omega arith) (shared_costs m (2 + 2 * stops) r r' (omega (arith, left, before, now, was, wait, paid)))) (omega (arith, left, before, now))
+    falling m at (2 + 2 * stops) 1 r r' (turn_falls m at stops 1 0 (2 + 2 * stops) r r' sent t h.most (strain_same r r' h.strained) (omega arith) (shared_costs m (2 + 2 * stops) r r' (omega (arith, left, before, now, was, wait, paid)))) (omega (arith, left, before, now))
 
-pub lone_lessens : (m at stops : ℕ) (r r' : Readings) (sent : ℕ → ℕ) → Lone m at stops r r' sent → Lessens m 1 r r'
-lone_lessens m at stops r r' sent h =
+pub lone_falls : (m at stops : ℕ) (r r' : Readings) (sent : ℕ → ℕ) → Lone m at stops r r' sent → FallsBy m at 1 r r'
+lone_falls m at stops r r' sent h =
     let t = h.turn in
     let all : all_present m r' ≡ true = all_of m r' h.renewed in
     let left = lone r.wide r'.wide (all_present m r) (any_strained m r) (any_strained m r') r.streak r'.streak (reports m at r t.from_one t.within h.report) h.few (λ s. goes_strained m 1 r r' h.goes all s) in
@@ -293,10 +292,10 @@ lone_lessens m at stops r r' sent h =
     let was : four r.waiting ≡ 0 = ap four h.was in
     let wait : four r'.waiting ≡ 0 = ap four h.closed in
     let paid = t.paid in
-    falls_less m at (4 + 2 * stops) 1 r r' (turn_falls m at stops 1 2 (4 + 2 * stops) r r' sent t h.most (strain_most r r') (omega arith) (shared_costs m (4 + 2 * stops) r r' (omega (arith, left, before, now, was, wait, paid)))) (omega (arith, left, before, now))
+    falling m at (4 + 2 * stops) 1 r r' (turn_falls m at stops 1 2 (4 + 2 * stops) r r' sent t h.most (strain_most r r') (omega arith) (shared_costs m (4 + 2 * stops) r r' (omega (arith, left, before, now, was, wait, paid)))) (omega (arith, left, before, now))
 
-pub lone_opens_lessens : (m at stops : ℕ) (r r' : Readings) (sent : ℕ → ℕ) → LoneOpens m at stops r r' sent → Lessens m 2 r r'
-lone_opens_lessens m at stops r r' sent h =
+pub lone_opens_falls : (m at stops : ℕ) (r r' : Readings) (sent : ℕ → ℕ) → LoneOpens m at stops r r' sent → FallsBy m at 2 r r'
+lone_opens_falls m at stops r r' sent h =
     let t = h.turn in
     let all = all_present m r in
     let same : all_present m r' ≡ all = all_same (λ j. (r'.local j).present) (λ j. (r.local j).present) (range_with_len 1 m) h.same in
@@ -307,12 +306,9 @@ lone_opens_lessens m at stops r r' sent h =
     let was : four r.waiting ≡ 0 = ap four h.closed in
     let wait : four r'.waiting ≡ 4 = ap four h.opened in
     let paid = t.paid in
-    falls_less m at (2 + 2 * stops) 2 r r' (turn_falls m at stops 1 0 (2 + 2 * stops) r r' sent t h.most (strain_same r r' h.strained) (omega arith) (shared_costs m (2 + 2 * stops) r r' (omega (arith, left, before, now, was, wait, paid)))) (omega (arith, left, before, now))
+    falling m at (2 + 2 * stops) 2 r r' (turn_falls m at stops 1 0 (2 + 2 * stops) r r' sent t h.most (strain_same r r' h.strained) (omega arith) (shared_costs m (2 + 2 * stops) r r' (omega (arith, left, before, now, was, wait, paid)))) (omega (arith, left, before, now))
 
 -- ---- a short round
-
-strained_is : (b : Bool) (c : Bool) → b ≡ c → two b ≡ two c
-strained_is b c e = ap two e
 
 short_here : (l l' : Local) (stops : ℕ) → l'.down ≤ l.down + 1 + stops → l.up ≡ l'.up + 1 → (l'.due ≡ true → l.due ≡ true) → l'.present ≡ true → (l.present ≡ true → l.strained ≡ true) → (l.present ≡ true → l'.strained ≡ false)
     → local_energy l' < local_energy l + 2 * stops
@@ -330,8 +326,8 @@ short_here l l' stops down up due renewed report mended =
           omega (arith, a, p, q, down, up, x)
     ]
 
-pub short_lessens : (m at stops : ℕ) (r r' : Readings) (sent : ℕ → ℕ) → Short m at stops r r' sent → Lessens m 0 r r'
-short_lessens m at stops r r' sent h =
+pub short_falls : (m at stops : ℕ) (r r' : Readings) (sent : ℕ → ℕ) → Short m at stops r r' sent → FallsBy m at 0 r r'
+short_falls m at stops r r' sent h =
     let t = h.turn in
     let all = all_present m r' in
     let some = any_strained m r' in
@@ -345,7 +341,7 @@ short_lessens m at stops r r' sent h =
     let wait : four r'.waiting ≡ four r.waiting = ap four h.waiting in
     let paid = t.paid in
     let here = short_here (r.local at) (r'.local at) stops (let d = t.down at in let o = h.one in omega (arith, d, o)) t.here (due_back (r.local at).due (r'.local at).due (t.due at)) h.renewed h.report h.mended in
-    falls_less m at (2 * stops) 0 r r' (record {
+    falling m at (2 * stops) 0 r r' (record {
       from_one = t.from_one;
       within = t.within;
       shared = shared_costs m (2 * stops) r r' (omega (arith, left, now, wait, paid));
@@ -387,8 +383,8 @@ local_falls m at r r' low high others here shared = record {
   here = here;
 }
 
-pub checks_lessen : (m at : ℕ) (r r' : Readings) → Checks m at r r' → Lessens m 0 r r'
-checks_lessen m at r r' h =
+pub checks_fall : (m at : ℕ) (r r' : Readings) → Checks m at r r' → FallsBy m at 0 r r'
+checks_fall m at r r' h =
     let left = same_left m at r r' h.others h.present h.strained h.waiting h.wide h.streak in
     let wait : four r'.waiting ≡ four r.waiting = ap four h.waiting in
     let stop : unpaid r'.stopped ≡ unpaid r.stopped = ap unpaid h.stopped in
@@ -398,10 +394,10 @@ checks_lessen m at r r' h =
     let is : two (r'.local at).due ≡ 0 = ap two h.not_due in
     let up = h.up in
     let down = h.down in
-    falls_less m at 0 0 r r' (local_falls m at r r' h.from_one h.within h.others (omega (arith, p, s, was, is, up, down)) (shared_costs m 0 r r' (omega (arith, left, wait, stop)))) (omega (arith, left))
+    falling m at 0 0 r r' (local_falls m at r r' h.from_one h.within h.others (omega (arith, p, s, was, is, up, down)) (shared_costs m 0 r r' (omega (arith, left, wait, stop)))) (omega (arith, left))
 
-pub takes_lessen : (m at : ℕ) (r r' : Readings) → Takes m at r r' → Lessens m 0 r r'
-takes_lessen m at r r' h =
+pub takes_fall : (m at : ℕ) (r r' : Readings) → Takes m at r r' → FallsBy m at 0 r r'
+takes_fall m at r r' h =
     let left = same_left m at r r' h.others h.present h.strained h.waiting h.wide h.streak in
     let wait : four r'.waiting ≡ four r.waiting = ap four h.waiting in
     let stop : unpaid r'.stopped ≡ unpaid r.stopped = ap unpaid h.stopped in
@@ -410,4 +406,4 @@ takes_lessen m at r r' h =
     let d = two_less (r.local at).due (r'.local at).due h.due in
     let up = h.up in
     let down = h.down in
-    falls_less m at 0 0 r r' (local_falls m at r r' h.from_one h.within h.others (omega (arith, p, s, d, up, down)) (shared_costs m 0 r r' (omega (arith, left, wait, stop)))) (omega (arith, left))
+    falling m at 0 0 r r' (local_falls m at r r' h.from_one h.within h.others (omega (arith, p, s, d, up, down)) (shared_costs m 0 r r' (omega (arith, left, wait, stop)))) (omega (arith, left))

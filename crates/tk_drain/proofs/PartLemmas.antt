@@ -1,5 +1,5 @@
 -- The parts of some logs, and the longest of them.
-use Rattle.std.proofs.Common.{◌≡◌, ℕ, suc, zero, ◌+◌, List, [], ◌∷◌, ◌++◌, map, sym, ap, ◌∙◌, arith, append_assoc, append-nil}
+use Rattle.std.proofs.Common.{◌≡◌, ℕ, suc, zero, ◌+◌, List, [], ◌∷◌, ◌++◌, map, sym, ap, ◌∙◌, arith, append_assoc, append-nil, add-one}
 use Rattle.std.specs.Prelude.{flat_map}
 use Rattle.std.specs.List.{range_with_len}
 use Rattle.std.proofs.lemmas.Grind.{flat_map-append}
@@ -21,9 +21,6 @@ none_more a = omega arith
 
 one_more : (a n : ℕ) → a + 1 + n ≡ a + suc n
 one_more a n = omega arith
-
-add_one : (k : ℕ) → k + 1 ≡ suc k
-add_one k = omega arith
 
 one_and : (k : ℕ) → 1 + k ≡ k + 1
 one_and k = omega arith
@@ -47,13 +44,13 @@ feeder_more parts before mon f k next is =
 -- one more monitor of the logs
 pub monitor_more : (logs : LogSet) (k : ℕ) → flat_map (raises_of logs) (range_with_len 1 (k + 1)) ≡ flat_map (raises_of logs) (range_with_len 1 k) ++ raises_of logs (k + 1)
 monitor_more logs k =
-    ap (flat_map (raises_of logs)) (ap (range_with_len 1) (add_one k) ∙ range_more 1 k)
+    ap (flat_map (raises_of logs)) (ap (range_with_len 1) (add-one k) ∙ range_more 1 k)
     ∙ flat_map-append (raises_of logs) (range_with_len 1 k) ((1 + k) ∷ [])
     ∙ ap (λ (xs : List Event). flat_map (raises_of logs) (range_with_len 1 k) ++ xs) (append-nil (raises_of logs (1 + k)) ∙ ap (raises_of logs) (one_and k))
 
 -- one more pass
 pub pass_again : (logs : LogSet) (k : ℕ) → flat_map (λ (_ : ℕ). pass_of logs) (range_with_len 0 (k + 1)) ≡ flat_map (λ (_ : ℕ). pass_of logs) (range_with_len 0 k) ++ pass_of logs
 pass_again logs k =
-    ap (flat_map (λ (_ : ℕ). pass_of logs)) (ap (range_with_len 0) (add_one k) ∙ range_more 0 k)
+    ap (flat_map (λ (_ : ℕ). pass_of logs)) (ap (range_with_len 0) (add-one k) ∙ range_more 0 k)
     ∙ flat_map-append (λ (_ : ℕ). pass_of logs) (range_with_len 0 k) ((0 + k) ∷ [])
     ∙ ap (λ (xs : List Event). flat_map (λ (_ : ℕ). pass_of logs) (range_with_len 0 k) ++ xs) (append-nil (pass_of logs))

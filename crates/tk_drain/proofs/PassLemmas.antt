@@ -1,5 +1,5 @@
 -- The raises that are left: each part's are enough to bring it to its end.
-use Rattle.std.proofs.Common.{◌≡◌, ℕ, suc, zero, ℤ, ◌+◌, ◌-◌, ◌<◌, ◌≤◌, ◌==◌, Bool, true, false, List, [], ◌∷◌, ◌++◌, length, map, get_or, refl, sym, subst, arith, inl, inr}
+use Rattle.std.proofs.Common.{◌≡◌, ℕ, suc, zero, ℤ, ◌+◌, ◌-◌, ◌<◌, ◌≤◌, ◌==◌, Bool, true, false, List, [], ◌∷◌, ◌++◌, length, map, get_or, refl, sym, subst, arith, inl, inr, le_refl}
 use Rattle.std.specs.Prelude.{flat_map, fold, max}
 use Rattle.std.specs.List.{range_with_len}
 use Rattle.std.proofs.Math.Nat.{le-max_left, le-max_right}
@@ -74,14 +74,11 @@ longest_in most parts = fold longer most parts
 two_steps : (a b c : ℕ) → a ≤ b → b ≤ c → a ≤ c
 two_steps a b c x y = omega (arith, x, y)
 
-same_most : (a : ℕ) → a ≤ a
-same_most a = omega arith
-
 nothing_less : (a : ℕ) → 0 ≤ a
 nothing_less a = omega arith
 
 pub longest_grows : (most : ℕ) (parts : List (List (ℕ × ℤ))) → most ≤ longest_in most parts
-longest_grows most [] = same_most most
+longest_grows most [] = le_refl most
 longest_grows most (part ∷ parts) = two_steps most (longer most part) (longest_in (longer most part) parts) (le-max_left most (length part)) (longest_grows (longer most part) parts)
 
 pub longest_covers : (most : ℕ) (parts : List (List (ℕ × ℤ))) (i : ℕ) → length (get_or parts i []) ≤ longest_in most parts
@@ -90,7 +87,7 @@ longest_covers most (part ∷ parts) zero = two_steps (length part) (longer most
 longest_covers most (part ∷ parts) (suc i) = longest_covers (longer most part) parts i
 
 over_grows : (most : ℕ) (logs : List (List (List (ℕ × ℤ)))) → most ≤ fold longest_in most logs
-over_grows most [] = same_most most
+over_grows most [] = le_refl most
 over_grows most (parts ∷ logs) = two_steps most (longest_in most parts) (fold longest_in (longest_in most parts) logs) (longest_grows most parts) (over_grows (longest_in most parts) logs)
 
 over_covers : (most : ℕ) (logs : List (List (List (ℕ × ℤ)))) (j i : ℕ) → length (get_or (get_or logs j []) i []) ≤ fold longest_in most logs

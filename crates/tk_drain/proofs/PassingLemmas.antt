@@ -21,12 +21,12 @@ use Rattle.tk_drain.specs.Passing.{Covers, MayRaise, Passes, RaisesOne, raises}
 use Rattle.tk_drain.proofs.PartLemmas.{pass_again, raises_push}
 use Rattle.tk_drain.specs.Passing.Covers.{Nothing as NothingC, GoesOn as GoesOnC, Ended as EndedC}
 use Rattle.tk_drain.proofs.KeepLemmas.{leads_join, leads_reached, leads_story, reached_leads, took_of}
-use Rattle.tk_drain.proofs.ReadLemmas.{guarded, monitor_is}
 use Rattle.tk_drain.proofs.RestLemmas.{settles_rests}
 use Rattle.tk_drain.proofs.RaiseLemmas.{alike_length, goes_on, idle_ended, place, raised_in, run_alike, run_moves}
 use Rattle.tk_drain.proofs.EndingLemmas.{Finished, finishes_leads, part_back, raised_over}
 use Rattle.std.proofs.lemmas.List.Sums.{fold-append}
 use Rattle.tk_story.specs.Moments.{IsOver}
+use Rattle.tk_world.proofs.StepLemmas.{guarded, monitor_is}
 
 -- ---- a part that is at its end stays there
 

@@ -2,7 +2,7 @@
 use Rattle.tk_frames.specs.declared.frame.Frame.TheVariants as f
 use Rattle.std.proofs.Common.{◌≡◌, ℕ, ◌&&◌, ◌||◌, ℤ, ◌+ℤ◌, Bool, true, false, not, List, [], ◌∷◌, length, map, Contains, Some, refl, sym, ap, ◌∙◌, subst}
 use Rattle.std.specs.Prelude.{if◌then◌else◌}
-use Rattle.std.proofs.lemmas.Bool.{false≢true, and_parts}
+use Rattle.std.proofs.lemmas.Bool.{false≢true, and_parts, or_right}
 use Rattle.tk_base.specs.Objects.{objects, is_in}
 use Rattle.tk_base.specs.Pairs.{objects_of}
 use Rattle.tk_border.specs.Levels.{broken, border, is_above, least_member, level_at, outside, resolution}
@@ -60,10 +60,6 @@ says setup x seq border' failed values e =
     record { border = cc; objects = ap objects_of same ∙ objects_asked (value_of_object setup x) (resolution_at setup x) }
 
 -- what is broken is in the resolution set
-or_right : (a b : Bool) → b ≡ true → (a || b) ≡ true
-or_right true b e = refl
-or_right false b e = e
-
 broken_resolved : (levels : List ℤ) (members : List ℕ) (o : ℕ) → Contains (broken levels members) o → Contains (resolution (length levels) members (broken levels members)) o
 broken_resolved levels members o in' =
     let failed = broken levels members in

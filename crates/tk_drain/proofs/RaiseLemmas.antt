@@ -3,8 +3,9 @@ use Rattle.tk_journal.specs.declared.noted.Noted.TheVariants as n
 use Rattle.std.proofs.Common.{◌≡◌, ℕ, suc, ℤ, ◌+◌, ◌-◌, ◌<◌, ◌≤◌, ◌&&◌, ◌==◌, Bool, true, false, List, [], ◌∷◌, ◌++◌, length, set, get_or, Option, Some, None, refl, sym, ap, ◌∙◌, subst, arith, inl, inr}
 use Rattle.std.specs.Prelude.{nat_le, nat_lt, if◌then◌else◌}
 use Rattle.std.specs.List.{list_all, zip}
-use Rattle.std.proofs.lemmas.Bool.{and_parts, and_from, cases_eq, eq-eqb, ne_eqb, leb-true, le-leb, ltb-true, ltb-false, le-ltb}
+use Rattle.std.proofs.lemmas.Bool.{and_parts, and_from, cases_eq, eq-eqb, ne_eqb, leb-true, le-leb, ltb-true, ltb-false, and_right}
 use Rattle.std.proofs.lemmas.List.{get_or-set_same, get_or-set_other}
+use Rattle.std.proofs.lemmas.Option.{same_Some}
 use Rattle.tk_base.specs.declared.ids.Feeder.{Feeder}
 use Rattle.tk_base.specs.declared.ids.Mon.{Mon}
 use Rattle.tk_journal.specs.Laws.{IsMonitor}
@@ -21,11 +22,11 @@ use Rattle.tk_world.specs.Events.{after, has_next, is_monitor, moved, next_down,
 use Rattle.tk_input.specs.declared.event.Event.TheVariants.{Raise, Check, Up, Down, Retune}
 use Rattle.tk_story.specs.Story.{IsStory, StoryView, setup_of, trail_of}
 use Rattle.tk_story.proofs.QuietLemmas.{starts_at}
-use Rattle.tk_world.proofs.StepLemmas.{next_is_story}
+use Rattle.tk_world.proofs.StepLemmas.{next_is_story, mapped_some, guarded, monitor_is, trail_there}
 use Rattle.tk_drain.specs.Settling.{is_settling}
-use Rattle.tk_drain.proofs.ReadLemmas.{guarded, mapped_some, monitor_is, monitor_true, own_trail}
 use Rattle.tk_drain.proofs.FinishLemmas.{AtEnds, after_places}
 use Rattle.tk_drain.proofs.SettleLemmas.{lower_from}
+use Rattle.tk_world.proofs.IdleLemmas.{is_one}
 
 -- ---- how many of some events are raises of one part
 
@@ -79,7 +80,7 @@ still_placed s mon g at trail h m r places = record {
   place = same_place (place (with_trail s at trail) mon g) (place s mon g) (elim (cases_eq mon at) [
     | inl same ↦
         subst (λ (z : ℕ). place (with_trail s at trail) z g ≡ place s z g) (sym same)
-        (ap (λ (t : List Entry). place_of (setup_of s at) t g) (own_trail s h at r trail) ∙ ap (λ (ps : List ℕ). get_or ps (g - 1) 0) places)
+        (ap (λ (t : List Entry). place_of (setup_of s at) t g) (trail_there s h at r trail) ∙ ap (λ (ps : List ℕ). get_or ps (g - 1) 0) places)
     | inr apart ↦ ap (λ (t : List Entry). place_of (setup_of s mon) t g) (other_trail s mon at trail m r apart)
   ]);
 }
@@ -91,12 +92,8 @@ raise_is mon g m f a b = and_from (m.0 == mon) (f.0 == g) (eq-eqb m.0 mon (sym a
 raise_other_mon : (mon g : ℕ) (m : Mon) (f : Feeder) → (mon ≡ m.0 → ⊥) → is_raise_of mon g (Raise m f) ≡ false
 raise_other_mon mon g m f apart = ap (λ b. b && f.0 == g) (ne_eqb m.0 mon (λ same. apart (sym same)))
 
-false_right : (a b : Bool) → b ≡ false → (a && b) ≡ false
-false_right true b is = is
-false_right false b is = refl
-
 raise_other : (mon g : ℕ) (m : Mon) (f : Feeder) → (g ≡ f.0 → ⊥) → is_raise_of mon g (Raise m f) ≡ false
-raise_other mon g m f apart = false_right (m.0 == mon) (f.0 == g) (ne_eqb f.0 g (λ same. apart (sym same)))
+raise_other mon g m f apart = and_right (m.0 == mon) (f.0 == g) (ne_eqb f.0 g (λ same. apart (sym same)))
 
 one_later : (n m : ℕ) (b : Bool) → b ≡ true → n ≡ suc m → n ≡ m + one_if b
 one_later n m true is same = omega (arith, same)
@@ -128,7 +125,7 @@ raised_place s mon g m f h k low r goes =
           (ap (λ (t : List Entry). place_of (setup_of s mon) t g) (other_trail s mon m.0 trail k r apart))
       | inl same ↦
           let own : place (with_trail s m.0 trail) m.0 g ≡ get_or (set (places_at (setup_of s m.0) (trail_of s m.0)) (f.0 - 1) (suc (place s m.0 f.0))) (g - 1) 0 =
-          ap (λ (t : List Entry). place_of (setup_of s m.0) t g) (own_trail s h m.0 r trail)
+          ap (λ (t : List Entry). place_of (setup_of s m.0) t g) (trail_there s h m.0 r trail)
           ∙ ap (λ (ps : List ℕ). get_or ps (g - 1) 0) (places_at-raised (setup_of s m.0) (trail_of s m.0) f goes.from_one) in
           elim (cases_eq g f.0) [
             | inl this ↦
@@ -148,15 +145,12 @@ refused_or : {X : Type 0} (b : Bool) (o : Option X) (t : X) → (if b then None 
 refused_or true o t is = absurd (cc)
 refused_or false o t is = is
 
-some_is : {X : Type 0} (x t : X) → Some x ≡ Some t → x ≡ t
-some_is x t is = cc
-
 pub event_moves : (s t : StoryView) (e : Event) (mon g : ℕ) → IsStory s → next_of s e ≡ Some t → IsMonitor s.settings mon → 1 ≤ g → IsMoved s t mon g (one_if (is_raise_of mon g e))
 unfolding next_of
 event_moves s t (Raise m f) mon g h is k low =
     let a = guarded (is_monitor s m.0) (moved s (Raise m f)) t is in
     let b = guarded (has_next s m.0 f.0) (Some (with_trail s m.0 (trail_of s m.0 ++ Raised f ∷ []))) t a.1 in
-    subst (λ (z : StoryView). IsMoved s z mon g (one_if (is_raise_of mon g (Raise m f)))) (some_is (with_trail s m.0 (trail_of s m.0 ++ Raised f ∷ [])) t b.1) (record {
+    subst (λ (z : StoryView). IsMoved s z mon g (one_if (is_raise_of mon g (Raise m f)))) (same_Some (with_trail s m.0 (trail_of s m.0 ++ Raised f ∷ [])) t b.1) (record {
       alike = record { settings = refl; logs = refl; from = refl };
       place = raised_place s mon g m f h k low (monitor_is s m.0 a.0) (goes_on s m.0 f.0 b.0);
     })
@@ -173,7 +167,7 @@ event_moves s t (Up m) mon g h is k low =
     let x = mapped_some (λ frame. with_turn s (n.Got (record { 0 = m.0 }) frame)) (next_up s m.0) t a.1 in
     subst (λ (z : StoryView). IsMoved s z mon g 0) x.2 (record { alike = record { settings = refl; logs = refl; from = refl }; place = same_place (place s mon g) (place s mon g) refl })
 event_moves s t (Retune tuning) mon g h is k low =
-    let x = some_is _ t (refused_or _ _ t is) in
+    let x = same_Some _ t (refused_or _ _ t is) in
     subst (λ (z : StoryView). IsMoved s z mon g 0) x (record { alike = record { settings = refl; logs = refl; from = refl }; place = same_place (place s mon g) (place s mon g) refl })
 
 -- an event leaves logs and settings as they were
@@ -182,7 +176,7 @@ unfolding next_of
 event_alike s t (Raise m f) is =
     let a = guarded (is_monitor s m.0) (moved s (Raise m f)) t is in
     let b = guarded (has_next s m.0 f.0) (Some (with_trail s m.0 (trail_of s m.0 ++ Raised f ∷ []))) t a.1 in
-    subst (λ (z : StoryView). IsAlike s z) (some_is (with_trail s m.0 (trail_of s m.0 ++ Raised f ∷ [])) t b.1) (record { settings = refl; logs = refl; from = refl })
+    subst (λ (z : StoryView). IsAlike s z) (same_Some (with_trail s m.0 (trail_of s m.0 ++ Raised f ∷ [])) t b.1) (record { settings = refl; logs = refl; from = refl })
 event_alike s t (Check m) is =
     let a = guarded (is_monitor s m.0) (moved s (Check m)) t is in
     let x = mapped_some (λ frame. with_trail s m.0 (trail_of s m.0 ++ Sent frame ∷ [])) (due_at (setup_of s m.0) (trail_of s m.0)) t a.1 in
@@ -196,12 +190,12 @@ event_alike s t (Up m) is =
     let x = mapped_some (λ frame. with_turn s (n.Got (record { 0 = m.0 }) frame)) (next_up s m.0) t a.1 in
     subst (λ (z : StoryView). IsAlike s z) x.2 (record { settings = refl; logs = refl; from = refl })
 event_alike s t (Retune tuning) is =
-    let x = some_is _ t (refused_or _ _ t is) in
+    let x = same_Some _ t (refused_or _ _ t is) in
     subst (λ (z : StoryView). IsAlike s z) x (record { settings = refl; logs = refl; from = refl })
 
 -- so do some events
 pub run_alike : (s t : StoryView) (events : List Event) → after (Some s) events ≡ Some t → IsAlike s t
-run_alike s t [] is = subst (λ (z : StoryView). IsAlike s z) (some_is s t is) (alike_self s)
+run_alike s t [] is = subst (λ (z : StoryView). IsAlike s z) (same_Some s t is) (alike_self s)
 run_alike s t (e ∷ events) is =
     lower_from s t e events (next_of s e) (IsAlike s t) refl is (λ u some rest. alike_join s u t (event_alike s u e some) (run_alike u t events rest))
 
@@ -211,7 +205,7 @@ plus_two a b c p q x y = omega (arith, x, y)
 -- some events later it is further by its own raises
 pub run_moves : (s t : StoryView) (events : List Event) (mon g : ℕ) → IsStory s → after (Some s) events ≡ Some t → IsMonitor s.settings mon → 1 ≤ g → IsMoved s t mon g (raised_in mon g events)
 run_moves s t [] mon g h is k low =
-    subst (λ (z : StoryView). IsMoved s z mon g 0) (some_is s t is) (record { alike = alike_self s; place = same_place (place s mon g) (place s mon g) refl })
+    subst (λ (z : StoryView). IsMoved s z mon g 0) (same_Some s t is) (record { alike = alike_self s; place = same_place (place s mon g) (place s mon g) refl })
 run_moves s t (e ∷ events) mon g h is k low =
     lower_from s t e events (next_of s e) (IsMoved s t mon g (raised_in mon g (e ∷ events))) refl is (λ u some rest.
     let a = event_moves s u e mon g h some k low in
@@ -259,27 +253,10 @@ third_false false b c is x y = absurd (cc)
 pub idle_ended : (s : StoryView) (mon g : ℕ) → IsFeederOf s mon g → next_of s (raise_at mon g) ≡ None → part_length (setup_of s mon) g ≤ place s mon g
 unfolding next_of
 idle_ended s mon g f none =
-    let no = unless (is_monitor s mon) (has_next s mon g) (with_trail s mon (trail_of s mon ++ Raised (record { 0 = g }) ∷ [])) none (monitor_true s mon f.monitor) in
+    let no = unless (is_monitor s mon) (has_next s mon g) (with_trail s mon (trail_of s mon ++ Raised (record { 0 = g }) ∷ [])) none (is_one s mon f.monitor) in
     ltb-false (place s mon g) (part_length (setup_of s mon) g)
     (third_false (nat_le 1 g) (nat_le g (length (setup_of s mon).parts)) (nat_lt (place s mon g) (part_length (setup_of s mon) g)) no
     (le-leb 1 g f.from_one) (le-leb g (length (setup_of s mon).parts) f.one_of))
-
-right_false : (a b : Bool) → b ≡ false → (a && b) ≡ false
-right_false true b is = is
-right_false false b is = refl
-
-none_if : {X : Type 0} (b c : Bool) (x : X) → c ≡ false → (if b then (if c then Some x else None) else None) ≡ None
-none_if true true x is = absurd (cc)
-none_if true false x is = refl
-none_if false c x is = refl
-
--- and the other way round
-pub ended_idle : (s : StoryView) (mon g : ℕ) → part_length (setup_of s mon) g ≤ place s mon g → next_of s (raise_at mon g) ≡ None
-unfolding next_of
-ended_idle s mon g ended =
-    none_if (is_monitor s mon) (has_next s mon g) (with_trail s mon (trail_of s mon ++ Raised (record { 0 = g }) ∷ []))
-    (right_false (nat_le 1 g && nat_le g (length (setup_of s mon).parts)) (nat_lt (place s mon g) (part_length (setup_of s mon) g))
-    (le-ltb (place s mon g) (part_length (setup_of s mon) g) ended))
 
 -- ---- all parts at their ends
 

@@ -1,9 +1,7 @@
 -- What is read of a story, monitor by monitor.
-use Rattle.std.proofs.Common.{◌≡◌, ℕ, ◌-◌, ◌≤◌, Bool, true, false, List, [], length, Option, Some, None, refl, ap, ◌∙◌, arith}
-use Rattle.std.specs.Prelude.{nat_le, if◌then◌else◌}
-use Rattle.std.specs.Option.{option_map}
-use Rattle.std.proofs.lemmas.Bool.{and_parts, and_from, leb-true, le-leb}
-use Rattle.std.proofs.lemmas.List.{get_or-set_same, get_or-set_other, length-append}
+use Rattle.std.proofs.Common.{◌≡◌, ℕ, ◌-◌, ◌≤◌, Bool, true, false, List, [], length, refl, ap, ◌∙◌, arith}
+use Rattle.std.specs.Prelude.{if◌then◌else◌}
+use Rattle.std.proofs.lemmas.List.{get_or-set_other, length-append}
 use Rattle.tk_frames.specs.declared.frame.Frame.{Frame}
 use Rattle.tk_journal.specs.Laws.{IsMonitor}
 use Rattle.tk_drain.specs.Energy.{Local}
@@ -13,36 +11,21 @@ use Rattle.tk_trail.specs.declared.entry.Entry.{Entry}
 use Rattle.tk_world.specs.Events.{is_monitor, with_trail}
 use Rattle.tk_story.specs.Story.{IsStory, StoryView, setup_of, trail_of}
 use Rattle.tk_drain.specs.Reads.{local_of, nobody, reading}
+use Rattle.tk_world.proofs.IdleLemmas.{is_one}
+use Rattle.tk_world.proofs.StepLemmas.{monitor_is, trail_there}
 
 -- ---- options
 
-pub guarded : {X : Type 0} (b : Bool) (o : Option X) (t : X) → (if b then o else None) ≡ Some t → (b ≡ true) × (o ≡ Some t)
-guarded true o t e = (refl, e)
-guarded false o t e = absurd (cc)
-
-pub mapped_some : {X Y : Type 0} (g : X → Y) (o : Option X) (t : Y) → option_map g o ≡ Some t → (x : X) × (o ≡ Some x) × (g x ≡ t)
-mapped_some g None t e = absurd (cc)
-mapped_some g (Some x) t e = (x, refl, (cc))
-
 -- ---- monitors
 
-pub monitor_is : (s : StoryView) (mon : ℕ) → is_monitor s mon ≡ true → IsMonitor s.settings mon
-monitor_is s mon is = let both = and_parts (nat_le 1 mon) (nat_le mon s.settings.monitors) is in record { from_one = leb-true 1 mon both.0; within = leb-true mon s.settings.monitors both.1 }
-
-pub monitor_true : (s : StoryView) (mon : ℕ) → IsMonitor s.settings mon → is_monitor s mon ≡ true
-monitor_true s mon m = and_from (nat_le 1 mon) (nat_le mon s.settings.monitors) (le-leb 1 mon m.from_one) (le-leb mon s.settings.monitors m.within)
-
 pub local_own : (s : StoryView) (mon : ℕ) → IsMonitor s.settings mon → local_of s mon ≡ reading (setup_of s mon) (trail_of s mon) mon s.journal
-local_own s mon m = ap (λ b. if b then reading (setup_of s mon) (trail_of s mon) mon s.journal else nobody) (monitor_true s mon m)
+local_own s mon m = ap (λ b. if b then reading (setup_of s mon) (trail_of s mon) mon s.journal else nobody) (is_one s mon m)
 
 pub either_by : (b : Bool) (x y : Local) → (b ≡ true → x ≡ y) → (if b then x else nobody) ≡ (if b then y else nobody)
 either_by true x y same = same refl
 either_by false x y same = refl
 
 -- ---- one trail goes on
-
-pub own_trail : (s : StoryView) → IsStory s → (mon : ℕ) → IsMonitor s.settings mon → (trail : List Entry) → trail_of (with_trail s mon trail) mon ≡ trail
-own_trail s h mon m trail = get_or-set_same s.trails (mon - 1) trail [] (let a = m.from_one in let b = m.within in let c = h.count in omega (arith, a, b, c))
 
 pub others_same : (s : StoryView) (mon : ℕ) → IsMonitor s.settings mon → (trail : List Entry) (j : ℕ) → (j ≡ mon → ⊥) → local_of (with_trail s mon trail) j ≡ local_of s j
 others_same s mon m trail j apart =
@@ -51,7 +34,7 @@ others_same s mon m trail j apart =
     ap (λ (t : List Entry). reading (setup_of s j) t j s.journal) (get_or-set_other s.trails (mon - 1) (j - 1) trail [] (λ same. apart (let a = m.from_one in let b = r.from_one in omega (arith, a, b, same)))))
 
 pub own_now : (s : StoryView) → IsStory s → (mon : ℕ) → IsMonitor s.settings mon → (trail : List Entry) → local_of (with_trail s mon trail) mon ≡ reading (setup_of s mon) trail mon s.journal
-own_now s h mon m trail = local_own (with_trail s mon trail) mon m ∙ ap (λ (t : List Entry). reading (setup_of s mon) t mon s.journal) (own_trail s h mon m trail)
+own_now s h mon m trail = local_own (with_trail s mon trail) mon m ∙ ap (λ (t : List Entry). reading (setup_of s mon) t mon s.journal) (trail_there s h mon m trail)
 
 -- ---- fronts
 

@@ -14,7 +14,7 @@ use Rattle.tk_drain.specs.Drive.BeginsSettling.{Within, Beyond}
 use Rattle.tk_drain.specs.Moves.{energy_of_all}
 use Rattle.tk_drain.specs.Reads.{readings}
 use Rattle.tk_drain.specs.Settling.{is_settling}
-use Rattle.tk_drain.proofs.SettleLemmas.{energy_most, few_rounds, run_settles}
+use Rattle.tk_drain.proofs.SettleLemmas.{energy_most, few_rounds, run_settles, short_by}
 use Rattle.tk_drain.proofs.EndLemmas.{idle_is_calm, idle_took_stop}
 use Rattle.tk_drain.specs.Resting.{ComesToRest}
 use Rattle.tk_story.proofs.StillLemmas.{still_is_quiet}
@@ -43,9 +43,6 @@ pub sweep_calms : (a : KeptStory) → Calms a (swept a)
 sweep_calms a =
     let t = took_of a (sweep_events a.story.settings) in
     record { took = t.took; leads = t.leads; settling = t.settling (sweep_is_settling a.story.settings) }
-
-pub calms_settings : (a c : KeptStory) → IsStory a.story → Calms a c → c.story.settings ≡ a.story.settings
-calms_settings a c h x = (run_settles a.story c.story x.took h x.settling x.leads.runs).settings
 
 -- ---- a sweep that moves something costs energy
 
@@ -82,20 +79,6 @@ pub record Sweeping (old now : KeptStory) (n : ℕ) : Type 0 where
   pub settles : (end : KeptStory) (k : ℕ) → Settles now end k → Settles old end (n + k)
   pub begins : (end : KeptStory) → BeginsSettling now end → BeginsSettling old end
 
-no_more : (a : ℕ) → 0 + a ≤ a
-no_more a = omega arith
-
-none_and : (a : ℕ) → a ≡ 0 + a
-none_and a = omega arith
-
-pub sweeping_none : (a : KeptStory) → Sweeping a a 0
-sweeping_none a = record {
-  calms = calms_none a;
-  energy = no_more (energy_at a);
-  settles = λ end k s. subst (λ (q : ℕ). Settles a end q) (none_and k) s;
-  begins = λ end b. b;
-}
-
 one_more : (n k : ℕ) → n + suc k ≡ n + 1 + k
 one_more n k = omega arith
 
@@ -113,11 +96,8 @@ sweeping_on old now n h moves so = record {
 pub sweeping_rests : (old now : KeptStory) (n : ℕ) → CanOnlyChange now.story → Sweeping old now n → Settles old now (n + 1)
 sweeping_rests old now n idle so = so.settles now 1 (Rests now idle)
 
-few_of : (n a b m : ℕ) → n + a ≤ b → b ≤ 87 * m → n ≤ 87 * m
-few_of n a b m x y = omega (arith, x, y)
-
 pub sweeping_few : (old now : KeptStory) (n : ℕ) → IsStory old.story → Sweeping old now n → n ≤ 87 * old.story.settings.monitors
-sweeping_few old now n h so = few_of n (energy_at now) (energy_at old) old.story.settings.monitors so.energy (energy_most old.story h)
+sweeping_few old now n h so = short_by n (energy_at now) (energy_at old) old.story.settings.monitors so.energy (energy_most old.story h)
 
 -- ---- what a settling leaves
 

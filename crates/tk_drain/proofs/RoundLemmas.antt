@@ -3,7 +3,7 @@ use Rattle.tk_frames.specs.declared.frame.Frame.TheVariants as f
 use Rattle.std.proofs.Common.{◌≡◌, ℕ, suc, zero, ◌+◌, ◌<◌, ◌&&◌, ◌==◌, ℤ, Bool, true, false, not, List, [], ◌∷◌, ◌++◌, drop, None, refl, sym, ap, ◌∙◌, arith}
 use Rattle.std.specs.Prelude.{filter, nat_lt, if◌then◌else◌}
 use Rattle.std.specs.List.{range_with_len}
-use Rattle.std.proofs.lemmas.Bool.{and_parts, eq-eqb, eqb-true, false≢true, true≢false, le-ltb, lt-ltb}
+use Rattle.std.proofs.lemmas.Bool.{and_parts, eq-eqb, eqb-true, false≢true, true≢false, le-ltb, lt-ltb, not-true}
 use Rattle.tk_base.specs.Objects.{objects}
 use Rattle.tk_base.specs.Settings.{Setup}
 use Rattle.tk_base.specs.declared.ids.Mon.{Mon}
@@ -60,10 +60,6 @@ lone_true s false true passes within few a b c d = absurd (true≢false b)
 lone_true s false false true within few a b c d = absurd (true≢false c)
 lone_true s false false false within false a b c d = absurd (false≢true d)
 
-not_is : (b : Bool) → not b ≡ true → b ≡ false
-not_is true h = absurd (false≢true h)
-not_is false h = refl
-
 pub is_lone : (s : Setup) (j : List Noted) (from : Mon) (seq : ℕ) (border : ℤ) (failed : List ℕ) (values : List (ℕ × ℤ)) → fails_at s j from.0 (f.Report seq border failed values) ≡ true → streak s j < 8 → (s.monitors == 1) ≡ true
     → is_lone_full s (kind_of s j from.0 (f.Report seq border failed values)) ≡ true
 unfolding kind_of
@@ -72,7 +68,7 @@ is_lone s j from seq border failed values fails few lone =
     let outer = and_parts ((seq == assigns_sent from.0 j) && not (is_open s j)) (not (passes_at s j report)) fails in
     let inner = and_parts (seq == assigns_sent from.0 j) (not (is_open s j)) outer.0 in
     lone_true s (nat_lt seq (assigns_sent from.0 j)) (is_open s j) (passes_at s j report) (is_within_limit (short_at s j report)) (nat_lt (streak s j) 8)
-    (le-ltb seq (assigns_sent from.0 j) (let e = eqb-true seq (assigns_sent from.0 j) inner.0 in omega (arith, e))) (not_is (is_open s j) inner.1) (not_is (passes_at s j report) outer.1) (lt-ltb (streak s j) 8 few)
+    (le-ltb seq (assigns_sent from.0 j) (let e = eqb-true seq (assigns_sent from.0 j) inner.0 in omega (arith, e))) (not-true (is_open s j) inner.1) (not-true (passes_at s j report) outer.1) (lt-ltb (streak s j) 8 few)
     ∙ lone
 
 -- ---- the rounds of a turn

@@ -1,5 +1,5 @@
 -- Settlings are short.
-use Rattle.std.proofs.Common.{◌≡◌, ℕ, suc, zero, ◌+◌, ◌-◌, ◌*◌, ◌<◌, ◌≤◌, Bool, true, false, List, [], ◌∷◌, ◌++◌, length, map, Option, Some, None, refl, sym, ap, ◌∙◌, subst, arith}
+use Rattle.std.proofs.Common.{◌≡◌, ℕ, suc, zero, ◌+◌, ◌-◌, ◌*◌, ◌<◌, ◌≤◌, Bool, true, false, List, [], ◌∷◌, ◌++◌, length, map, Option, Some, None, refl, sym, ap, ◌∙◌, subst, arith, le_refl}
 use Rattle.std.specs.Prelude.{◌==◌, filter, if◌then◌else◌}
 use Rattle.std.specs.List.{list_all, range_with_len, sum}
 use Rattle.std.proofs.lemmas.Bool.{and_parts, eqb-true, false≢true}
@@ -19,7 +19,7 @@ use Rattle.tk_journal.specs.Shapes.{Shape}
 use Rattle.tk_journal.specs.Shapes.Shape.{Plain, Short, Wide, Full, LoneEnd, LoneWide, EndFull, EndOver, EndWide}
 use Rattle.tk_story.proofs.FewLemmas.{few_up, few_down}
 use Rattle.tk_journal.proofs.GrowLemmas.{with_got}
-use Rattle.tk_drain.proofs.MoveLemmas.{checks_lessen, left_most, takes_lessen}
+use Rattle.tk_drain.proofs.MoveLemmas.{checks_fall, left_most, lessens_by, lowers_by, takes_fall}
 use Rattle.tk_journal.proofs.ShapeLemmas.{shape}
 use Rattle.tk_input.specs.declared.event.Event.{Event}
 use Rattle.tk_world.specs.Events.{after, is_monitor, moved, next_down, next_of, with_trail, check_at, down_at}
@@ -29,18 +29,17 @@ use Rattle.tk_trail.specs.Frames.{due_at}
 use Rattle.tk_trail.specs.Legal.{after_take}
 use Rattle.tk_trail.specs.declared.entry.Entry.TheVariants.{Sent}
 use Rattle.tk_story.proofs.QuietLemmas.{joined}
-use Rattle.tk_world.proofs.StepLemmas.{next_is_story}
+use Rattle.tk_world.proofs.StepLemmas.{next_is_story, mapped_some, guarded}
 use Rattle.tk_journal.proofs.Counting.{got_count}
 use Rattle.tk_drain.specs.Reads.{local_of, readings}
 use Rattle.tk_drain.specs.Settling.{CostsEnergy, energy_of, events_of, is_settling, monitor_of}
-use Rattle.tk_drain.proofs.ReadLemmas.{guarded, local_own, mapped_some}
-use Rattle.tk_drain.proofs.LowerLemmas.{checks_lower, takes_lower}
+use Rattle.tk_drain.proofs.ReadLemmas.{local_own}
 use Rattle.tk_drain.proofs.TurnReads.{Turning, turned}
 use Rattle.tk_drain.proofs.TrailFalls.{check_fits, down_fits}
 use Rattle.tk_drain.proofs.AssignFalls.{values_pass}
 use Rattle.tk_drain.proofs.ShortFalls.{passes_no_fail}
 use Rattle.tk_drain.proofs.RoundLemmas.{assigned_rounds, full_rounds, got_none, is_lone, nothing_rounds, wide_rounds}
-use Rattle.tk_drain.proofs.UpFalls.{fits_by, fits_lessen, fits_lower, up_step}
+use Rattle.tk_drain.proofs.UpFalls.{fits_by, fits_fall, up_step}
 
 plus_none : (n : ℕ) → n ≡ n + 0
 plus_none n = omega arith
@@ -69,11 +68,12 @@ turn_settles : (s : StoryView) (from : Mon) (frame : Frame) → Turning s from f
 turn_settles s from frame t =
     let h = shape s.settings s.journal from frame t.monitor t.none in
     let x = fits_by s from frame t h in
+    let f = fits_fall s.settings.monitors from.0 x.opened (readings s) (readings (turned s from frame)) x.fits in
     record {
       opened = x.opened;
       settings = refl;
-      lowers = fits_lower s.settings.monitors from.0 x.opened (readings s) (readings (turned s from frame)) x.fits;
-      lessens = fits_lessen s.settings.monitors from.0 x.opened (readings s) (readings (turned s from frame)) x.fits;
+      lowers = lowers_by s.settings.monitors from.0 x.opened (readings s) (readings (turned s from frame)) f;
+      lessens = lessens_by s.settings.monitors from.0 x.opened (readings s) (readings (turned s from frame)) f;
       rounds = rounds_by s from frame t h;
     }
 
@@ -82,11 +82,12 @@ unfolding next_of
 check_settles s t mon h is =
     let g = guarded (is_monitor s mon) (moved s (check_at mon)) t is in
     let x = mapped_some (λ frame. with_trail s mon (trail_of s mon ++ Sent frame ∷ [])) (due_at (setup_of s mon) (trail_of s mon)) t g.1 in
+    let f = checks_fall s.settings.monitors mon (readings s) (readings t) (check_fits s t mon h is) in
     record {
       opened = 0;
       settings = ap (λ (u : StoryView). u.settings) (sym x.2);
-      lowers = checks_lower s.settings.monitors mon (readings s) (readings t) (check_fits s t mon h is);
-      lessens = checks_lessen s.settings.monitors mon (readings s) (readings t) (check_fits s t mon h is);
+      lowers = lowers_by s.settings.monitors mon 0 (readings s) (readings t) f;
+      lessens = lessens_by s.settings.monitors mon 0 (readings s) (readings t) f;
       rounds = ap (λ (u : StoryView). rounds u.settings u.journal) (sym x.2) ∙ plus_none (rounds s.settings s.journal);
     }
 
@@ -95,11 +96,12 @@ unfolding next_of
 down_settles s t mon h is =
     let g = guarded (is_monitor s mon) (moved s (down_at mon)) t is in
     let x = mapped_some (λ frame. with_trail s mon (after_take (setup_of s mon) (trail_of s mon) frame)) (next_down s mon) t g.1 in
+    let f = takes_fall s.settings.monitors mon (readings s) (readings t) (down_fits s t mon h is) in
     record {
       opened = 0;
       settings = ap (λ (u : StoryView). u.settings) (sym x.2);
-      lowers = takes_lower s.settings.monitors mon (readings s) (readings t) (down_fits s t mon h is);
-      lessens = takes_lessen s.settings.monitors mon (readings s) (readings t) (down_fits s t mon h is);
+      lowers = lowers_by s.settings.monitors mon 0 (readings s) (readings t) f;
+      lessens = lessens_by s.settings.monitors mon 0 (readings s) (readings t) f;
       rounds = ap (λ (u : StoryView). rounds u.settings u.journal) (sym x.2) ∙ plus_none (rounds s.settings s.journal);
     }
 
@@ -171,10 +173,7 @@ more_rounds a b c p q r o x y z = omega (arith, x, y, z)
 none_more : (a : ℕ) → 0 + a ≤ a
 none_more a = omega arith
 
-same_left : (a : ℕ) → a ≤ a
-same_left a = omega arith
-
-short_by : (n a b m : ℕ) → n + a ≤ b → b ≤ 87 * m → n ≤ 87 * m
+pub short_by : (n a b m : ℕ) → n + a ≤ b → b ≤ 87 * m → n ≤ 87 * m
 short_by n a b m x y = omega (arith, x, y)
 
 each_by : (n a b : ℕ) → n + a ≤ b → b ≤ 87 → n ≤ 87
@@ -211,7 +210,7 @@ run_from s t e events (Some u) some is rest = rest u some is
 pub run_settles : (s t : StoryView) (events : List Event) → IsStory s → list_all is_settling events ≡ true → after (Some s) events ≡ Some t → IsSettled s t (length events)
 run_settles s t [] h of is =
     let same : s ≡ t = cc in
-    subst (λ u. IsSettled s u 0) same (record { settings = refl; energy = none_more (energy_of_all s.settings.monitors (readings s)); left = same_left (rounds s.settings s.journal + rounds_left s.settings.monitors (readings s)) })
+    subst (λ u. IsSettled s u 0) same (record { settings = refl; energy = none_more (energy_of_all s.settings.monitors (readings s)); left = le_refl (rounds s.settings s.journal + rounds_left s.settings.monitors (readings s)) })
 run_settles s t (e ∷ events) h of is =
     let both = and_parts (is_settling e) (list_all is_settling events) of in
     run_from s t e events (next_of s e) refl is (λ u some rest. first_then s u t (monitor_of e) (length events) (event_settles s u e h both.0 some) (run_settles u t events (next_is_story s u e h some) both.1 rest))

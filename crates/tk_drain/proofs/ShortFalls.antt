@@ -2,25 +2,18 @@
 use Rattle.tk_frames.specs.declared.frame.Frame.TheVariants as f
 use Rattle.std.proofs.Common.{◌≡◌, ℕ, ◌+◌, ◌≤◌, ◌&&◌, ◌==◌, ℤ, pos, ◌+ℤ◌, ◌≤ℤ◌, true, false, not, List, [], ◌∷◌, ◌++◌, length, map, Contains, Option, None, refl, sym, ap, ◌∙◌, subst, arith, append-nil, inl, inr}
 use Rattle.std.specs.Prelude.{filter, int_le, unwrap_or, if◌then◌else◌}
-use Rattle.std.specs.List.{list_all, range_with_len}
 use Rattle.std.proofs.lemmas.Bool.{and_right, cases_eq, eq-eqb, ne_eqb, le-ltb}
 use Rattle.std.proofs.lemmas.Int.{ints}
-use Rattle.std.proofs.lemmas.List.{length-map}
-use Rattle.std.proofs.lemmas.List.FromFn.{length-range_with_len}
-use Rattle.tk_base.specs.Objects.{objects, is_in}
+use Rattle.tk_base.specs.Objects.{objects}
 use Rattle.tk_base.specs.Pairs.{objects_of}
 use Rattle.tk_base.specs.Settings.{Setup}
 use Rattle.tk_base.specs.declared.ids.Mon.{Mon}
-use Rattle.tk_border.proofs.RisingLemmas.{is_in-filter}
 use Rattle.tk_frames.specs.Assigns.{Assign}
 use Rattle.tk_frames.specs.declared.frame.Frame.{Frame}
-use Rattle.tk_rows.specs.Factors.{Grid}
 use Rattle.tk_alloc.specs.declared.reported.Reported.{Reported}
-use Rattle.tk_alloc.specs.Parts.{leeway, value_of}
-use Rattle.tk_alloc.specs.Resolving.{PassesShortTest, round_parts}
+use Rattle.tk_alloc.specs.Parts.{value_of}
 use Rattle.tk_alloc.proofs.LeewayLemmas.{value_put}
-use Rattle.tk_alloc.proofs.MemberLemmas.{contained_is_in, is_in_contained, outside_is_not_in}
-use Rattle.tk_journal.specs.Deciding.{passes_short_test, short_decides}
+use Rattle.tk_journal.specs.Deciding.{short_decides}
 use Rattle.tk_journal.specs.Laws.{IsMonitor}
 use Rattle.tk_journal.specs.Legal.{Opening, start}
 use Rattle.tk_journal.specs.Links.{frames_to}
@@ -37,7 +30,7 @@ use Rattle.tk_journal.proofs.Orderly.{Row, open_named, sends}
 use Rattle.tk_journal.proofs.Pieces.{got_assigns}
 use Rattle.tk_journal.proofs.Same.{open_same}
 use Rattle.tk_journal.proofs.SoundLemmas.{legal_firm}
-use Rattle.tk_journal.proofs.Standing.{all_holds, object_of}
+use Rattle.tk_journal.proofs.Standing.{object_of}
 use Rattle.tk_journal.proofs.Tables.{rows_count, table_size}
 use Rattle.tk_journal.proofs.Tuning.{force_limits}
 use Rattle.tk_journal.proofs.Turning.{closed_got}
@@ -57,7 +50,7 @@ use Rattle.tk_journal.proofs.AskedLemmas.{named_times}
 use Rattle.tk_journal.proofs.GrowLemmas.{with_got}
 use Rattle.tk_journal.proofs.SentLemmas.{flag}
 use Rattle.tk_story.proofs.JoinLemmas.{under_the_last}
-use Rattle.tk_journal.proofs.LevelledLemmas.{short_levelled, short_sent}
+use Rattle.tk_journal.proofs.LevelledLemmas.{short_levelled, short_sent, count_levels}
 use Rattle.tk_alloc.proofs.MendLemmas.{short_mends}
 use Rattle.tk_drain.proofs.PresentLemmas.{objects_asked, speaks_of_present}
 use Rattle.tk_story.specs.Story.{IsStory, StoryView, setup_of, trail_of}
@@ -69,23 +62,12 @@ use Rattle.tk_drain.proofs.ReadLemmas.{local_own}
 use Rattle.tk_drain.proofs.TurnReads.{Turning, batch_length, field_by, goes_by, mid, same_mid, stops_count, strained_by, turned, turns_by, wide_by, wide_got, wide_same}
 use Rattle.tk_drain.proofs.TurnFalls.{next_sent, report_strains}
 use Rattle.tk_drain.proofs.AssignFalls.{assigned_once, renewed_by}
+use Rattle.tk_journal.proofs.Ending.{passed}
 
 -- ---- the short test
 
 at_most : (a b : ℤ) → int_le a b ≡ true → a ≤ℤ b
 at_most a b e = omega (arith, ints, e)
-
-passed : (setup : Setup) (grid : Grid) (present : List ℕ) (report : Reported) → passes_short_test setup grid present report ≡ true → PassesShortTest setup grid present report
-unfolding passes_short_test
-passed setup grid present report test t o in' out of =
-    let parts = round_parts setup grid present present (objects_of report.values) (report ∷ []) in
-    let failed = filter (λ q. not (is_in present q)) (objects_of report.values) in
-    let o_failed : Contains failed o = is_in_contained failed o
-    (is_in-filter (λ q. not (is_in present q)) (objects_of report.values) o
-    ∙ ap (λ b. b && not (is_in present o)) (contained_is_in (objects_of report.values) o of)
-    ∙ ap not (outside_is_not_in present o out)) in
-    let for_t = all_holds (λ q. list_all (λ p. int_le (leeway grid parts p) (leeway grid parts q)) failed) present test t in' in
-    at_most (leeway grid parts o) (leeway grid parts t) (all_holds (λ p. int_le (leeway grid parts p) (leeway grid parts t)) failed for_t o o_failed)
 
 -- ---- the values of a Report under the last number are the present ones
 
@@ -101,10 +83,6 @@ report_values o j mon setup trail border failed values h in' present q of =
     let asked : Contains (resolution_at setup x) q = subst (λ xs. Contains xs q) (ap objects_of said.values_is ∙ objects_asked (value_of_object setup x) (resolution_at setup x)) of in
     let read : value_of values q ≡ value_of_object setup x q = ap (λ vs. value_of vs q) said.values_is ∙ ap (λ (v : Option ℤ). unwrap_or v (pos 0)) (value_put (value_of_object setup x) (resolution_at setup x) q asked) in
     sym (value-same setup x trail (record { places = now.places; assigns = now.assigns }) q) ∙ sym read
-
-pub level_count : (n : ℕ) (h : ℕ → ℤ) → length (map h (objects n)) ≡ n
-unfolding objects
-level_count n h = length-map (range_with_len 1 n) h ∙ length-range_with_len 1 n
 
 -- ---- mended
 
@@ -132,7 +110,7 @@ short_now s from border failed values h m none in' test present =
       takes = over.takes;
       test = passed (in_force st j) (table_at st j) (members_at j) report test;
       some = (let a = firm.standing.chosen.count in let b = limits.some_member in omega (arith, a, b));
-      count = level_count st.objects (λ o. value_of_object setup trail o +ℤ Rattle.tk_journal.specs.Readings.factor mon j o) ∙ sym (rows_count st j);
+      count = count_levels st.objects (λ o. value_of_object setup trail o +ℤ Rattle.tk_journal.specs.Readings.factor mon j o) ∙ sym (rows_count st j);
       positive = λ t found. (object_of st (members_at j) (members_at j) t firm.standing.chosen.ascends firm.standing.chosen.within found).from_one;
       now = speaks_of_present (start st) j mon setup trail number border failed values linked in' refl present;
       levelled = short_levelled st j report st.objects (λ o. value_of_object setup trail o) (report_values (start st) j mon setup trail border failed values linked in' present);

@@ -54,10 +54,6 @@ abbrev pub is_a_report : Frame → Bool
 is_a_report (f.Report seq border failed values) = true
 is_a_report frame = false
 
-report_is : (setup : MonitorSetup) (x : List Entry) → is_a_report (report_at setup x) ≡ true
-unfolding report_at
-report_is setup x = refl
-
 pub report_not : (setup : MonitorSetup) (x : List Entry) → is_settled (report_at setup x) ≡ false
 unfolding report_at
 report_not setup x = refl

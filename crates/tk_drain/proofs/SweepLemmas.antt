@@ -1,7 +1,7 @@
 -- Sweeps: each moves something, or nothing can move.
-use Rattle.std.proofs.Common.{◌≡◌, ℕ, suc, zero, ◌+◌, ◌<◌, ◌≤◌, Bool, true, List, ◌++◌, map, refl, sym, ◌∙◌, subst, arith, inl, inr}
+use Rattle.std.proofs.Common.{◌≡◌, ℕ, suc, zero, ◌+◌, ◌<◌, ◌≤◌, Bool, true, List, ◌++◌, map, refl, sym, ◌∙◌, arith}
 use Rattle.std.specs.List.{list_all, range_with_len}
-use Rattle.std.proofs.lemmas.Bool.{and_parts, and_from, cases_eq}
+use Rattle.std.proofs.lemmas.Bool.{and_parts, and_from}
 use Rattle.std.proofs.lemmas.List.Folds.{list_all-append}
 use Rattle.tk_base.specs.Settings.{Setup}
 use Rattle.tk_journal.specs.Readings.{monitors}
@@ -11,6 +11,7 @@ use Rattle.tk_world.specs.Events.{CanOnlyChange, check_at, down_at, next_of, up_
 use Rattle.tk_drain.specs.Drive.{sweep_events}
 use Rattle.tk_drain.specs.Settling.{is_settling}
 use Rattle.tk_drain.proofs.KeepLemmas.{is_idle, idle_none}
+use Rattle.tk_drain.proofs.EndLemmas.{none_more}
 
 -- ---- tests of the events of a leg
 
@@ -20,17 +21,11 @@ each_true p make a (suc k) each =
     and_from (p (make a)) (list_all p (map make (range_with_len (a + 1) k))) (each a (omega arith) (omega arith))
     (each_true p make (a + 1) k (λ q low high. each q (omega (arith, low)) (omega (arith, high))))
 
-at_next : (P : ℕ → Type 0) (a k : ℕ) → P a → ((q : ℕ) → a + 1 ≤ q → q < a + 1 + k → P q) → (q : ℕ) → a ≤ q → q < a + suc k → P q
-at_next P a k here rest q low high = elim (cases_eq a q) [
-  | inl same ↦ subst P same here
-  | inr apart ↦ rest q (omega (arith, low, apart)) (omega (arith, high))
-]
-
 pub true_each : (p : Event → Bool) (make : ℕ → Event) (a k : ℕ) → list_all p (map make (range_with_len a k)) ≡ true → (q : ℕ) → a ≤ q → q < a + k → p (make q) ≡ true
 true_each p make a zero all = λ q low high. absurd (omega (arith, low, high))
 true_each p make a (suc k) all =
     let both = and_parts (p (make a)) (list_all p (map make (range_with_len (a + 1) k))) all in
-    at_next (λ q. p (make q) ≡ true) a k both.0 (true_each p make (a + 1) k both.1)
+    none_more (λ q. p (make q) ≡ true) a k both.0 (true_each p make (a + 1) k both.1)
 
 pub three_true : (p : Event → Bool) (xs ys zs : List Event) → list_all p xs ≡ true → list_all p ys ≡ true → list_all p zs ≡ true → list_all p (xs ++ ys ++ zs) ≡ true
 three_true p xs ys zs x y z =

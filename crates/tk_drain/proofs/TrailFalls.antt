@@ -35,9 +35,9 @@ use Rattle.tk_world.specs.Events.{moved, next_down, next_of, with_trail, is_moni
 use Rattle.tk_story.specs.Story.{IsStory, StoryView, setup_of, trail_of}
 use Rattle.tk_story.proofs.DownLemmas.{down_is_taken}
 use Rattle.tk_story.proofs.QuietLemmas.{joined}
-use Rattle.tk_world.proofs.StepLemmas.{next_is}
+use Rattle.tk_world.proofs.StepLemmas.{next_is, mapped_some, guarded, monitor_is}
 use Rattle.tk_drain.specs.Reads.{levels_then, local_of, readings}
-use Rattle.tk_drain.proofs.ReadLemmas.{front_length, guarded, local_own, mapped_some, monitor_is, others_same, own_now}
+use Rattle.tk_drain.proofs.ReadLemmas.{front_length, local_own, others_same, own_now}
 
 or_false : (a : Bool) → (a || false) ≡ a
 or_false true = refl

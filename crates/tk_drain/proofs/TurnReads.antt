@@ -4,7 +4,7 @@ use Rattle.tk_journal.specs.declared.noted.Noted.TheVariants as n
 use Rattle.std.proofs.Common.{◌≡◌, ℕ, suc, zero, ◌+◌, ◌-◌, ◌*◌, ◌≤◌, ◌<◌, ◌&&◌, ◌||◌, ◌==◌, ◌+ℤ◌, Bool, true, false, not, List, [], ◌∷◌, ◌++◌, length, map, Option, Some, None, refl, sym, ap, ◌∙◌, subst, arith, append_assoc, append-nil, inl, inr}
 use Rattle.std.specs.Prelude.{nat_lt, is_some, if◌then◌else◌, ◌⊎◌}
 use Rattle.std.specs.List.{cons_option, list_all, list_any, range_with_len}
-use Rattle.std.proofs.lemmas.Bool.{and_parts, cases_Bool, cases_eq, eq-eqb, ne_eqb, false≢true, true≢false, lt-ltb, ltb-true, or_left, or_right}
+use Rattle.std.proofs.lemmas.Bool.{and_parts, cases_Bool, eq-eqb, ne_eqb, false≢true, true≢false, lt-ltb, ltb-true, or_left, or_right, not-true}
 use Rattle.std.proofs.lemmas.List.{length-append}
 use Rattle.std.proofs.lemmas.List.Folds.{list_any-append}
 use Rattle.tk_base.specs.Objects.{objects, is_in}
@@ -14,7 +14,7 @@ use Rattle.tk_border.proofs.RisingLemmas.{Rises}
 use Rattle.tk_frames.specs.Assigns.{Assign, row}
 use Rattle.tk_frames.specs.declared.frame.Frame.{Frame}
 use Rattle.tk_journal.specs.Laws.{IsMonitor}
-use Rattle.tk_journal.specs.Legal.{IsAccepted, inputs_of, start, turn_of}
+use Rattle.tk_journal.specs.Legal.{IsAccepted, start, turn_of}
 use Rattle.tk_journal.specs.Links.{frames_from, frames_to, got_from}
 use Rattle.tk_journal.specs.Publishing.{closing, is_due, is_last, publication_at, stops}
 use Rattle.tk_journal.specs.Readings.{Progress, answer_of, asked_of, assigns_sent, assigns_to, factor, is_calm, is_open, is_stop, is_stopped, last_round, members_at, monitors, settled_in, settled_of}
@@ -42,10 +42,12 @@ use Rattle.tk_journal.proofs.StreakLemmas.{streak_got}
 use Rattle.tk_world.specs.Events.{is_monitor, with_turn}
 use Rattle.tk_story.specs.Story.{IsStory, StoryView, setup_of, trail_of}
 use Rattle.tk_story.proofs.QuietLemmas.{joined}
-use Rattle.tk_world.proofs.StepLemmas.{NextIs}
+use Rattle.tk_world.proofs.StepLemmas.{NextIs, no_input, monitor_is}
 use Rattle.tk_journal.proofs.WholeLemmas.{turn_is}
 use Rattle.tk_drain.specs.Reads.{levels_then, local_of, nobody, reading, readings}
-use Rattle.tk_drain.proofs.ReadLemmas.{local_own, monitor_is}
+use Rattle.tk_drain.proofs.ReadLemmas.{local_own}
+use Rattle.tk_world.proofs.EnabledLemmas.{there_is}
+use Rattle.tk_drain.proofs.MoveLemmas.{all_at}
 
 -- a turn of a story
 pub record Turning (s : StoryView) (from : Mon) (frame : Frame) : Type 0 where
@@ -154,13 +156,6 @@ stop_now s from frame count (inr (o, is)) = inr (o, ap is_stopped (mid_is s from
 
 -- ---- frames from
 
-no_input : (mon : ℕ) (xs : List Noted) → inputs_of xs ≡ [] → frames_from mon xs ≡ []
-no_input mon [] none = refl
-no_input mon (n.Got from frame ∷ xs) none = absurd (cc)
-no_input mon (n.Sent to frame ∷ xs) none = no_input mon xs none
-no_input mon (n.Published p ∷ xs) none = no_input mon xs none
-no_input mon (n.Tuned k epsilon ∷ xs) none = absurd (cc)
-
 accepted_of : (s : StoryView) (from : Mon) (frame : Frame) → Turning s from frame → IsAccepted s.settings s.journal (n.Got from frame)
 accepted_of s from frame t = (t.monitor.from_one, t.monitor.within, t.none)
 
@@ -234,36 +229,19 @@ turns_by s from frame t sent few =
 
 -- ---- the streak, and calm turns
 
-pub all_at : (p : ℕ → Bool) (a k at : ℕ) → a ≤ at → at < a + k → list_all p (range_with_len a k) ≡ true → p at ≡ true
-all_at p a zero at low high h = absurd (omega (arith, low, high))
-all_at p a (suc k) at low high h =
-    let both = and_parts (p a) (list_all p (range_with_len (a + 1) k)) h in
-    elim (cases_eq a at) [
-      | inl e ↦ subst (λ q. p q ≡ true) e both.0
-      | inr ne ↦ all_at p (a + 1) k at (omega (arith, low, ne)) (omega (arith, high)) both.1
-    ]
-
 pub none_any : (p : ℕ → Bool) (a k : ℕ) → ((mon : ℕ) → a ≤ mon → mon < a + k → p mon ≡ false) → list_any p (range_with_len a k) ≡ false
 none_any p a zero each = refl
 none_any p a (suc k) each = ap (λ b. b || list_any p (range_with_len (a + 1) k)) (each a (omega arith) (omega arith)) ∙ none_any p (a + 1) k (λ mon low high. each mon (omega (arith, low)) (omega (arith, high)))
 
-not_is : (b : Bool) → not b ≡ true → b ≡ false
-not_is true h = absurd (false≢true h)
-not_is false h = refl
-
-some_of : {X : Type 0} (o : Option X) → is_some o ≡ true → (x : X) × (o ≡ Some x)
-some_of None is = absurd (false≢true is)
-some_of (Some x) is = (x, refl)
-
 pub calm_closed : (s : Setup) (j : List Noted) → is_calm s j ≡ true → is_open s j ≡ false
 unfolding is_calm
-calm_closed s j is = not_is (is_open s j) (and_parts (not (is_open s j)) (list_all (λ mon. is_some (settled_of mon j)) (monitors s)) is).0
+calm_closed s j is = not-true (is_open s j) (and_parts (not (is_open s j)) (list_all (λ mon. is_some (settled_of mon j)) (monitors s)) is).0
 
 pub calm_settled : (s : Setup) (j : List Noted) (mon : ℕ) → IsMonitor s mon → is_calm s j ≡ true → (p : Progress) × (settled_in (answer_of mon j) ≡ Some p)
 unfolding is_calm
 calm_settled s j mon m is =
     let each = (and_parts (not (is_open s j)) (list_all (λ q. is_some (settled_in (answer_of q j))) (monitors s)) is).1 in
-    some_of (settled_in (answer_of mon j)) (all_at (λ q. is_some (settled_in (answer_of q j))) 1 s.monitors mon m.from_one (let w = m.within in omega (arith, w)) each)
+    there_is (settled_in (answer_of mon j)) (all_at (λ q. is_some (settled_in (answer_of q j))) 1 s.monitors mon m.from_one (let w = m.within in omega (arith, w)) each)
 
 -- where a story's journal is calm and all are present nobody is strained
 pub calm_sound : (s : StoryView) → IsStory s → is_calm s.settings s.journal ≡ true → all_present s.settings.monitors (readings s) ≡ true → any_strained s.settings.monitors (readings s) ≡ false

@@ -9,22 +9,18 @@ use Rattle.tk_journal.specs.Links.{frames_from}
 use Rattle.tk_journal.specs.Turns.{demanded}
 use Rattle.tk_journal.proofs.LawLemmas.{one_less, orderly}
 use Rattle.tk_trail.specs.Readings.{sent_by}
-use Rattle.tk_drain.specs.Moves.{Lessens, Readings}
+use Rattle.tk_drain.specs.Moves.{Readings}
 use Rattle.tk_journal.specs.Shapes.{Shape}
 use Rattle.tk_journal.specs.Shapes.Shape.{Plain, Short, Wide, Full, LoneEnd, LoneWide, EndFull, EndOver, EndWide}
-use Rattle.tk_drain.proofs.MoveLemmas.{ends_lessens, lone_lessens, lone_opens_lessens, next_lessens, opens_lessens, plain_lessens, short_lessens}
-use Rattle.tk_journal.proofs.ShapeLemmas.{shape}
+use Rattle.tk_drain.proofs.MoveLemmas.{FallsBy, ends_falls, lone_falls, lone_opens_falls, next_falls, opens_falls, plain_falls, short_falls}
 use Rattle.tk_world.specs.Events.{is_monitor, moved, next_of, next_up, with_turn, up_at}
 use Rattle.tk_story.specs.Story.{IsStory, StoryView, setup_of, trail_of}
 use Rattle.tk_story.proofs.QuietLemmas.{joined, setup_is}
-use Rattle.tk_world.proofs.StepLemmas.{next_is, next_is_story}
+use Rattle.tk_world.proofs.StepLemmas.{next_is, next_is_story, mapped_some, guarded, monitor_is}
 use Rattle.tk_story.proofs.UpLemmas.{up_is_taken}
 use Rattle.tk_drain.specs.Fits.{Fits, FitsOne}
 use Rattle.tk_drain.specs.Fits.Fits.{IsPlain, IsShort, Opens, Ends, OpensNext, Lone, LoneOpens}
 use Rattle.tk_drain.specs.Reads.{readings}
-use Rattle.tk_drain.specs.Settling.{Lowers}
-use Rattle.tk_drain.proofs.LowerLemmas.{ends_lowers, lone_lowers, lone_opens_lowers, next_lowers, opens_lowers, plain_lowers, short_lowers}
-use Rattle.tk_drain.proofs.ReadLemmas.{guarded, mapped_some, monitor_is}
 use Rattle.tk_drain.proofs.TurnReads.{Turning, mid, stops_count, turned}
 use Rattle.tk_drain.proofs.TurnFalls.{end_over_fits, full_fits, lone_wide_fits, plain_fits, wide_fits}
 use Rattle.tk_drain.proofs.AssignFalls.{end_full_fits, lone_fits}
@@ -73,28 +69,12 @@ up_step s t mon h is =
     let after = next_is_story s t (up_at mon) h is in
     record { frame = x.0; turning = turning s mon x.0 h (monitor_is s mon g.0) x.1 (subst IsStory (sym x.2) after); is = x.2 }
 
-pub up_fits : (s t : StoryView) (mon : ℕ) → IsStory s → next_of s (up_at mon) ≡ Some t → FitsOne s.settings.monitors mon (readings s) (readings t)
-up_fits s t mon h is =
-    let u = up_step s t mon h is in
-    let from : Mon = record { 0 = mon } in
-    subst (λ x. FitsOne s.settings.monitors mon (readings s) (readings x)) u.is (fits_by s from u.frame u.turning (shape s.settings s.journal from u.frame u.turning.monitor u.turning.none))
-
-pub fits_lessen : (m at opened : ℕ) (r r' : Readings) → Fits m at r r' opened → Lessens m opened r r'
-fits_lessen m at zero r r' (IsPlain stops x) = plain_lessens m at stops r r' x
-fits_lessen m at zero r r' (IsShort stops sent x) = short_lessens m at stops r r' sent x
-fits_lessen m at (suc zero) r r' (Opens stops sent x) = opens_lessens m at stops r r' sent x
-fits_lessen m at zero r r' (Ends stops sent x) = ends_lessens m at stops r r' sent x
-fits_lessen m at (suc zero) r r' (OpensNext stops sent x) = next_lessens m at stops r r' sent x
-fits_lessen m at (suc zero) r r' (Lone stops sent x) = lone_lessens m at stops r r' sent x
-fits_lessen m at (suc (suc zero)) r r' (LoneOpens stops sent x) = lone_opens_lessens m at stops r r' sent x
-fits_lessen m at (suc (suc (suc opened))) r r' x = elim x [ ]
-
-pub fits_lower : (m at opened : ℕ) (r r' : Readings) → Fits m at r r' opened → Lowers m at r r'
-fits_lower m at zero r r' (IsPlain stops x) = plain_lowers m at stops r r' x
-fits_lower m at zero r r' (IsShort stops sent x) = short_lowers m at stops r r' sent x
-fits_lower m at (suc zero) r r' (Opens stops sent x) = opens_lowers m at stops r r' sent x
-fits_lower m at zero r r' (Ends stops sent x) = ends_lowers m at stops r r' sent x
-fits_lower m at (suc zero) r r' (OpensNext stops sent x) = next_lowers m at stops r r' sent x
-fits_lower m at (suc zero) r r' (Lone stops sent x) = lone_lowers m at stops r r' sent x
-fits_lower m at (suc (suc zero)) r r' (LoneOpens stops sent x) = lone_opens_lowers m at stops r r' sent x
-fits_lower m at (suc (suc (suc opened))) r r' x = elim x [ ]
+pub fits_fall : (m at opened : ℕ) (r r' : Readings) → Fits m at r r' opened → FallsBy m at opened r r'
+fits_fall m at zero r r' (IsPlain stops x) = plain_falls m at stops r r' x
+fits_fall m at zero r r' (IsShort stops sent x) = short_falls m at stops r r' sent x
+fits_fall m at (suc zero) r r' (Opens stops sent x) = opens_falls m at stops r r' sent x
+fits_fall m at zero r r' (Ends stops sent x) = ends_falls m at stops r r' sent x
+fits_fall m at (suc zero) r r' (OpensNext stops sent x) = next_falls m at stops r r' sent x
+fits_fall m at (suc zero) r r' (Lone stops sent x) = lone_falls m at stops r r' sent x
+fits_fall m at (suc (suc zero)) r r' (LoneOpens stops sent x) = lone_opens_falls m at stops r r' sent x
+fits_fall m at (suc (suc (suc opened))) r r' x = elim x [ ]

@@ -49,15 +49,16 @@ use Rattle.tk_journal.proofs.GatheredLemmas.{gathered_are_fresh, got_gathered}
 use Rattle.tk_drain.proofs.GivenLemmas.{values_of_present}
 use Rattle.tk_journal.proofs.GrowLemmas.{with_got}
 use Rattle.tk_story.proofs.JoinLemmas.{front_has}
-use Rattle.tk_journal.proofs.LevelledLemmas.{levels_by, wide_levelled}
+use Rattle.tk_journal.proofs.LevelledLemmas.{levels_by, wide_levelled, count_levels}
 use Rattle.tk_alloc.proofs.MendLemmas.{wide_mends}
 use Rattle.tk_story.specs.Story.{StoryView, setup_of, trail_of}
 use Rattle.tk_story.proofs.QuietLemmas.{joined}
 use Rattle.tk_drain.specs.Reads.{levels_then, local_of, readings}
 use Rattle.tk_drain.proofs.ReadLemmas.{local_own}
-use Rattle.tk_drain.proofs.TurnReads.{Turning, all_at, goes_by, got_more, mid, none_any, same_mid, stops_count, strained_by, turned, turns_by}
+use Rattle.tk_drain.proofs.TurnReads.{Turning, goes_by, got_more, mid, none_any, same_mid, stops_count, strained_by, turned, turns_by}
 use Rattle.tk_drain.proofs.AssignFalls.{ending_of, sent_all, values_pass}
-use Rattle.tk_drain.proofs.ShortFalls.{level_count}
+use Rattle.tk_world.proofs.EnabledLemmas.{there_is}
+use Rattle.tk_drain.proofs.MoveLemmas.{all_at}
 
 got_sizes : (s : Setup) (j : List Noted) (from : Mon) (frame : Frame) → AreSized s j → AreSized s (with_got j from frame)
 got_sizes s j from frame z = record {
@@ -66,10 +67,6 @@ got_sizes s j from frame z = record {
 }
 
 -- ---- the reports to a wide round that has ended
-
-some_is : {X : Type 0} (o : Option X) → is_some o ≡ true → (x : X) × (o ≡ Some x)
-some_is None is = absurd (false≢true is)
-some_is (Some x) is = (x, refl)
 
 values_there : (asked : Bool) (values : Option Reported) → asked ≡ true → (asked && not (is_some values)) ≡ false → is_some values ≡ true
 values_there true (Some r) is none = refl
@@ -95,11 +92,11 @@ report_is_values s j mon m wide = ap (λ b. if b then values_of (last_round j) m
 nth_of : (h : ℕ → Option Reported) (a m k : ℕ) (d : Reported) → ((q : ℕ) → a ≤ q → q < a + m → is_some (h q) ≡ true) → k < m → h (a + k) ≡ Some (get_or (filter_map h (range_with_len a m)) k d)
 nth_of h a zero k d each within = absurd (omega (arith, within))
 nth_of h a (suc m) zero d each within =
-    let r = some_is (h a) (each a (omega arith) (omega arith)) in
+    let r = there_is (h a) (each a (omega arith) (omega arith)) in
     let here : a + 0 ≡ a = omega arith in
     ap h here ∙ r.1 ∙ ap (λ (o : Option Reported). Some (get_or (cons_option o (filter_map h (range_with_len (a + 1) m))) 0 d)) (sym r.1)
 nth_of h a (suc m) (suc k) d each within =
-    let r = some_is (h a) (each a (omega arith) (omega arith)) in
+    let r = there_is (h a) (each a (omega arith) (omega arith)) in
     let next : a + suc k ≡ a + 1 + k = omega arith in
     ap h next ∙ nth_of h (a + 1) m k d (λ q low high. each q (omega (arith, low)) (omega (arith, high))) (omega (arith, within))
     ∙ ap (λ (o : Option Reported). Some (get_or (cons_option o (filter_map h (range_with_len (a + 1) m))) (suc k) d)) (sym r.1)
@@ -225,7 +222,7 @@ wide_sound s from frame t v wide a k few present =
       balanced = called.balanced;
       reported = called.reported;
       some = (let x = firm'.standing.chosen.count in let y = (force_limits st j' t.story.limits firm'.tuned).some_member in let z = ap (λ (xs : List ℕ). length xs) a.members in omega (arith, x, y, z));
-      count = level_count inner.objects (λ o. value o +ℤ factor q behind o);
+      count = count_levels inner.objects (λ o. value o +ℤ factor q behind o);
       dealt = λ o some most. wide_levelled st now ms (table_at st now) (wide_parts inner ms reports) reports inner.objects k report value same a.nodes few within self o some most;
     }) in
     ap (λ (l : Local). l.strained) (local_own s' q m)

@@ -10,11 +10,12 @@ use Rattle.tk_story.specs.Kept.{KeptStory}
 use Rattle.tk_story.specs.Story.{StoryView}
 use Rattle.tk_world.specs.Events.{CanOnlyChange, after, check_at, down_at, next_of, raise_at, up_at}
 
--- a story after an event that is kept where it is enabled, and passed over where it is not
+-- a story after an event, by what this leaves: where it leaves nothing, the story as it was
 abbrev pub keep_by : KeptStory → Event → Option StoryView → KeptStory
 keep_by kept event None = kept
 keep_by kept event (Some story) = record { story = story; events = kept.events ++ event ∷ [] }
 
+-- a story after an event that is kept where it is enabled, and passed over where it is not
 unfoldable pub keep : KeptStory → Event → KeptStory
 keep kept event = keep_by kept event (next_of kept.story event)
 
@@ -32,6 +33,7 @@ pub record KeepsFront (events : List Event) (old new : KeptStory) : Type 0 where
   pub is_front : IsFront front events
   pub is : new ≡ keep_all old front
 
+-- a story after a sweep
 abbrev pub swept : KeptStory → KeptStory
 swept kept = keep_all kept (sweep_events kept.story.settings)
 
@@ -45,10 +47,11 @@ pub data BeginsSettling : KeptStory → KeptStory → Type 0 where
   Within : (kept end : KeptStory) (events : List Event) → IsFront events (sweep_events kept.story.settings) → end ≡ keep_all kept events → BeginsSettling kept end
   Beyond : (kept end : KeptStory) → BeginsSettling (swept kept) end → BeginsSettling kept end
 
--- one raise of each part of some logs, monitors ascending and feeders ascending
+-- one raise of each part of a monitor, feeders ascending
 abbrev pub raises_of : LogSet → ℕ → List Event
 raises_of logs mon = map (raise_at mon) (range_with_len 1 (length (parts_of logs.logs mon)))
 
+-- a pass: one raise of each part of some logs, monitors ascending
 abbrev pub pass_of : LogSet → List Event
 pass_of logs = flat_map (raises_of logs) (range_with_len 1 (length logs.logs))
 

@@ -17,12 +17,15 @@ pub record Shared : Type 0 where
   pub stopped : Bool
   pub rounds : ℕ
 
+-- a monitor's own part of its energy: for frames on its links, what is due, old values, and strain
 abbrev pub local_energy : Local → ℕ
 local_energy l = 2 * l.down + l.up + (if l.due then 2 else 0) + (if l.present then 0 else 4) + (if l.strained then 2 else 0)
 
+-- the part that all share: for an open round, for Stop that is not sent, and for each round that is left
 abbrev pub shared_energy : Shared → ℕ
 shared_energy s = (if s.waiting then 4 else 0) + (if s.stopped then 0 else 2) + 6 * s.rounds
 
+-- the energy of a monitor: both parts together
 abbrev pub energy : Shared → Local → ℕ
 energy s l = shared_energy s + local_energy l
 

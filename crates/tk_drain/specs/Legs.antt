@@ -10,12 +10,13 @@ use Rattle.tk_world.specs.declared.moved.Moved.{Moved}
 use Rattle.tk_world.specs.declared.moved.Moved.TheVariants.{Yes, Idle}
 use Rattle.tk_drain.specs.declared.leg.Leg.{Leg}
 
--- the event of a leg for a monitor, and the events of a leg
+-- the event of a leg for a monitor
 abbrev pub leg_at : Leg → ℕ → Event
 leg_at p.Check mon = check_at mon
 leg_at p.Up mon = up_at mon
 leg_at p.Down mon = down_at mon
 
+-- the events of a leg, monitors ascending
 abbrev pub leg_events : Leg → Setup → List Event
 leg_events leg setup = map (leg_at leg) (monitors setup)
 

@@ -11,9 +11,11 @@ pub record Readings : Type 0 where
   pub streak : ℕ
   pub local : ℕ → Local
 
+-- whether at none of m monitors a change was raised since the last Assign to it
 abbrev pub all_present : ℕ → Readings → Bool
 all_present m r = list_all (λ j. (r.local j).present) (range_with_len 1 m)
 
+-- whether any of m monitors is strained
 abbrev pub any_strained : ℕ → Readings → Bool
 any_strained m r = list_any (λ j. (r.local j).strained) (range_with_len 1 m)
 
@@ -27,12 +29,15 @@ left_of false wide true true streak = 1 + (8 - streak)
 left_of false wide true false streak = 0
 left_of false wide false strained streak = 11
 
+-- the rounds left by what is read of m monitors: at most so many can open while nothing is raised
 abbrev pub rounds_left : ℕ → Readings → ℕ
 rounds_left m r = left_of r.waiting r.wide (all_present m r) (any_strained m r) r.streak
 
+-- what the energies of m monitors share, by what is read
 abbrev pub shared_of : ℕ → Readings → Shared
 shared_of m r = record { waiting = r.waiting; stopped = r.stopped; rounds = rounds_left m r }
 
+-- the energy of all of m monitors, by what is read
 abbrev pub energy_of_all : ℕ → Readings → ℕ
 energy_of_all m r = energies m (shared_of m r) r.local
 
@@ -85,6 +90,7 @@ pub record Goes (m fails : ℕ) (r r' : Readings) : Type 0 where
   pub closed : calm ≡ true → r'.waiting ≡ false
   pub sound : calm ≡ true → all_present m r' ≡ true → any_strained m r' ≡ false
 
+-- a turn that sends nothing, or Stop alone, and neither opens nor ends a round
 pub record Plain (m at stops : ℕ) (r r' : Readings) : Type 0 where
   pub turn : Turns m at r r' (λ j. 0) stops
   pub goes : Goes m 0 r r'
@@ -92,6 +98,7 @@ pub record Plain (m at stops : ℕ) (r r' : Readings) : Type 0 where
   pub wide : r'.wide ≡ r.wide
   pub strained : (j : ℕ) → (r'.local j).strained ≡ (r.local j).strained
 
+-- a turn of a short round: one Assign, to the reporter, which is mended where its Report spoke of present values
 pub record Short (m at stops : ℕ) (r r' : Readings) (sent : ℕ → ℕ) : Type 0 where
   pub turn : Turns m at r r' sent stops
   pub one : sent at ≡ 1
@@ -105,6 +112,7 @@ pub record Short (m at stops : ℕ) (r r' : Readings) (sent : ℕ → ℕ) : Typ
   pub report : (r.local at).present ≡ true → (r.local at).strained ≡ true
   pub mended : (r.local at).present ≡ true → (r'.local at).strained ≡ false
 
+-- a turn that opens a round: a wide one, or a full one while the streak is below 8
 pub record Opens (m at stops : ℕ) (r r' : Readings) (sent : ℕ → ℕ) : Type 0 where
   pub turn : Turns m at r r' sent stops
   pub most : (j : ℕ) → sent j ≤ 1
@@ -115,6 +123,7 @@ pub record Opens (m at stops : ℕ) (r r' : Readings) (sent : ℕ → ℕ) : Typ
   pub strained : (j : ℕ) → (r'.local j).strained ≡ (r.local j).strained
   pub report : (r.local at).present ≡ true → (r.local at).strained ≡ true
 
+-- a turn that ends a round, with an Assign to each; where a wide one was told present values, nobody is strained
 pub record Ends (m at stops : ℕ) (r r' : Readings) (sent : ℕ → ℕ) : Type 0 where
   pub turn : Turns m at r r' sent stops
   pub most : (j : ℕ) → sent j ≤ 1
@@ -124,6 +133,7 @@ pub record Ends (m at stops : ℕ) (r r' : Readings) (sent : ℕ → ℕ) : Type
   pub renewed : (j : ℕ) → (r'.local j).present ≡ true
   pub mended : r.wide ≡ true → all_present m r ≡ true → any_strained m r' ≡ false
 
+-- a turn that ends a full round and opens a wide one in place of its Assigns
 pub record OpensNext (m at stops : ℕ) (r r' : Readings) (sent : ℕ → ℕ) : Type 0 where
   pub turn : Turns m at r r' sent stops
   pub most : (j : ℕ) → sent j ≤ 1
@@ -134,6 +144,7 @@ pub record OpensNext (m at stops : ℕ) (r r' : Readings) (sent : ℕ → ℕ) :
   pub same : (j : ℕ) → (r'.local j).present ≡ (r.local j).present
   pub strained : (j : ℕ) → (r'.local j).strained ≡ (r.local j).strained
 
+-- a turn of the one monitor there is: a full round opens, and ends at once
 pub record Lone (m at stops : ℕ) (r r' : Readings) (sent : ℕ → ℕ) : Type 0 where
   pub turn : Turns m at r r' sent stops
   pub most : (j : ℕ) → sent j ≤ 1
@@ -144,6 +155,7 @@ pub record Lone (m at stops : ℕ) (r r' : Readings) (sent : ℕ → ℕ) : Type
   pub renewed : (j : ℕ) → (r'.local j).present ≡ true
   pub report : (r.local at).present ≡ true → (r.local at).strained ≡ true
 
+-- the same where the end of that round opens a wide one in place of its Assigns
 pub record LoneOpens (m at stops : ℕ) (r r' : Readings) (sent : ℕ → ℕ) : Type 0 where
   pub turn : Turns m at r r' sent stops
   pub most : (j : ℕ) → sent j ≤ 1

@@ -14,13 +14,14 @@ use Rattle.tk_drain.specs.Drive.{Finishes, Settles, keep}
 abbrev pub raises : List (Mon × Feeder) → List Event
 raises parts = map (λ (part : Mon × Feeder). raise_at part.0.0 part.1.0) parts
 
--- one raise with its settling, or a part that is at its end
+-- one raise with its settling
 pub record RaisesOne (event : Event) (old new : KeptStory) : Type 0 where
   pub story : StoryView
   pub some : next_of old.story event ≡ Some story
   pub count : ℕ
   pub settles : Settles (keep old event) new count
 
+-- the same where something moved, and else nothing: the part is at its end
 abbrev pub MayRaise : Event → Moved → KeptStory → KeptStory → Type 0
 MayRaise event Yes old new = RaisesOne event old new
 MayRaise event Idle old new = (next_of old.story event ≡ None) × (new ≡ old)

@@ -34,9 +34,11 @@ reading setup trail mon j = record {
 abbrev pub nobody : Local
 nobody = record { down = 0; up = 0; due = false; present = true; strained = false }
 
+-- what is read of a monitor in a story, by its number
 abbrev pub local_of : StoryView → ℕ → Local
 local_of s mon = if is_monitor s mon then reading (setup_of s mon) (trail_of s mon) mon s.journal else nobody
 
+-- all that is read of a story
 abbrev pub readings : StoryView → Readings
 readings s = record {
   waiting = is_open s.settings s.journal;

@@ -18,7 +18,7 @@ is_settling (Down mon) = true
 is_settling (Up mon) = true
 is_settling (Retune tuning) = false
 
--- the monitor whose event it is, and how many of some events are a monitor's
+-- the monitor whose event it is, 0 for a retune
 abbrev pub monitor_of : Event → ℕ
 monitor_of (Raise mon g) = mon.0
 monitor_of (Check mon) = mon.0
@@ -26,6 +26,7 @@ monitor_of (Down mon) = mon.0
 monitor_of (Up mon) = mon.0
 monitor_of (Retune tuning) = 0
 
+-- how many of some events are a monitor's
 abbrev pub events_of : ℕ → List Event → ℕ
 events_of mon events = length (filter (λ e. monitor_of e == mon) events)
 

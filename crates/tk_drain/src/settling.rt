@@ -18,7 +18,8 @@ pub fn energy_is_bounded()
         → energy_of s.settings.monitors (readings s) mon ≤ 87 }
 {}
 
-/// No check that sends, taken frame or turn raises a monitor's energy, each lowers that of its monitor, and it opens no more rounds than it takes from those left.
+/// No check that sends, taken frame or turn raises a monitor's energy, each lowers that of its monitor, and it opens no more
+/// rounds than it takes from those left.
 pub fn each_event_settles()
     ensures { (s t : StoryView) (e : Event) → IsStory s → is_settling e ≡ true → next_of s e ≡ Some t
         → CostsEnergy s t (monitor_of e) }
@@ -50,7 +51,8 @@ pub fn where_nothing_moves_all_is_calm()
     ensures stopped { StoppedMonitorsTookStop }
 {}
 
-/// Where all parts are at their ends, any settling that comes to its end leaves a story that is over: the last publication is at the full cut and holds there, and each monitor took Stop.
+/// Where all parts are at their ends, any settling that comes to its end leaves a story that is over: the last publication is at
+/// the full cut and holds there, and each monitor took Stop.
 pub fn a_settling_at_the_ends_is_over()
     ensures { SettlingAtTheEndsIsOver }
 {}

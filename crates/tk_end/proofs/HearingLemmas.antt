@@ -1,10 +1,10 @@
 -- Frames that are taken one after the other.
-use Rattle.std.proofs.Common.{◌≡◌, ◌≤◌, ◌<◌, min, ℕ, List, [], ◌∷◌, ◌++◌, length, take, ap, sym, ◌∙◌, refl, subst, append_assoc, arith, Option, Some, None}
-use Rattle.std.proofs.lemmas.List.{append-nil, length-append, length-take, take-take, take_all}
+use Rattle.std.proofs.Common.{◌≡◌, min, ℕ, List, [], ◌∷◌, ◌++◌, length, take, ap, sym, ◌∙◌, refl, subst, append_assoc, arith, Option, Some}
+use Rattle.std.proofs.lemmas.List.{append-nil, length-take, take-take, take_all}
 use Rattle.std.proofs.lemmas.Grind.{flat_map-append}
 use Rattle.tk_base.specs.History.{IsFront}
 use Rattle.tk_frames.specs.declared.frame.Frame.{Frame}
-use Rattle.tk_frames.specs.Spelling.{framed, payload, spelling}
+use Rattle.tk_frames.specs.Spelling.{spelling}
 use Rattle.tk_wire.specs.Parse.{HaveSpellings, IsParse, spellings}
 use Rattle.tk_end.specs.Actor.{TakesAll}
 use Rattle.tk_end.specs.Inbox.{Leaves}
@@ -43,19 +43,7 @@ takes_nothing refusal after heard said peer version bytes a = record {
   grown = front_refl (said peer a);
 }
 
--- one frame was taken
-pub takes_one : {A R : Type 0} (refusal : ℕ → Frame → A → Option R) (after : ℕ → Frame → A → A) (heard said : ℕ → A → List Frame) (peer version : ℕ) (frame : Frame) (old new : List ℕ) (a b : A)
-    → Leaves version frame old new → refusal peer frame a ≡ None → b ≡ after peer frame a → heard peer b ≡ heard peer a ++ frame ∷ [] → IsFront (said peer a) (said peer b)
-    → Takes refusal after heard said peer version old new a b
-takes_one refusal after heard said peer version frame old new a b leaves none is more grown = record {
-  frames = frame ∷ [];
-  parse = record { each = (leaves.spelled, tt); parts = leaves.parts ∙ ap (λ xs. xs ++ new) (sym (append-nil (spelling version frame))) };
-  takes = (none, is);
-  more = more;
-  grown = grown;
-}
-
--- more were taken behind them
+-- frames were taken, and more behind them
 pub takes_on : {A R : Type 0} (refusal : ℕ → Frame → A → Option R) (after : ℕ → Frame → A → A) (heard said : ℕ → A → List Frame) (peer version : ℕ) (x y z : List ℕ) (a b c : A)
     → Takes refusal after heard said peer version x y a b → Takes refusal after heard said peer version y z b c → Takes refusal after heard said peer version x z a c
 takes_on refusal after heard said peer version x y z a b c p q = record {
@@ -65,16 +53,6 @@ takes_on refusal after heard said peer version x y z a b c p q = record {
   more = q.more ∙ ap (λ xs. xs ++ q.frames) p.more ∙ append_assoc (heard peer a) p.frames q.frames;
   grown = front_trans (said peer a) (said peer b) (said peer c) p.grown q.grown;
 }
-
-framed_longer : (bytes : List ℕ) → length bytes ≤ length (framed bytes)
-framed_longer bytes = rw length-append (omega arith)
-
--- a frame takes bytes
-pub leaves_less : (version : ℕ) (frame : Frame) (old new : List ℕ) → Leaves version frame old new → length new < length old
-leaves_less version frame old new l =
-    let whole = ap length l.parts ∙ length-append (spelling version frame) new in
-    let some = framed_longer (payload version frame) in
-    omega arith
 
 -- the front is as it was, and so is the actor who refuses it
 pub stops_refused : {A R : Type 0} (refusal : ℕ → Frame → A → Option R) (peer v w : ℕ) (frame : Frame) (rest bytes same : List ℕ) (front : Option Frame) (a b : A) (why : R) → front ≡ Some frame → Leaves v frame bytes rest → refusal peer frame a ≡ Some why → w ≡ v → same ≡ bytes → b ≡ a → IsRefused refusal peer w same front b why

@@ -82,12 +82,13 @@ least_of (h.Refused why) = 0
 least_of (h.Bad fault) = 0
 least_of h.NoMemory = 0
 
--- a hearing of one frame takes one where it ends so, and else none
+-- the actor took one frame, which it does not refuse
 pub record TakesOne {A R : Type 0} (refusal : ℕ → Frame → A → Option R) (after : ℕ → Frame → A → A) (peer : ℕ) (before now : A) : Type 0 where
   pub frame : Frame
   pub accepted : refusal peer frame before ≡ None
   pub taken : now ≡ after peer frame before
 
+-- what a hearing of one frame takes: one where it ends with More or Done, and else none
 abbrev pub TakesOnce : {A R : Type 0} → (ℕ → Frame → A → Option R) → (ℕ → Frame → A → A) → ℕ → A → A → Heard R → Type 0
 TakesOnce refusal after peer before now h.More = TakesOne refusal after peer before now
 TakesOnce refusal after peer before now h.Done = TakesOne refusal after peer before now

@@ -44,11 +44,12 @@ pub record HasSome (unread : List ℕ) : Type 0 where
   pub bytes : List ℕ
   pub stands : HasPayload bytes unread
 
--- bytes at the front that are no frame: the four bytes of a length that none has, or a whole payload that is none's
+-- a whole payload at the front that is no frame's
 pub record IsOddPayload (version : ℕ) (unread odd : List ℕ) : Type 0 where
   pub stands : HasPayload odd unread
   pub no_frame : (frame : Frame) → IsFrame frame → odd ≡ payload version frame → ⊥
 
+-- bytes at the front that are no frame: the four bytes of a length that none has, or such a payload
 abbrev pub IsOdd : ℕ → BadFrame → List ℕ → List ℕ → Type 0
 IsOdd version (BadLength size) unread odd = HasBadLength size odd × (length odd ≡ 4) × (odd ≡ take 4 unread)
 IsOdd version (BadKind code) unread odd = IsOddPayload version unread odd

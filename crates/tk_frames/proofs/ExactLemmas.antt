@@ -14,13 +14,6 @@ pub record IsExact {X : Type 0} (Fact : X → Type 0) (spell : X → List ℕ) (
 pub left_fits : {X : Type 0} {Fact : X → Type 0} {spell : X → List ℕ} {read : List ℕ → Found X} (exact : IsExact Fact spell read) (bytes : List ℕ) (x : X) (rest : List ℕ) → IsBytes bytes → read bytes ≡ Some (x, rest) → IsBytes rest
 left_fits {spell = spell} exact bytes x rest fits e = rest_fits (spell x) rest (subst IsBytes (exact.takes bytes x rest fits e).0 fits)
 
--- no spelling begins another: two at the front of the same bytes are of the same value
-pub one_front : {X : Type 0} {Fact : X → Type 0} {spell : X → List ℕ} {read : List ℕ → Found X} (exact : IsExact Fact spell read) (x y : X) (a b : List ℕ) → Fact x → Fact y → spell x ++ a ≡ spell y ++ b → (x ≡ y) × (a ≡ b)
-one_front {read = read} exact x y a b left right same =
-    let e : Some (x, a) ≡ Some (y, b) = sym (exact.again x a left) ∙ ap read same ∙ exact.again y b right in
-    let p = some_is (x, a) (y, b) e in
-    (ap (λ p. p.0) p, ap (λ p. p.1) p)
-
 -- the same reader for a fact that is the same
 pub exact_fact : {X : Type 0} {Fact Other : X → Type 0} {spell : X → List ℕ} {read : List ℕ → Found X} → ((x : X) → Fact x → Other x) → ((x : X) → Other x → Fact x) → IsExact Fact spell read → IsExact Other spell read
 exact_fact to from exact = record {

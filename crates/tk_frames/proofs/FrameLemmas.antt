@@ -1,7 +1,8 @@
 -- The reader of a frame's fields is exact for them.
 use Rattle.std.proofs.Common.{◌≡◌, ℕ, ◌^◌, ◌<◌, Bool, true, false, cond, ◌&&◌, List, ◌++◌, Some, None, refl, sym, ap, subst, ◌∙◌, arith, inl, inr, ◌⊎◌}
 use Rattle.std.specs.Prelude.{nat_lt}
-use Rattle.std.proofs.lemmas.Bool.{true≢false, cases_lt, ltb-true, lt-ltb}
+use Rattle.std.proofs.lemmas.Bool.{true≢false, cases_lt, ltb-true, lt-ltb, and_parts}
+use Rattle.std.proofs.lemmas.Option.{cond_some}
 use Rattle.tk_frames.specs.declared.frame.Frame.{Frame}
 use Rattle.tk_frames.specs.declared.frame.Frame.TheVariants as f
 use Rattle.tk_frames.specs.declared.kind.Kind.{Kind}
@@ -61,15 +62,11 @@ settled_takes version bytes found fits e = made version k.Settled (λ x. f.Settl
 
 -- ---- a Hello
 
-both_true : (a b : Bool) → (a && b) ≡ true → (a ≡ true) × (b ≡ true)
-both_true true b e = (refl, e)
-both_true false b e = absurd (true≢false (sym e))
-
 hello_tests : (speaks mon : ℕ) → is_hello speaks mon ≡ true → IsHello speaks mon
 hello_tests speaks mon e =
-    let a = both_true (nat_lt 0 speaks && nat_lt speaks 3 && nat_lt 0 mon) (nat_lt mon 65) e in
-    let b = both_true (nat_lt 0 speaks && nat_lt speaks 3) (nat_lt 0 mon) a.0 in
-    let c = both_true (nat_lt 0 speaks) (nat_lt speaks 3) b.0 in
+    let a = and_parts (nat_lt 0 speaks && nat_lt speaks 3 && nat_lt 0 mon) (nat_lt mon 65) e in
+    let b = and_parts (nat_lt 0 speaks && nat_lt speaks 3) (nat_lt 0 mon) a.0 in
+    let c = and_parts (nat_lt 0 speaks) (nat_lt speaks 3) b.0 in
     let some : 0 < speaks = ltb-true 0 speaks c.0 in
     let few : speaks < 3 = ltb-true speaks 3 c.1 in
     let version : (speaks ≡ 1) ⊎ (speaks ≡ 2) = elim (cases_lt speaks 2) [
@@ -96,10 +93,6 @@ hello_decided speaks mon good = go (is_hello speaks mon) refl where
   go true e = hello_tests speaks mon e
   go false e = absurd (good (λ hello. true≢false (sym (hello_passes speaks mon hello) ∙ e)))
 
-if_some : {X : Type 0} (b : Bool) (x y : X) → cond b (Some x) None ≡ Some y → (b ≡ true) × (x ≡ y)
-if_some true x y e = (refl, some_is x y e)
-if_some false x y e = absurd cc
-
 hello_takes : (version : ℕ) (bytes : List ℕ) (found : Frame × List ℕ) → IsBytes bytes → hello_at bytes ≡ Some found → TakesFrame version k.Hello bytes found
 unfolding hello_at
 hello_takes version bytes found fits e =
@@ -107,7 +100,7 @@ hello_takes version bytes found fits e =
     let a = bind_some (both_at (both_at (number_at 1 8) (number_at 1 1)) (number_at 1 4) bytes) (λ x. cond (is_hello x.0.0.1 x.0.1) (Some (f.Hello x.0.0.0 x.0.0.1 (record { 0 = x.0.1 }), x.1)) None) found e in
     let x = a.0.0 in
     let t = exact.takes bytes x a.0.1 fits a.1 in
-    let g = if_some (is_hello x.0.1 x.1) (f.Hello x.0.0 x.0.1 (record { 0 = x.1 }), a.0.1) found a.2 in
+    let g = cond_some (is_hello x.0.1 x.1) (f.Hello x.0.0 x.0.1 (record { 0 = x.1 }), a.0.1) found a.2 in
     subst (TakesFrame version k.Hello bytes) g.1 (record { parts = t.0; frame_is = (t.1.0.0, hello_tests x.0.1 x.1 g.0); kind_is = refl })
 
 -- what was read is a frame with these fields

@@ -3,7 +3,7 @@ use Rattle.std.proofs.Common.{◌≡◌, ℕ, suc, ◌+◌, ◌<◌, ◌≤◌, 
 use Rattle.std.specs.Prelude.{slice_get}
 use Rattle.std.proofs.lemmas.Bool.{cases_lt}
 use Rattle.std.proofs.lemmas.List.{append-nil, drop_all}
-use Rattle.std.proofs.lemmas.Option.{get_or_from_slice_get, slice_get-get_or}
+use Rattle.std.proofs.lemmas.Option.{get_or_from_slice_get, slice_get-get_or, same_Some}
 use Rattle.std.proofs.Math.Seq.{drop-cons}
 use Rattle.tk_frames.specs.Spelling.{groups, number, in_turn, EachInTurn}
 use Rattle.tk_frames.proofs.GroupLemmas.{groups_more}
@@ -36,16 +36,13 @@ facts_left object_of Fact before xs i x within is facts = subst (EachInTurn obje
 abbrev pub EachBelow : {X : Type 0} → ℕ → (X → Type 0) → List X → Type 0
 EachBelow {X = X} i Fact xs = (k : ℕ) (x : X) → k < i → slice_get xs k ≡ Some x → Fact x
 
-one_there : {X : Type 0} (x y : X) → Some x ≡ Some y → x ≡ y
-one_there x y e = cc
-
 -- the same with the item at that place
 pub below_more : {X : Type 0} (Fact : X → Type 0) (xs : List X) (i : ℕ) (x : X) → EachBelow i Fact xs → slice_get xs i ≡ Some x → Fact x → EachBelow (i + 1) Fact xs
 below_more Fact xs i x facts is fact k y below there = elim (cases_lt k i) [
   | inl lt ↦ facts k y lt there
   | inr ge ↦
       let here : i ≡ k = omega arith in
-      let same : x ≡ y = one_there x y (sym is ∙ ap (slice_get xs) here ∙ there) in
+      let same : x ≡ y = same_Some x y (sym is ∙ ap (slice_get xs) here ∙ there) in
       subst Fact same fact
 ]
 

@@ -19,10 +19,12 @@ is_numbered seq (f.Report s border failed values) = s == seq
 is_numbered seq (f.Settled s last places) = s == seq
 is_numbered seq frame = false
 
+-- whether a frame is Values
 abbrev pub is_values : Frame → Bool
 is_values (f.Values round seq border values) = true
 is_values frame = false
 
+-- whether a frame is a Collect
 abbrev pub is_collect : Frame → Bool
 is_collect (f.Collect round asked) = true
 is_collect frame = false

@@ -18,15 +18,17 @@ abbrev pub Found : Type 0 → Type 0
 Found X = Option (X × List ℕ)
 
 infixl 10 ◌>>=◌
+-- what is read next, if something was read
 abbrev pub ◌>>=◌ : {A B : Type 0} → Option A → (A → Option B) → Option B
 (Some x) >>= next = next x
 None >>= next = None
 
--- what a function returned, seen by view, is what reading finds, unless memory ran out
+-- a field was not read: memory ran out, or reading finds nothing
 abbrev pub Fails : {Y : Type 0} → Unread → Option Y → Type 0
 Fails unread.Memory read = ⊤
 Fails unread.Malformed read = read ≡ None
 
+-- what a function returned, seen by view, is what reading finds, unless memory ran out
 abbrev pub Gives : {X Y : Type 0} → (X → Y) → Result X Unread → Option Y → Type 0
 Gives view (Ok x) read = read ≡ Some (view x)
 Gives view (Err e) read = Fails e read
@@ -45,12 +47,15 @@ groups_at limit (b ∷ rest) =
     if high.0 == 0 then None
     else (if nat_lt limit (128 * high.0 + (b - 128)) then None else Some (128 * high.0 + (b - 128), high.1))))
 
+-- a number of a type of so many bytes: these bytes, or its groups in version 2
 unfoldable pub number_at : ℕ → ℕ → List ℕ → Found ℕ
 number_at version size bytes = if version == 1 then bytes_at size bytes else groups_at (256 ^ size - 1) bytes
 
+-- the signed number at this place of 0, -1, 1, -2, 2, .., counted from 0
 abbrev pub unzigzag : ℕ → ℤ
 unzigzag n = if n % 2 == 0 then pos (n / 2) else negsuc (n / 2)
 
+-- a signed number of 16 bytes: in two's complement, or zigzag in version 2
 unfoldable pub signed_at : ℕ → List ℕ → Found ℤ
 signed_at version bytes = do
   n ← number_at version 16 bytes
@@ -60,17 +65,20 @@ signed_at version bytes = do
 abbrev pub object_if : ℕ → ℕ → List ℕ → Found ℕ
 object_if before o rest = if nat_le o before then None else (if nat_lt 4294967295 o then None else Some (o, rest))
 
+-- an object above the one before: itself, or in version 2 how far it is above that
 unfoldable pub object_at : ℕ → ℕ → List ℕ → Found ℕ
 object_at version before bytes = do
   n ← number_at version 4 bytes
   object_if before (if version == 1 then n.0 else before + n.0) n.1
 
+-- an object above the one before, and its number
 unfoldable pub pair_at : ℕ → ℕ → List ℕ → Found (ℕ × ℤ)
 pair_at version before bytes = do
   o ← object_at version before bytes
   z ← signed_at version o.1
   Some ((o.0, z.0), z.1)
 
+-- a place of 4 bytes, whatever stands before it
 abbrev pub place_at : ℕ → ℕ → List ℕ → Found ℕ
 place_at version before bytes = number_at version 4 bytes
 
@@ -88,15 +96,19 @@ counted_at version object_of read bytes = do
   count ← number_at version 4 bytes
   items_at object_of read 0 count.0 count.1
 
+-- ascending objects behind their count
 abbrev pub set_at : ℕ → List ℕ → Found (List ℕ)
 set_at version bytes = counted_at version object_itself (object_at version) bytes
 
+-- pairs behind their count, ascending by object
 abbrev pub pairs_at : ℕ → List ℕ → Found (List (ℕ × ℤ))
 pairs_at version bytes = counted_at version pair_object (pair_at version) bytes
 
+-- places behind their count
 abbrev pub places_at : ℕ → List ℕ → Found (List ℕ)
 places_at version bytes = counted_at version no_object (place_at version) bytes
 
+-- a flag: one byte, 0 or 1
 unfoldable pub flag_at : List ℕ → Found Bool
 flag_at [] = None
 flag_at (zero ∷ rest) = Some (false, rest)
@@ -116,26 +128,33 @@ as_at make read bytes = do
   x ← read bytes
   Some (make x.0, x.1)
 
+-- whether a Hello can name this version and this monitor
 abbrev pub is_hello : ℕ → ℕ → Bool
 is_hello speaks mon = nat_lt 0 speaks && nat_lt speaks 3 && nat_lt 0 mon && nat_lt mon 65
 
+-- the fields of a Hello, in both versions those of version 1: run, version and monitor
 unfoldable pub hello_at : List ℕ → Found Frame
 hello_at bytes = do
   x ← both_at (both_at (number_at 1 8) (number_at 1 1)) (number_at 1 4) bytes
   if is_hello x.0.0.1 x.0.1 then Some (f.Hello x.0.0.0 x.0.0.1 (record { 0 = x.0.1 }), x.1) else None
 
+-- the fields of a Report: sequence number, border, broken objects and values
 unfoldable pub report_at : ℕ → List ℕ → Found Frame
 report_at version bytes = as_at (λ x. f.Report x.0.0.0 x.0.0.1 x.0.1 x.1) (both_at (both_at (both_at (number_at version 8) (signed_at version)) (set_at version)) (pairs_at version)) bytes
 
+-- the fields of a Collect: round and asked objects
 unfoldable pub collect_at : ℕ → List ℕ → Found Frame
 collect_at version bytes = as_at (λ x. f.Collect x.0 x.1) (both_at (number_at version 8) (set_at version)) bytes
 
+-- the fields of Values: round, sequence number, border and values
 unfoldable pub values_at : ℕ → List ℕ → Found Frame
 values_at version bytes = as_at (λ x. f.Values x.0.0.0 x.0.0.1 x.0.1 x.1) (both_at (both_at (both_at (number_at version 8) (number_at version 8)) (signed_at version)) (pairs_at version)) bytes
 
+-- the fields of an Assign: sequence number, members and changed factors
 unfoldable pub assign_at : ℕ → List ℕ → Found Frame
 assign_at version bytes = as_at (λ x. f.Assign x.0.0 x.0.1 x.1) (both_at (both_at (number_at version 8) (set_at version)) (pairs_at version)) bytes
 
+-- the fields of a Settled: sequence number, whether the logs are at their ends, and places
 unfoldable pub settled_at : ℕ → List ℕ → Found Frame
 settled_at version bytes = as_at (λ x. f.Settled x.0.0 x.0.1 x.1) (both_at (both_at (number_at version 8) flag_at) (places_at version)) bytes
 
@@ -162,6 +181,7 @@ answer_of kind whole (Some (frame, [])) = Whole frame whole
 answer_of kind whole (Some (frame, b ∷ rest)) = Bad (BadFields kind)
 answer_of kind whole None = Bad (BadFields kind)
 
+-- the answer to a whole payload whose first byte says this kind, or none
 abbrev pub kind_answer : ℕ → ℕ → ℕ → List ℕ → Option Kind → Next
 kind_answer version whole code bytes None = Bad (BadKind code)
 kind_answer version whole code bytes (Some kind) = answer_of kind whole (fields_at version kind bytes)
@@ -171,6 +191,7 @@ abbrev pub kind_ahead : List ℕ → Option Kind
 kind_ahead [] = None
 kind_ahead (code ∷ bytes) = kind_at code
 
+-- the answer to a whole payload
 unfoldable pub payload_answer : ℕ → List ℕ → Next
 payload_answer version [] = Part
 payload_answer version (code ∷ bytes) = kind_answer version (length bytes + 5) code bytes (kind_at code)

@@ -30,10 +30,11 @@ abbrev pub zigzag : ℤ → ℕ
 zigzag (pos n) = 2 * n
 zigzag (negsuc n) = 2 * n + 1
 
--- a signed number of 16 bytes: in two's complement, or zigzag in version 2
+-- a signed number as one from 0: in two's complement, or zigzag in version 2
 abbrev pub unsigned_form : ℕ → ℤ → ℕ
 unsigned_form version z = if version == 1 then cast_unsigned w128 z else zigzag z
 
+-- a signed number of 16 bytes, in that form
 unfoldable pub signed : ℕ → ℤ → List ℕ
 signed version z = number version 16 (unsigned_form version z)
 
@@ -51,19 +52,23 @@ abbrev pub EachInTurn : {X : Type 0} → (X → ℕ) → (ℕ → X → Type 0) 
 EachInTurn object_of Fact before [] = ⊤
 EachInTurn object_of Fact before (x ∷ xs) = Fact before x × EachInTurn object_of Fact (object_of x) xs
 
--- an object, and a pair, after another object
+-- the object of an item that is one
 abbrev pub object_itself : ℕ → ℕ
 object_itself o = o
 
+-- the object of a pair
 abbrev pub pair_object : ℕ × ℤ → ℕ
 pair_object p = p.0
 
+-- a place has no object, so that each stands after 0
 abbrev pub no_object : ℕ → ℕ
 no_object place = 0
 
+-- a pair after another object: its own object, then its number
 abbrev pub pair : ℕ → ℕ → ℕ × ℤ → List ℕ
 pair version before p = object version before p.0 ++ signed version p.1
 
+-- a place of 4 bytes, whatever stands before it
 abbrev pub place : ℕ → ℕ → ℕ → List ℕ
 place version before p = number version 4 p
 
@@ -71,12 +76,15 @@ place version before p = number version 4 p
 unfoldable pub counted : {X : Type 0} → ℕ → (X → ℕ) → (ℕ → X → List ℕ) → List X → List ℕ
 counted version object_of spell xs = number version 4 (length xs) ++ in_turn object_of spell 0 xs
 
+-- ascending objects behind their count
 abbrev pub set : ℕ → List ℕ → List ℕ
 set version objects = counted version object_itself (object version) objects
 
+-- pairs behind their count, ascending by object
 abbrev pub pairs : ℕ → List (ℕ × ℤ) → List ℕ
 pairs version ps = counted version pair_object (pair version) ps
 
+-- places behind their count
 abbrev pub places : ℕ → List ℕ → List ℕ
 places version ps = counted version no_object (place version) ps
 
@@ -105,6 +113,7 @@ code_of k.Assign = 5
 code_of k.Settled = 6
 code_of k.Stop = 7
 
+-- the payload of a frame: the byte of its kind, and its fields
 abbrev pub payload : ℕ → Frame → List ℕ
 payload version frame = code_of (kind_of frame) ∷ fields version frame
 
@@ -112,34 +121,43 @@ payload version frame = code_of (kind_of frame) ∷ fields version frame
 abbrev pub framed : List ℕ → List ℕ
 framed bytes = big_bytes 4 (length bytes) ++ bytes
 
+-- the bytes of a frame in a version: its payload behind the length of that
 abbrev pub spelling : ℕ → Frame → List ℕ
 spelling version frame = framed (payload version frame)
 
--- each number of a frame is within its type, and each list ascends that has to
+-- an object is above the one before, and within its type
 abbrev pub Above : ℕ → ℕ → Type 0
 Above before o = (before < o) × (o < 2 ^ 32)
 
+-- so is the object of a pair, and its number is within its type
 abbrev pub PairAbove : ℕ → ℕ × ℤ → Type 0
 PairAbove before p = Above before p.0 × FitsSigned w128 p.1
 
+-- a place is within its type, whatever stands before it
 abbrev pub IsPlace : ℕ → ℕ → Type 0
 IsPlace before p = p < 2 ^ 32
 
+-- the count of some items is within its type, and a fact holds of each and of the object before it
 abbrev pub IsCounted : {X : Type 0} → (X → ℕ) → (ℕ → X → Type 0) → List X → Type 0
 IsCounted object_of Fact xs = (length xs < 2 ^ 32) × EachInTurn object_of Fact 0 xs
 
+-- objects that ascend, and are within their type
 abbrev pub IsSet : List ℕ → Type 0
 IsSet objects = IsCounted object_itself Above objects
 
+-- pairs that ascend by object, and are within their types
 abbrev pub ArePairs : List (ℕ × ℤ) → Type 0
 ArePairs ps = IsCounted pair_object PairAbove ps
 
+-- places that are within their type
 abbrev pub ArePlaces : List ℕ → Type 0
 ArePlaces ps = IsCounted no_object IsPlace ps
 
+-- a Hello names a version that there is, and a monitor from 1 to 64
 abbrev pub IsHello : ℕ → ℕ → Type 0
 IsHello speaks mon = IsVersion speaks × (0 < mon) × (mon ≤ 64)
 
+-- each number of a frame is within its type, and each list ascends that has to
 abbrev pub IsFrame : Frame → Type 0
 IsFrame (f.Hello run speaks mon) = (run < 2 ^ 64) × IsHello speaks mon.0
 IsFrame (f.Report seq border failed values) = (seq < 2 ^ 64) × FitsSigned w128 border × IsSet failed × ArePairs values

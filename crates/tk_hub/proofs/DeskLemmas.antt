@@ -8,7 +8,7 @@ use Rattle.tk_base.specs.History.{IsFront}
 use Rattle.tk_base.specs.Settings.{Setup}
 use Rattle.tk_coord.specs.Coordinator.{IsJournal, IsRefusal}
 use Rattle.tk_end.specs.Actor.{AnswersTake, CanBeSent}
-use Rattle.tk_end.specs.declared.actor.Declined.TheVariants.{Refused, NoMemory}
+use Rattle.tk_end.specs.declared.actor.Declined.TheVariants.{NoMemory}
 use Rattle.tk_frames.specs.Carried.{tally}
 use Rattle.tk_frames.specs.Encoding.{IsBadHello}
 use Rattle.tk_frames.specs.Size.{IsShort}
@@ -114,11 +114,7 @@ pub never_memory : (s : Setup) (j : List Noted) (mon : ℕ) (frame : Frame) → 
 unfolding refusal_of
 never_memory s j mon frame is = unless _ _ r.AfterStop (kind_never (shown_by mon j) (known_by s mon j) frame) (λ e. absurd (cc)) is
 
--- a frame that comes back: refused by a test, or by want of memory alone
-pub is_declined : (first : Option CoordRefusal) (why : CoordRefusal) (frame back : Frame) → IsRefusal r.NoMemory first why → (why ≡ r.NoMemory → ⊥) → back ≡ frame → AnswersTake first frame (Err (Refused why back))
-is_declined first why frame back (inl p) other same = absurd (other p.0)
-is_declined first why frame back (inr is) other same = subst (λ o. AnswersTake o frame (Err (Refused why back))) (sym is) (ap (λ g. Err (Refused why g)) same)
-
+-- a frame that comes back for want of memory alone
 pub wants_memory : (first : Option CoordRefusal) (why : CoordRefusal) (frame back : Frame) → IsRefusal r.NoMemory first why → (first ≡ Some r.NoMemory → ⊥) → why ≡ r.NoMemory → back ≡ frame → AnswersTake first frame (Err (NoMemory back))
 wants_memory first why frame back (inl p) never is same = subst (λ o. AnswersTake o frame (Err (NoMemory back))) (sym p.1) (ap NoMemory same)
 wants_memory first why frame back (inr refused) never is same = absurd (never (refused ∙ ap Some is))

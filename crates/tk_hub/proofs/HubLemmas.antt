@@ -1,6 +1,6 @@
 -- What the type of a hub keeps, and what the course leaves of a turn.
 use Rattle.std.proofs.Common.{◌≡◌, ◌<◌, ◌≤◌, ◌+◌, ◌-◌, ℕ, List, [], ◌||◌, nat_lt, length, set, Bool, true, false, Option, Some, None, IfSome, Result, refl, sym, ap, ◌∙◌, subst, arith, inl, inr}
-use Rattle.std.proofs.lemmas.Bool.{false≢true, lt-ltb}
+use Rattle.std.proofs.lemmas.Bool.{false≢true, lt-ltb, or_right}
 use Rattle.std.proofs.lemmas.List.{get_or-set_other, get_or-set_same}
 use Rattle.slab.specs.Slab.{Slab, slab_len}
 use Rattle.tk_base.specs.declared.memory.NoMemory.{NoMemory}
@@ -119,7 +119,7 @@ open_goes t.NoMemory is = refl
 finished_open : (turn : HubTurn) → is_open (course_of turn) ≡ false → turn ≡ t.Finished → ⊥
 finished_open turn shut is = absurd (false≢true (sym shut ∙ ap (λ u. is_open (course_of u)) is))
 
-more_open : (turn : HubTurn) → goes_on turn ≡ false → turn ≡ t.More → ⊥
+pub more_open : (turn : HubTurn) → goes_on turn ≡ false → turn ≡ t.More → ⊥
 more_open turn stops is = absurd (false≢true (sym stops ∙ ap goes_on is))
 
 closed_exchange : {W : Type 0} (turn : HubTurn) (old mid : SeatsView W) (links : List (Option (LinkView W))) (lines : Lines) → is_open (course_of turn) ≡ false → Exchanges turn old mid lines → EachShuts mid.links links → Exchanges turn old (record { run = mid.run; coordinator = mid.coordinator; links = links }) lines
@@ -158,16 +158,12 @@ closed_by old new held shuts none = record { shut = λ place. shut_seat (link_at
 
 -- ---- a wire that failed, or has ended
 
-or_second : (a b : Bool) → b ≡ true → (a || b) ≡ true
-or_second true b is = refl
-or_second false b is = is
-
 some_raised : (n x : ℕ) → x ≡ raised_by 1 n → nat_lt 0 x ≡ true
 some_raised n x is = let some : 0 < x = omega (arith, is) in lt-ltb 0 x some
 
 lost_by : {W : Type 0} (mon : ℕ) (c : CoordinatorView) (x y : LinkView W) → FailsAt mon c x y → is_lost y.counts ≡ true
 lost_by mon c x y (inl faults) = ap (λ b. b || nat_lt 0 y.counts.ends) (some_raised x.counts.faults y.counts.faults faults)
-lost_by mon c x y (inr (ends, early)) = or_second (nat_lt 0 y.counts.faults) (nat_lt 0 y.counts.ends) (some_raised x.counts.ends y.counts.ends ends)
+lost_by mon c x y (inr (ends, early)) = or_right (nat_lt 0 y.counts.faults) (nat_lt 0 y.counts.ends) (some_raised x.counts.ends y.counts.ends ends)
 
 some_lost : {W : Type 0} (c : CoordinatorView) (old new : List (Option (LinkView W))) → SomeFails c old new → SomeLost new
 some_lost c old new f = (f.place + 1, holds_at f.place (f.place + 1) new f.now (λ link. is_lost link.counts ≡ true) refl f.is (lost_by (f.place + 1) c f.before f.now f.fails))
@@ -391,23 +387,3 @@ goes cs.Failed halted none = absurd (cc)
 goes (cs.Refused mon why) halted none = absurd (cc)
 goes (cs.Bad mon fault) halted none = absurd (cc)
 goes cs.WriteFailed halted none = absurd (cc)
-
-some_turn : (x y : HubTurn) → Some x ≡ Some y → x ≡ y
-some_turn x y is = cc
-
--- a closed course is that of the answer on it
-pub course_again : (course : Course) (turn : HubTurn) → answer_of course ≡ Some turn → course ≡ course_of turn
-course_again cs.Open turn answers = absurd (cc)
-course_again cs.Halted turn answers = absurd (cc)
-course_again cs.Failed turn answers = ap course_of (some_turn t.Failed turn answers)
-course_again (cs.Refused mon why) turn answers = ap course_of (some_turn (t.Refused mon why) turn answers)
-course_again (cs.Bad mon fault) turn answers = ap course_of (some_turn (t.Bad mon fault) turn answers)
-course_again cs.WriteFailed turn answers = ap course_of (some_turn t.WriteFailed turn answers)
-
-pub not_write_failed : (course : Course) (turn : HubTurn) → (course ≡ cs.WriteFailed → ⊥) → answer_of course ≡ Some turn → turn ≡ t.WriteFailed → ⊥
-not_write_failed cs.Open turn other answers is = absurd (cc)
-not_write_failed cs.Halted turn other answers is = absurd (cc)
-not_write_failed cs.Failed turn other answers is = absurd (cc)
-not_write_failed (cs.Refused mon why) turn other answers is = absurd (cc)
-not_write_failed (cs.Bad mon fault) turn other answers is = absurd (cc)
-not_write_failed cs.WriteFailed turn other answers is = other refl

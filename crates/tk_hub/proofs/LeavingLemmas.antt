@@ -1,9 +1,10 @@
 -- What came next at some link and was not taken, as the links are left one by one, and what that is of a hub.
-use Rattle.std.proofs.Common.{◌≡◌, ◌<◌, ◌≤◌, ◌+◌, ◌-◌, ◌||◌, Bool, true, false, ℕ, zero, suc, List, [], ◌∷◌, ◌++◌, length, get_or, append-nil, Option, Some, None, IfSome, is_some, refl, sym, ap, ◌∙◌, subst, arith, inl, inr}
+use Rattle.std.proofs.Common.{◌≡◌, ◌<◌, ◌≤◌, ◌+◌, ◌-◌, ◌||◌, true, ℕ, zero, suc, List, [], ◌∷◌, ◌++◌, length, get_or, append-nil, Option, Some, None, IfSome, is_some, refl, sym, ap, ◌∙◌, subst, arith, inl, inr}
 use Rattle.std.specs.Option.{ForSome, option_map}
-use Rattle.std.proofs.lemmas.Bool.{cases_eq, cases_lt}
+use Rattle.std.proofs.lemmas.Bool.{cases_eq, cases_lt, or_right}
 use Rattle.std.proofs.lemmas.List.{get_or_append_left, get_or_default, get_or_past, get_or_push, length_push}
 use Rattle.std.proofs.lemmas.List.Elements.{filter_map-append}
+use Rattle.std.proofs.lemmas.Option.{same_Some}
 use Rattle.slab.specs.Slab.{Slab}
 use Rattle.tk_base.specs.declared.ids.Mon.{Mon}
 use Rattle.tk_coord.specs.Coordinator.{CoordinatorView}
@@ -177,10 +178,6 @@ covered_of counts s h counted place = elim (cases_lt place (length s.links)) [
   | inr past ↦ subst (λ o. IfSome o (CoversHeard counts s.run s.coordinator.journal (place + 1))) (sym (get_or_past s.links place None past)) tt
 ]
 
-or_second : (a b : Bool) → b ≡ true → (a || b) ≡ true
-or_second true b is = refl
-or_second false b is = is
-
 lost_in : {W : Type 0} (counts : W → Counts) (links : List (Option (LinkView W))) (place : ℕ) (link : LinkView W) → AreCounted counts links → link_at links place ≡ Some link → is_lost link.counts ≡ true → is_some_lost counts (wires_of links) ≡ true
 lost_in counts [] place link counted at lost = absurd (cc)
 lost_in counts (None ∷ links) zero link counted at lost = absurd (cc)
@@ -189,7 +186,7 @@ lost_in counts (Some x ∷ links) zero link counted at lost =
     let one : x ≡ link = cc in
     ap (λ b. b || is_some_lost counts (wires_of links)) (ap is_lost (counted zero ∙ ap (λ (l : LinkView _). l.counts) one) ∙ lost)
 lost_in counts (Some x ∷ links) (suc place) link counted at lost =
-    or_second (is_lost (counts x.wire)) (is_some_lost counts (wires_of links)) (lost_in counts links place link (λ i. counted (suc i)) at lost)
+    or_right (is_lost (counts x.wire)) (is_some_lost counts (wires_of links)) (lost_in counts links place link (λ i. counted (suc i)) at lost)
 
 -- of a hub that failed some wire shows it
 pub lost_of : {W : Type 0} (counts : W → Counts) (c : CoordinatorView) (links : List (Option (LinkView W))) (held : Slab (VisitorView W)) (course : Course) (wires : List W) → AreCounted counts links → wires ≡ wires_of links → IsOnCourse c links held course → course ≡ cs.Failed → is_some_lost counts wires ≡ true
@@ -241,14 +238,6 @@ standing_of (cs.Refused mon why) seats on = record { some = on.some; link = on.l
 standing_of (cs.Bad mon fault) seats on = on
 standing_of cs.WriteFailed seats on = tt
 
-pub left_on : {W : Type 0} (course : Course) (run : ℕ) (c : CoordinatorView) (links : List (Option (LinkView W))) (held : Slab (VisitorView W)) → IsOnCourse c links held course → IsLeftOn course (record { run = run; coordinator = c; links = links })
-left_on cs.Open run c links held on = tt
-left_on cs.Halted run c links held on = tt
-left_on cs.Failed run c links held on = tt
-left_on (cs.Refused mon why) run c links held on = on.1
-left_on (cs.Bad mon fault) run c links held on = on.1
-left_on cs.WriteFailed run c links held on = tt
-
 no_payload : (version : ℕ) (unread odd : List ℕ) → IsVersion version → IsOddPayload version unread odd → IsNoFrame odd
 no_payload version unread odd is p = inl (record { size = p.stands.size; version = version; is_version = is; no_frame = p.no_frame })
 
@@ -267,21 +256,18 @@ version_in run mon j (Some x) link is p = subst (λ (l : LinkView _). IsVersion 
 version_is : {W : Type 0} (mon : ℕ) (s : SeatsView W) (link : LinkView W) → link_at s.links (mon - 1) ≡ Some link → AreSeats s → IsVersion link.version
 version_is mon s link is h = version_in s.run (mon - 1 + 1) s.coordinator.journal (link_at s.links (mon - 1)) link is (h.each (mon - 1) (there s.links (mon - 1) link is))
 
-some_is : {X : Type 0} (x y : X) → Some x ≡ Some y → x ≡ y
-some_is x y is = cc
-
 frame_odd : {W : Type 0} (mon : Mon) (why : CoordRefusal) (s : SeatsView W) (odd : Odd) (x : Mon × Received) → AreSeats s → HoldsAt s.links mon.0 (IsRefusedAt mon.0 s.coordinator why) → HoldsAt s.links mon.0 (λ link. IsOddFrame mon link odd) → odd ≡ Some x → IsOddUp s.coordinator.settings s.coordinator.journal x
 frame_odd {W} mon why s odd x h on left is =
     let frame = on.holds.frame in
-    let one : left.link ≡ on.link = some_is left.link on.link (sym left.at ∙ on.at) in
+    let one : left.link ≡ on.link = same_Some left.link on.link (sym left.at ∙ on.at) in
     let at : option_map (λ frame. (mon, r.Frame frame)) left.link.front ≡ Some (mon, r.Frame frame) = ap (λ (l : LinkView W). option_map (λ frame. (mon, r.Frame frame)) l.front) one ∙ ap (option_map (λ frame. (mon, r.Frame frame))) on.holds.read in
-    let same : (mon, r.Frame frame) ≡ x = some_is (mon, r.Frame frame) x (sym at ∙ sym left.holds ∙ is) in
+    let same : (mon, r.Frame frame) ≡ x = same_Some (mon, r.Frame frame) x (sym at ∙ sym left.holds ∙ is) in
     subst (IsOddUp s.coordinator.settings s.coordinator.journal) same (monitor_is mon.0 s on.link on.some on.at h, ap is_some on.holds.refused)
 
 bytes_odd : {W : Type 0} (mon : Mon) (fault : BadFrame) (s : SeatsView W) (odd : Odd) (x : Mon × Received) → AreSeats s → HoldsAt s.links mon.0 (λ link. IsOddBytes mon fault link odd) → odd ≡ Some x → IsOddUp s.coordinator.settings s.coordinator.journal x
 bytes_odd mon fault s odd x h left is =
     let bytes = left.holds.bytes in
-    let same : (mon, r.Bytes bytes) ≡ x = some_is (mon, r.Bytes bytes) x (sym left.holds.is ∙ is) in
+    let same : (mon, r.Bytes bytes) ≡ x = same_Some (mon, r.Bytes bytes) x (sym left.holds.is ∙ is) in
     subst (IsOddUp s.coordinator.settings s.coordinator.journal) same (monitor_is mon.0 s left.link left.some left.at h, no_frame left.link.version fault left.link.unread bytes (version_is mon.0 s left.link left.at h) left.holds.odd_ones)
 
 -- it is of one of the monitors, and one that the coordinator refuses, or no frame

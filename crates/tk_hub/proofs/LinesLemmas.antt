@@ -1,8 +1,8 @@
 -- The lines of the entries that were passed, and of those behind them.
-use Rattle.std.proofs.Common.{◌≡◌, ℕ, ◌+◌, ◌-◌, ◌≤◌, ◌<◌, ◌||◌, Bool, true, false, List, [], ◌∷◌, ◌++◌, length, take, drop, get_or, Option, Some, None, option_map, refl, sym, ap, subst, ◌∙◌, append_assoc, append-nil, arith, length-append, length-drop, zero-add}
+use Rattle.std.proofs.Common.{◌≡◌, ℕ, ◌+◌, ◌-◌, ◌≤◌, ◌<◌, ◌||◌, false, List, [], ◌∷◌, ◌++◌, length, take, drop, get_or, Option, Some, None, refl, sym, ap, subst, ◌∙◌, append_assoc, append-nil, arith, length-append, length-drop, zero-add}
 use Rattle.std.specs.Prelude.{unwrap_or}
 use Rattle.std.specs.List.{concat, cons_option, list_any, slice_range}
-use Rattle.std.proofs.lemmas.List.{drop-append-le, take-append-drop, take-append-le, take-take, take_at, take_more, take_rest}
+use Rattle.std.proofs.lemmas.List.{drop-append-le, take-append-drop, take-take, take_at, take_more, take_rest}
 use Rattle.std.proofs.Math.Seq.{take-length}
 use Rattle.std.proofs.lemmas.List.Folds.{concat-append, drop_split, list_any-append}
 use Rattle.tk_base.specs.History.{IsFront}
@@ -15,18 +15,10 @@ use Rattle.tk_journal.specs.declared.noted.Noted.TheVariants as n
 use Rattle.tk_ledger.specs.Text.{is_tuned, line_at, lines_in, lines_of}
 use Rattle.tk_hub.specs.Lines.{IsAt, IsCutShort, text_between, text_from, text_written, written_in}
 use Rattle.tk_hub.specs.declared.lines.Lines.{Lines}
+use Rattle.tk_ledger.proofs.SinkLemmas.{grows_more}
+use Rattle.tk_ledger.proofs.LineLemmas.{or_one}
 
 -- ---- what is written piece by piece
-
--- nothing was written yet
-pub grows_none : (a : Option (List ℕ)) → Grows a a []
-grows_none None = refl
-grows_none (Some bytes) = ap Some (sym (append-nil bytes))
-
--- one text, then another
-pub grows_more : (a b c : Option (List ℕ)) (x y : List ℕ) → Grows a b x → Grows b c y → Grows a c (x ++ y)
-grows_more None b c x y first second = second ∙ ap (λ o. option_map (λ w. w ++ y) o) first
-grows_more (Some bytes) b c x y first second = second ∙ ap (λ o. option_map (λ w. w ++ y) o) first ∙ ap Some (append_assoc bytes x y)
 
 -- a text, and a front of what was due behind it
 pub cut_short : (a b c : Option (List ℕ)) (done line rest due : List ℕ) → due ≡ line ++ rest → Grows a b done → GrowsByFront b c line → IsCutShort done due a c
@@ -180,11 +172,6 @@ due_next names journal i e here =
     ∙ ap (λ xs. xs ++ text_from names journal (lines_before journal (i + 1)))
     (text_next names journal at i e here (omega arith) ∙ ap (λ xs. xs ++ line_of names journal i e) (text_none names journal at))
 
-or_one : (a b : Bool) → (a || (b || false)) ≡ (a || b)
-or_one true b = refl
-or_one false true = refl
-or_one false false = refl
-
 -- ---- where lines stand
 
 -- nothing was passed yet
@@ -200,20 +187,6 @@ at_next journal lines e at here = record {
       ap (λ b. b || is_tuned e) at.tuned
       ∙ sym (ap (list_any is_tuned) (more journal lines.passed e here) ∙ list_any-append is_tuned (take lines.passed journal) (e ∷ []) ∙ or_one (list_any is_tuned (take lines.passed journal)) (is_tuned e));
 }
-
--- the journal has grown
-pub at_longer : (journal more : List Noted) (lines : Lines) → IsAt journal lines → IsAt (journal ++ more) lines
-at_longer journal more lines at = record {
-  within = omega (arith, at.within, length-append journal more);
-  tuned = at.tuned ∙ ap (list_any is_tuned) (sym (take-append-le lines.passed journal more at.within));
-}
-
-pub written_longer : (journal more : List Noted) (lines : Lines) → IsAt journal lines → written_in (journal ++ more) lines ≡ written_in journal lines
-written_longer journal more lines at = ap (λ j. length (publications j)) (take-append-le lines.passed journal more at.within)
-
--- all entries were passed, and so all lines are written
-pub all_written : (journal : List Noted) (lines : Lines) → lines.passed ≡ length journal → written_in journal lines ≡ length (publications journal)
-all_written journal lines all = ap (λ k. length (publications (take k journal))) all ∙ ap (λ j. length (publications j)) (take-length journal)
 
 -- ---- a turn of the loop
 

@@ -20,7 +20,7 @@ use Rattle.tk_journal.specs.declared.noted.Noted.{Noted}
 use Rattle.tk_journal.specs.declared.noted.Noted.TheVariants as n
 use Rattle.tk_hub.proofs.DeskLemmas.{no_input}
 use Rattle.tk_hub.proofs.TakenLemmas.{others_heard, others_said, reaches_settings, reaches_taken}
-use Rattle.tk_hub.specs.Desk.{IsDesk, getting, heard_from, refuses, said_to, takes}
+use Rattle.tk_hub.specs.Desk.{getting, heard_from, refuses, said_to, takes}
 use Rattle.tk_wire.specs.declared.out_buffer.Pushed.{Pushed}
 use Rattle.tk_hub.specs.Seats.{AreSeats, IsFree, IsSeat, IsSeated, IsWithin, SeatShuts, SeatsView, heard_at, link_at, said_at}
 use Rattle.tk_hub.specs.Slot.{SeatHears, SeatHearsOne, SeatSays}
@@ -241,9 +241,6 @@ seats_free {W} run c journal none = record {
 pub is_within : {W : Type 0} (mon : ℕ) (s : SeatsView W) → IsMonitor s.coordinator.settings mon → AreSeats s → mon - 1 < length s.links
 is_within mon s is h = omega (arith, h.count, is.from_one, is.within)
 
-pub desk_of : (mon : ℕ) (c : CoordinatorView) → IsMonitor c.settings mon → IsDesk mon (record { coordinator = c })
-desk_of mon c is = record { some_monitor = omega (arith, is.from_one); monitor = is.within }
-
 -- the seat that was read
 pub slot_is : {W : Type 0} (links : List (Option (LinkView W))) (place : ℕ) (slot : Option (LinkView W)) → place < length links → slot ≡ get_or links place slot → slot ≡ link_at links place
 slot_is links place slot within is = is ∙ get_or_default links place slot None within
@@ -251,9 +248,6 @@ slot_is links place slot within is = is ∙ get_or_default links place slot None
 -- the seat that was written
 pub set_is : {W : Type 0} (links : List (Option (LinkView W))) (place : ℕ) (slot : Option (LinkView W)) → place < length links → link_at (set links place slot) place ≡ slot
 set_is links place slot within = get_or-set_same links place slot None within
-
-pub set_seen : {W : Type 0} (links : List (Option (LinkView W))) (place : ℕ) (slot : Option (LinkView W)) → place < length links → set links place slot ≡ set links place (link_at (set links place slot) place)
-set_seen links place slot within = ap (set links place) (sym (set_is links place slot within))
 
 pub read_at : {W : Type 0} (links : List (Option (LinkView W))) (place : ℕ) (slot y : Option (LinkView W)) (R : Option (LinkView W) → Option (LinkView W) → Type 0) → place < length links → slot ≡ get_or links place slot → R slot y → R (link_at links place) y
 read_at links place slot y R within is r = subst (λ o. R o y) (slot_is links place slot within is) r

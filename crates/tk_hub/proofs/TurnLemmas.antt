@@ -25,14 +25,12 @@ use Rattle.tk_hub.specs.Turn.{EachSaid, EndsEach, Hears, PassesAt, Reaches, Stay
 use Rattle.tk_hub.specs.declared.course.HubTurn.{HubTurn}
 use Rattle.tk_hub.specs.declared.course.HubTurn.TheVariants as t
 use Rattle.tk_hub.specs.declared.lines.Lines.{Lines}
+use Rattle.tk_hub.proofs.HubLemmas.{more_open}
 
 slot_passes : {W : Type 0} (x y : Option (LinkView W)) → PassesAt x y → SlotPasses x y
 slot_passes None y p = p
 slot_passes (Some x) None p = p
 slot_passes (Some x) (Some y) p = p.0
-
-no_more : (turn : HubTurn) → goes_on turn ≡ false → turn ≡ t.More → ⊥
-no_more turn stops is = absurd (false≢true (sym stops ∙ ap goes_on is))
 
 -- the turn ended in the hearing or the saying
 pub exchanges_ended : {W : Type 0} (turn : HubTurn) (a b : SeatsView W) (lines : Lines) → goes_on turn ≡ false → Hears turn a b → Exchanges turn a b lines
@@ -40,7 +38,7 @@ exchanges_ended turn a b lines stops h = record {
   run = h.run;
   reaches = h.reaches;
   passes = λ i. slot_passes (link_at a.links i) (link_at b.links i) (h.passes i);
-  more = λ is. absurd (no_more turn stops is);
+  more = λ is. absurd (more_open turn stops is);
   ends = h.ends;
   counts = h.counts;
   said = λ goes. absurd (false≢true (sym stops ∙ goes));
@@ -70,7 +68,7 @@ exchanges_other turn last a b lines goes stops other ends finished h = record {
   run = h.run;
   reaches = h.reaches;
   passes = λ i. slot_passes (link_at a.links i) (link_at b.links i) (h.passes i);
-  more = λ is. absurd (no_more last stops is);
+  more = λ is. absurd (more_open last stops is);
   ends = ends;
   counts = counts_from last b.coordinator a.links b.links other (steady_from turn b.coordinator a.links b.links goes h.counts);
   said = λ goes. absurd (false≢true (sym stops ∙ goes));

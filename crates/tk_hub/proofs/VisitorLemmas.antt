@@ -21,7 +21,7 @@ use Rattle.tk_wire.specs.declared.in_buffer.Pulled.{Pulled}
 use Rattle.tk_wire.specs.declared.in_buffer.Pulled.TheVariants as p
 use Rattle.tk_end.proofs.LinkLemmas.{arrives_nothing}
 use Rattle.tk_end.proofs.OddLemmas.{behind_length}
-use Rattle.tk_hub.specs.Visitor.{BeginsWithHello, Gathers, Greets, HasStrangeLength, IsAwaited, IsSteady, IsStrange, IsUnlessMemory, VisitorView, hello_of}
+use Rattle.tk_hub.specs.Visitor.{BeginsWithHello, Gathers, Greets, IsAwaited, IsSteady, IsStrange, IsUnlessMemory, VisitorView, hello_of}
 use Rattle.tk_hub.specs.VisitorInside.{HasMore, IsAsLong, Leaves, Reads, Says, judged}
 use Rattle.tk_hub.specs.declared.visitor.Greeting.{Greeting}
 use Rattle.tk_hub.specs.declared.visitor.Greeting.TheVariants as g
@@ -37,31 +37,15 @@ SaysHello bytes = 4 ≤ length bytes → take 4 bytes ≡ 0 ∷ 0 ∷ 0 ∷ 14 �
 joined : (bytes : List ℕ) → take 4 bytes ≡ 0 ∷ 0 ∷ 0 ∷ 14 ∷ [] → bytes ≡ 0 ∷ 0 ∷ 0 ∷ 14 ∷ drop 4 bytes
 joined bytes is = sym (take-append-drop 4 bytes) ∙ ap (λ xs. xs ++ drop 4 bytes) is
 
-not_strange : (bytes : List ℕ) → SaysHello bytes → HasStrangeLength bytes → ⊥
-not_strange bytes says strange = strange.other (says strange.whole)
-
--- a part of a frame of a Hello's length is less than a Hello, and the other way round
-part_of_hello : (rest : List ℕ) → IsPart (0 ∷ 0 ∷ 0 ∷ 14 ∷ rest) → length (0 ∷ 0 ∷ 0 ∷ 14 ∷ rest) < 18
-part_of_hello rest (inl short) = omega arith
-part_of_hello rest (inr (size, short)) = short
-
+-- less than a Hello is a part of a frame of a Hello's length
 hello_part : (rest : List ℕ) → length (0 ∷ 0 ∷ 0 ∷ 14 ∷ rest) < 18 → IsPart (0 ∷ 0 ∷ 0 ∷ 14 ∷ rest)
 hello_part rest less = let size : IsLength 14 = (omega arith, omega arith) in inr (size, less)
-
-part_is_less : (bytes : List ℕ) → SaysHello bytes → IsPart bytes → length bytes < 18
-part_is_less bytes says part = elim (cases_lt (length bytes) 4) [
-  | inl none ↦ omega arith
-  | inr whole ↦ let is = joined bytes (says whole) in subst (λ xs. length xs < 18) (sym is) (part_of_hello (drop 4 bytes) (subst IsPart is part))
-]
 
 less_is_part : (bytes : List ℕ) → SaysHello bytes → length bytes < 18 → IsPart bytes
 less_is_part bytes says less = elim (cases_lt (length bytes) 4) [
   | inl none ↦ inl none
   | inr whole ↦ let is = joined bytes (says whole) in subst IsPart (sym is) (hello_part (drop 4 bytes) (subst (λ xs. length xs < 18) is less))
 ]
-
-pub part_is_awaited : (bytes : List ℕ) → SaysHello bytes → IsPart bytes → IsAwaited bytes
-part_is_awaited bytes says part = record { part = part_is_less bytes says part; not_strange = not_strange bytes says }
 
 -- ---- the first frame
 

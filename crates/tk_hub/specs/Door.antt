@@ -82,11 +82,12 @@ pub record GreetsOne {W : Type 0} (counts : W → Counts) (run monitors key : �
   pub answered : IsAnswered run monitors key greeting after old new
   pub memory : IsErr result ↔ (greeting ≡ g.NoMemory)
 
--- at a key, where a connection may be held
+-- a connection is greeted, if there is one, and else nothing happens
 abbrev pub GreetsSlot : {W : Type 0} → (W → Counts) → ℕ → ℕ → ℕ → Result (Unit {0}) NoMemory → Option (VisitorView W) → DoorView W → DoorView W → Type 0
 GreetsSlot counts run monitors key result None old new = (new ≡ old) × (result ≡ Ok tt)
 GreetsSlot counts run monitors key result (Some v) old new = GreetsOne counts run monitors key result v old new
 
+-- at a key, where a connection may be held
 abbrev pub GreetsAt : {W : Type 0} → (W → Counts) → ℕ → ℕ → ℕ → Result (Unit {0}) NoMemory → DoorView W → DoorView W → Type 0
 GreetsAt counts run monitors key result old new = GreetsSlot counts run monitors key result (get old.lobby.held key) old new
 
@@ -111,6 +112,7 @@ pub record GreetsSome {W : Type 0} (counts : W → Counts) (run monitors : ℕ) 
   pub wants : IsErr last
   pub greeted : GreetsAt counts run monitors keys last mid new
 
+-- each is greeted where there was the memory, and else some are
 abbrev pub GreetsHeld : {W : Type 0} → (W → Counts) → ℕ → ℕ → Result (Unit {0}) NoMemory → DoorView W → DoorView W → Type 0
 GreetsHeld counts run monitors (Ok done) old new = GreetsAll counts run monitors old new
 GreetsHeld counts run monitors (Err e) old new = GreetsSome counts run monitors old new

@@ -22,6 +22,7 @@ use Rattle.tk_hub.specs.declared.course.Course.TheVariants as cs
 
 -- ---- the wires
 
+-- the wire of a link, if there is one
 abbrev pub wire_of : {W : Type 0} → Option (LinkView W) → Option W
 wire_of link = option_map (λ link. link.wire) link
 
@@ -76,12 +77,13 @@ IsLeft hub odd = LeavesOdd hub.course hub.links odd
 
 -- ---- wires in memory
 
--- at a seat that is free nothing moves
+-- bytes leave the wire of a seat for a pipe, and at one that is free nothing moves
 abbrev pub SeatDrains : {W : Type 0} → (W → ℕ) → (Traffic → W → W) → ℕ → Option (LinkView W) → Option (LinkView W) → Queue → Queue → Type 0
 SeatDrains piece bearing moved None new before now = (new ≡ None) × (moved ≡ 0) × (now ≡ before)
 SeatDrains piece bearing moved (Some x) None before now = ⊥
 SeatDrains piece bearing moved (Some x) (Some y) before now = Drains piece bearing moved x y before now
 
+-- bytes of a pipe reach the wire of a seat, and at one that is free nothing moves
 abbrev pub SeatFills : {W : Type 0} → (W → ℕ) → (Traffic → W → W) → ℕ → Option (LinkView W) → Option (LinkView W) → Queue → Queue → Type 0
 SeatFills piece bearing moved None new before now = (new ≡ None) × (moved ≡ 0) × (now ≡ before)
 SeatFills piece bearing moved (Some x) None before now = ⊥

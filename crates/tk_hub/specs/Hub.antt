@@ -30,9 +30,11 @@ pub record HubView (W : Type 0) : Type 0 where
   pub lines : Lines
   pub course : Course
 
+-- the seats of a hub: its run, its coordinator and its links
 abbrev pub seats_of : {W : Type 0} → HubView W → SeatsView W
 seats_of hub = record { run = hub.run; coordinator = hub.coordinator; links = hub.links }
 
+-- the door of a hub: its links beside the connections that are held and the count of those closed
 abbrev pub door_of : {W : Type 0} → HubView W → DoorView W
 door_of hub = record { lobby = record { held = hub.held; strangers = hub.strangers }; links = hub.links }
 
@@ -40,15 +42,17 @@ door_of hub = record { lobby = record { held = hub.held; strangers = hub.strange
 abbrev pub with_door : {W : Type 0} → DoorView W → HubView W → HubView W
 with_door now hub = record hub { held = now.lobby.held; strangers = now.lobby.strangers; links = now.links }
 
--- what a turn writes: the lines of the publications that were passed since and, where the sink failed, a front of the next
+-- what a turn writes where the sink does not fail: the lines of the publications that were passed since
 abbrev pub Writes : {W : Type 0} → HubTurn → List (List ℕ) → HubView W → HubView W → Option (List ℕ) → Option (List ℕ) → Type 0
 Writes turn names old new before now = WritesUnless turn names new.coordinator.journal old.lines new.lines before now
 
+-- what it writes where the sink fails: these lines, and a front of the next
 abbrev pub Cuts : {W : Type 0} → HubTurn → List (List ℕ) → HubView W → HubView W → Option (List ℕ) → Option (List ℕ) → Type 0
 Cuts turn names old new before now = CutsWhere turn names new.coordinator.journal old.lines new.lines before now
 
 -- ---- the course
 
+-- no wire of an admitted monitor is shut
 abbrev pub EachOpen : {W : Type 0} → List (Option (LinkView W)) → Type 0
 EachOpen links = (place : ℕ) → IfSome (link_at links place) (λ link. link.shut ≡ false)
 
@@ -79,6 +83,7 @@ pub record IsFinishedBy {W : Type 0} (seats : SeatsView W) (lines : Lines) : Typ
   pub written : lines.passed ≡ length seats.coordinator.journal
   pub given : IsAllGiven seats.coordinator seats.links
 
+-- so it is with a hub
 abbrev pub IsFinished : {W : Type 0} → HubView W → Type 0
 IsFinished hub = IsFinishedBy (seats_of hub) hub.lines
 

@@ -94,5 +94,6 @@ SeatShuts None new = new ≡ None
 SeatShuts (Some x) None = ⊥
 SeatShuts (Some x) (Some y) = IsShut x y
 
+-- so it is at each seat
 abbrev pub EachShuts : {W : Type 0} → List (Option (LinkView W)) → List (Option (LinkView W)) → Type 0
 EachShuts old new = (place : ℕ) → SeatShuts (link_at old place) (link_at new place)

@@ -72,6 +72,7 @@ pub record HearsOneAt {W : Type 0} (mon : ℕ) (turn : HubTurn) (x y : LinkView 
   pub ends : EndsOne mon now.coordinator y turn
   pub counts : CountsAt mon now.coordinator x y turn
 
+-- the same at a seat, and at one that is free nothing happens
 abbrev pub SeatHearsOne : {W : Type 0} → ℕ → HubTurn → Option (LinkView W) → Option (LinkView W) → Desk → Desk → Type 0
 SeatHearsOne mon turn None new before now = (new ≡ None) × (now ≡ before) × (turn ≡ t.Quiet)
 SeatHearsOne mon turn (Some x) None before now = ⊥
@@ -91,6 +92,7 @@ pub record SaysAt {W : Type 0} (mon : ℕ) (c : CoordinatorView) (result : Resul
   pub counted : IfOk result (λ pushed. y.counts ≡ counts_pushed pushed x.counts)
   pub err : OnErr result ((y.wire ≡ x.wire) × (y.counts ≡ x.counts))
 
+-- the same at a seat, and at one that is free nothing is left to give
 abbrev pub SeatSays : {W : Type 0} → ℕ → CoordinatorView → Result Pushed NoMemory → Option (LinkView W) → Option (LinkView W) → Type 0
 SeatSays mon c result None new = (new ≡ None) × (result ≡ Ok p.Empty)
 SeatSays mon c result (Some x) None = ⊥

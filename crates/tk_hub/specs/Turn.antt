@@ -62,6 +62,7 @@ course_of (t.Bad mon fault) = cs.Bad mon fault
 course_of t.WriteFailed = cs.WriteFailed
 course_of t.NoMemory = cs.Open
 
+-- whether a hub on this course goes on
 abbrev pub is_open : Course → Bool
 is_open cs.Open = true
 is_open cs.Halted = false
@@ -98,10 +99,11 @@ IsAllTaken link = Answers link.version link.unread n.Part
 abbrev pub IsEmptied : {W : Type 0} → ℕ → CoordinatorView → LinkView W → Type 0
 IsEmptied mon c link = (link.tells ≡ true → link.traffic.waiting ≡ []) ⊎ (IsStopGiven mon c link × (0 < link.counts.ends))
 
--- the next frame of a monitor was read and is refused, and its next bytes are no frame
+-- the next frame of a monitor was read and is refused
 abbrev pub IsRefusedAt : {W : Type 0} → ℕ → CoordinatorView → CoordRefusal → LinkView W → Type 0
 IsRefusedAt mon c why link = IsRefused refuses mon link.version link.unread link.front (record { coordinator = c }) why
 
+-- the next bytes of a monitor are no frame
 abbrev pub IsBadAt : {W : Type 0} → Rattle.tk_frames.specs.declared.answer.BadFrame.BadFrame → LinkView W → Type 0
 IsBadAt fault link = Answers link.version link.unread (n.Bad fault) × (link.front ≡ None)
 
@@ -161,6 +163,7 @@ PassesAt None new = new ≡ None
 PassesAt (Some x) None = ⊥
 PassesAt (Some x) (Some y) = Passes 0 x y × (y.shut ≡ x.shut)
 
+-- the wire of a seat that is taken did not fail, and did not end but after Stop was given to it
 abbrev pub SteadyAt : {W : Type 0} → ℕ → CoordinatorView → Option (LinkView W) → Option (LinkView W) → Type 0
 SteadyAt mon c None new = ⊤
 SteadyAt mon c (Some x) None = ⊤
@@ -184,6 +187,7 @@ pub record SomeFails {W : Type 0} (c : CoordinatorView) (old new : List (Option 
   pub is : link_at new place ≡ Some now
   pub fails : FailsAt (place + 1) c before now
 
+-- no wire failed, and none ended but after Stop was given to it
 abbrev pub EachSteady : {W : Type 0} → CoordinatorView → List (Option (LinkView W)) → List (Option (LinkView W)) → Type 0
 EachSteady c old new = (place : ℕ) → SteadyAt (place + 1) c (link_at old place) (link_at new place)
 
@@ -222,6 +226,7 @@ pub record HasSaid {W : Type 0} (mon : ℕ) (c : CoordinatorView) (link : LinkVi
   pub written : link.written ≡ length (frames_to mon c.journal)
   pub given : (link.output ≡ []) ⊎ (link.tells ≡ true → IsFull link.traffic)
 
+-- so it is with each monitor that is admitted
 abbrev pub EachSaid : {W : Type 0} → CoordinatorView → List (Option (LinkView W)) → Type 0
 EachSaid c links = (place : ℕ) → IfSome (link_at links place) (HasSaid (place + 1) c)
 

@@ -33,10 +33,11 @@ TextAddsUp names journal from to =
 abbrev pub TextIsWhole : List (List ℕ) → List Noted → Lines → Type 0
 TextIsWhole names journal lines = lines.passed ≡ length journal → text_written names journal lines ≡ concat (lines_of names journal)
 
--- the first where a turn did not fail to write, and the second where it did
+-- where a turn did not fail to write, the lines of the publications that were passed since
 abbrev pub WritesUnless : HubTurn → List (List ℕ) → List Noted → Lines → Lines → Option (List ℕ) → Option (List ℕ) → Type 0
 WritesUnless turn names journal from to old new = (turn ≡ t.WriteFailed → ⊥) → WritesLines names journal from to old new
 
+-- where it did, these lines and a front of the next
 abbrev pub CutsWhere : HubTurn → List (List ℕ) → List Noted → Lines → Lines → Option (List ℕ) → Option (List ℕ) → Type 0
 CutsWhere turn names journal from to old new = turn ≡ t.WriteFailed → CutsLine names journal from to old new
 

@@ -4,7 +4,7 @@ use Rattle.std.specs.Prelude.{find, position, slice_get, is_some, IsSome}
 use Rattle.std.specs.List.{position_or_len}
 use Rattle.std.specs.Option.{option_map_or, option_or}
 use Rattle.std.proofs.lemmas.Bool.{ltb-true, ltb-false}
-use Rattle.std.proofs.lemmas.Option.{slice_get-get_or, slice_get_past}
+use Rattle.std.proofs.lemmas.Option.{slice_get-get_or, slice_get_past, cond_some}
 use Rattle.std.proofs.lemmas.List.Folds.{find_at, find-set, find_past, find-append}
 use Rattle.std.proofs.lemmas.Slice.Eq.{bytes_eq-Decides}
 use Rattle.tk_input.specs.Tallies.{Count, count_of, faults_of, longest_of, Notes}
@@ -14,17 +14,13 @@ pub record IsFound {X : Type 0} (p : X → Bool) (xs : List X) (i : ℕ) : Type 
   pub within : i < length xs
   pub first : i ≡ position_or_len p xs
 
-chosen : {X : Type 0} (b : Bool) (x i : X) → cond b (Some x) None ≡ Some i → (b ≡ true) × (x ≡ i)
-chosen true x i e = (refl, cc)
-chosen false x i e = absurd (cc)
-
-refused : {X : Type 0} (b : Bool) (x : X) → cond b (Some x) None ≡ None → b ≡ false
+pub refused : {X : Type 0} (b : Bool) (x : X) → cond b (Some x) None ≡ None → b ≡ false
 refused true x e = absurd (cc)
 refused false x e = refl
 
 pub position_found : {X : Type 0} (p : X → Bool) (xs : List X) (i : ℕ) → position p xs ≡ Some i → IsFound p xs i
 position_found p xs i e =
-    let h = chosen (ltb (position_or_len p xs) (length xs)) (position_or_len p xs) i e in
+    let h = cond_some (ltb (position_or_len p xs) (length xs)) (position_or_len p xs) i e in
     let within : position_or_len p xs < length xs = ltb-true (position_or_len p xs) (length xs) h.0 in
     record { within = subst (λ (n : ℕ). n < length xs) h.1 within; first = sym h.1 }
 
@@ -110,10 +106,6 @@ noted_same counts name i d at = record {
       ∙ ap (λ (n : ℕ). Some (record { name = name; faults = faults_of counts name; longest = n })) (sym (longest_found counts name i d at));
   others = λ other apart. refl;
 }
-
--- a name that has a count has a place
-pub found_not_none : {X : Type 0} (p : X → Bool) (xs : List X) → IsSome (find p xs) → position p xs ≡ None → ⊥
-found_not_none p xs some e = let none = find-missing p xs e in absurd (cc)
 
 -- the place of a name, as a look-up tells it
 pub found_at : (counts : List Count) (name : List ℕ) (place : Option ℕ) (i : ℕ) → place ≡ position (λ c. bytes_eq c.name name) counts → place ≡ Some i → IsFound (λ c. bytes_eq c.name name) counts i

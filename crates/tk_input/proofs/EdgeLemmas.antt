@@ -1,5 +1,5 @@
 -- What is read up to a limit, of bytes that are known.
-use Rattle.std.proofs.Common.{◌≡◌, ℕ, ◌<◌, ◌≤◌, List, [], ◌∷◌, ◌++◌, length, take, Option, Some, None, option_map, subst, ap, ◌∙◌, arith}
+use Rattle.std.proofs.Common.{◌≡◌, ℕ, ◌<◌, List, [], ◌∷◌, ◌++◌, length, take, Option, Some, None, option_map, subst, ap, ◌∙◌, arith}
 use Rattle.std.specs.Prelude.{IfSome}
 use Rattle.std.proofs.lemmas.List.{length-take, take_all}
 
@@ -17,10 +17,3 @@ read_whole None limit old new none is short = tt
 read_whole (Some told) limit old new none is short =
     let some : new ≡ take limit told = nothing_before old new (take limit told) none is in
     some ∙ take_all limit told (omega (arith, ap (λ (xs : List ℕ). length xs) some, length-take limit told, short))
-
--- as many bytes as the limit are no more than there are
-pub read_long : (known : Option (List ℕ)) (limit : ℕ) (old new : List ℕ) → length old ≡ 0 → IfSome (option_map (take limit) known) (λ xs. new ≡ old ++ xs) → limit ≤ length new → IfSome known (λ told. limit ≤ length told)
-read_long None limit old new none is long = tt
-read_long (Some told) limit old new none is long =
-    let some : new ≡ take limit told = nothing_before old new (take limit told) none is in
-    omega (arith, ap (λ (xs : List ℕ). length xs) some, length-take limit told, long)

@@ -1,4 +1,3 @@
-pub mod BeginningLemmas
 pub mod CountLemmas
 pub mod EdgeLemmas
 pub mod FilesLemmas

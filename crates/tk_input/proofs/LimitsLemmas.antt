@@ -12,12 +12,8 @@ use Rattle.tk_input.specs.Judged.{Assigned, feeders_of, first_at, first_gap, fir
 use Rattle.tk_input.specs.Logs.{AreLogs, AreParts, IsObject, LogSet, updates_of, weight_for, weight_of}
 use Rattle.tk_input.specs.Rows.{size_at}
 use Rattle.tk_input.specs.declared.logs.LogsFault.TheVariants.{TooGreat}
-use Rattle.tk_input.proofs.CountLemmas.{position_found, find-found, find_passes}
+use Rattle.tk_input.proofs.CountLemmas.{position_found, find-found, find_passes, refused, not_some}
 use Rattle.tk_input.proofs.SumLemmas.{weight_for-all}
-
-refused : {X : Type 0} (b : Bool) (x : X) → cond b (Some x) None ≡ None → b ≡ false
-refused true x e = absurd (cc)
-refused false x e = refl
 
 -- where no place is found, nothing passes
 pub position_fails : {X : Type 0} (p : X → Bool) (xs : List X) (k : ℕ) (d : X) → position p xs ≡ None → k < length xs → p (get_or xs k d) ≡ false
@@ -28,10 +24,6 @@ position_fails p xs k d none within =
 unmapped : {X Y : Type 0} (f : X → Y) (o : Option X) → option_map f o ≡ None → o ≡ None
 unmapped f None e = refl
 unmapped f (Some x) e = absurd (cc)
-
-not_some : {X : Type 0} (o : Option X) → is_some o ≡ false → o ≡ None
-not_some None e = refl
-not_some (Some x) e = absurd (cc)
 
 find-range_fails : (p : ℕ → Bool) (a n k : ℕ) → find p (range_with_len a n) ≡ None → k < n → p (a + k) ≡ false
 find-range_fails p a zero k none within = absurd (omega arith)

@@ -1,11 +1,10 @@
 -- One more name of a catalogue.
-use Rattle.std.proofs.Common.{◌≡◌, ℕ, suc, zero, ◌+◌, ◌<◌, ◌≤◌, drop, get_or, Bool, true, false, not, ◌||◌, List, [], ◌∷◌, ◌++◌, length, map, Option, Some, Result, Ok, Err, Vec, bytes_eq, refl, sym, ap, subst, ◌∙◌, arith}
+use Rattle.std.proofs.Common.{◌≡◌, ℕ, suc, zero, ◌+◌, ◌<◌, ◌≤◌, drop, get_or, Bool, true, false, not, ◌||◌, List, [], ◌∷◌, ◌++◌, length, map, Some, Result, Ok, Err, Vec, bytes_eq, refl, sym, ap, subst, ◌∙◌, arith}
 use Rattle.std.specs.Prelude.{IsTrue, is_ok, if◌then◌else◌}
 use Rattle.std.specs.List.{list_any}
-use Rattle.std.proofs.lemmas.Bool.{lt-leb}
 use Rattle.std.proofs.lemmas.List.{drop_more, length-map, map-append}
 use Rattle.csv.specs.Records.{field_at}
-use Rattle.tk_input.specs.Catalog.{IsFault, IsNameFault, is_name, names_of, next_name, only_field, some_names, with_name}
+use Rattle.tk_input.specs.Catalog.{IsFault, IsNameFault, is_name, names_of, only_field, some_names, with_name}
 use Rattle.tk_input.specs.Records.{and_then, through}
 use Rattle.tk_input.proofs.ThroughLemmas.{through-none}
 use Rattle.tk_input.specs.declared.catalog.CatalogFault.{CatalogFault}
@@ -27,10 +26,6 @@ list_any-map f p (x ∷ xs) = ap (λ (b : Bool). p (f x) || b) (list_any-map f p
 pub with_name-proper : (before : List (List ℕ)) (name : List ℕ) → is_name name ≡ true → with_name before (Some name) ≡ (if list_any (λ n. bytes_eq name n) before then Err (Repeated (length before + 1)) else Ok (before ++ name ∷ []))
 with_name-proper before name proper =
     ap (λ (b : Bool). if not b then Err (BadName (length before + 1)) else (if list_any (λ n. bytes_eq name n) before then Err (Repeated (length before + 1)) else Ok (before ++ name ∷ []))) proper
-
--- while there are fewer than the most, the next name is added by the rules of names
-pub next_name-few : (before : List (List ℕ)) (name : Option (List ℕ)) → length before < 65536 → next_name before name ≡ with_name before name
-next_name-few before name few = ap (λ (b : Bool). if b then Err TooMany else with_name before name) (lt-leb 65536 (length before) few)
 
 -- one more name
 pub names_of-push : {A : Type 0} (keys : List (Vec ℕ A)) (key : Vec ℕ A) → names_of (keys ++ key ∷ []) ≡ names_of keys ++ key.items ∷ []

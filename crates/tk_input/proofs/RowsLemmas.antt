@@ -5,7 +5,6 @@ use Rattle.std.specs.List.{position_or_len, range_with_len}
 use Rattle.std.proofs.lemmas.List.{get_or-map, length-map, map-append}
 use Rattle.tk_input.specs.Judged.{first_at, first_gap}
 use Rattle.tk_input.specs.Rows.{logs_in}
-use Rattle.tk_input.proofs.CountLemmas.{position_found}
 
 pub length-logs_in : {A : Type 0} (rows : List (Vec (List (ℕ × ℤ)) A)) → length (logs_in rows) ≡ length rows
 length-logs_in {A} rows = length-map rows (λ (row : Vec (List (ℕ × ℤ)) A). row.items)
@@ -26,9 +25,6 @@ position-map f p xs =
 -- the monitor of the first row that passes
 pub first_row : {A : Type 0} (p : List (List (ℕ × ℤ)) → Bool) (rows : List (Vec (List (ℕ × ℤ)) A)) (place : Option ℕ) → place ≡ position (λ row. p row.items) rows → option_map (λ i. i + 1) place ≡ first_at p (logs_in rows)
 first_row {A} p rows place is = ap (λ (o : Option ℕ). option_map (λ i. i + 1) o) (is ∙ sym (position-map (λ (row : Vec (List (ℕ × ℤ)) A). row.items) p rows))
-
-pub place_within : {X : Type 0} (p : X → Bool) (xs : List X) (place : Option ℕ) (i : ℕ) → place ≡ position p xs → place ≡ Some i → i < length xs
-place_within p xs place i told is = (position_found p xs i (sym told ∙ is)).within
 
 pub gap_is : {A : Type 0} (rows : List (Vec (List (ℕ × ℤ)) A)) (place : Option ℕ) → (length rows == 0) ≡ false → place ≡ position (λ row. length row.items == 0) rows → option_map (λ i. i + 1) place ≡ first_gap (logs_in rows)
 gap_is rows place some is =

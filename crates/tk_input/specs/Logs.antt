@@ -14,10 +14,11 @@ sum_for o changes = int_sum (map (λ c. c.1) (filter (λ c. c.0 == o) changes))
 abbrev pub value_of : List (List (ℕ × ℤ)) → List ℕ → ℕ → ℤ
 value_of parts places o = int_sum (map (λ p. sum_for o (take p.1 p.0)) (zip parts places))
 
--- the parts of a monitor, and its places in a cut
+-- the parts of a monitor
 abbrev pub parts_of : List (List (List (ℕ × ℤ))) → ℕ → List (List (ℕ × ℤ))
 parts_of logs mon = slice_index_or logs (mon - 1) []
 
+-- the places of a monitor in a cut
 abbrev pub places_of : List (List ℕ) → ℕ → List ℕ
 places_of cut mon = slice_index_or cut (mon - 1) []
 

@@ -39,6 +39,7 @@ use Rattle.tk_journal.proofs.GrowLemmas.{Grows, grows, with_got, range_rises}
 use Rattle.tk_journal.proofs.GrowLemmas.Grows.{Nothing, ToOne, ToAll, Asks}
 use Rattle.tk_journal.proofs.GatheredLemmas.{quiet_closing}
 use Rattle.tk_frames.proofs.CarriedLemmas.{tally-append}
+use Rattle.tk_journal.proofs.Tuning.{and_none}
 
 abbrev one : Bool → ℕ
 one b = if b then 1 else 0
@@ -82,10 +83,6 @@ collects-append mon a b = ap (tally is_collect) (frames_to-append mon a b) ∙ t
 values-append : (mon : ℕ) (a b : List Noted) → values_from mon (a ++ b) ≡ values_from mon a + values_from mon b
 values-append mon a b = ap (tally is_values) (frames_from-append mon a b) ∙ tally-append is_values (frames_from mon a) (frames_from mon b)
 
-and_false : (b : Bool) → (b && false) ≡ false
-and_false true = refl
-and_false false = refl
-
 -- ---- the law, piece by piece
 
 abbrev pub Asked : ℕ → List Noted → Type 0
@@ -111,9 +108,6 @@ not_for round mon (f.Assign seq members changes) none = refl
 not_for round mon (f.Settled seq last places) none = refl
 not_for round mon f.Stop none = refl
 
-later_none : {A : Type 0} (x : Option A) → later x None ≡ x
-later_none x = refl
-
 choice_none : (own : Bool) (x : Option Reported) → (own ≡ true → x ≡ None) → (if own then x else None) ≡ None
 choice_none true x h = h refl
 choice_none false x h = refl
@@ -135,9 +129,6 @@ got_other mon before from frame none h =
     let flag = ap one waits in
     omega (arith, h, to, came, zero', flag)
 
-later_there : {A : Type 0} (x : Option A) (v : A) → is_some (later x (Some v)) ≡ true
-later_there x v = refl
-
 -- the Values of this monitor, which the last round waits for
 got_own : (s : Setup) (mon : ℕ) (before : List Noted) (from : Mon) (round seq : ℕ) (border : ℤ) (values : List (ℕ × ℤ)) → from.0 == mon ≡ true → refusal_of s before mon (f.Values round seq border values) ≡ None → Asked mon before
     → Asked mon (with_got before from (f.Values round seq border values))
@@ -152,7 +143,7 @@ got_own s mon before from round seq border values own none h =
     let came : values_of R mon now ≡ later (values_of R mon before) (Some v) =
     got_values R mon before from frame ∙ ap (λ b. later (values_of R mon before) (if b then values_for R mon frame else None)) own ∙ ap (λ b. later (values_of R mon before) (if b then Some v else None)) (eq-eqb round R waits.last) in
     let over : (is_some (asked_of (last_round now) mon now) && not (is_some (values_of (last_round now) mon now))) ≡ false =
-    ap (λ q. is_some (asked_of q mon now) && not (is_some (values_of q mon now))) (got_round before from frame) ∙ ap (λ x. is_some (asked_of R mon now) && not (is_some x)) came ∙ and_false (is_some (asked_of R mon now)) in
+    ap (λ q. is_some (asked_of q mon now) && not (is_some (values_of q mon now))) (got_round before from frame) ∙ ap (λ x. is_some (asked_of R mon now) && not (is_some x)) came ∙ and_none (is_some (asked_of R mon now)) in
     let to = collects-append mon before (n.Got from frame ∷ []) in
     let from' = values-append mon before (n.Got from frame ∷ []) in
     let one' = came_own mon from frame own refl in

@@ -137,7 +137,7 @@ rows_nodes grid parts objects first (p ∷ ps) = ap (λ xs. p.node ∷ xs) (rows
 abbrev pub parts_with : Part → (Reported → ℤ) → List Reported → List Part
 parts_with first b reports = first ∷ map (λ r. monitor (b r) r) reports
 
-nodes_of : (b : Reported → ℤ) (reports : List Reported) → map (λ (q : Part). q.node) (map (λ r. monitor (b r) r) reports) ≡ map (λ (r : Reported). r.mon.0) reports
+pub nodes_of : (b : Reported → ℤ) (reports : List Reported) → map (λ (q : Part). q.node) (map (λ r. monitor (b r) r) reports) ≡ map (λ (r : Reported). r.mon.0) reports
 nodes_of b [] = refl
 nodes_of b (r ∷ reports) = ap (λ xs. r.mon.0 ∷ xs) (nodes_of b reports)
 

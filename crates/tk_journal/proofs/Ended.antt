@@ -42,7 +42,7 @@ goes_on s j k same still was e = record {
   ended = λ is. absurd (true≢false (sym is ∙ still));
 }
 
-or_any : (b : Bool) → (b || true) ≡ true
+pub or_any : (b : Bool) → (b || true) ≡ true
 or_any true = refl
 or_any false = refl
 

@@ -38,7 +38,7 @@ use Rattle.tk_journal.proofs.Batches.{named, named_members}
 use Rattle.tk_journal.proofs.Same.{tunings-append}
 use Rattle.tk_journal.proofs.Counting.{named_round}
 use Rattle.tk_journal.proofs.Content.{all_by}
-use Rattle.tk_journal.proofs.Dealing.{dealt_rows, own_dealt, own_other, own_short, own_short_other, rows_nodes}
+use Rattle.tk_journal.proofs.Dealing.{dealt_rows, own_dealt, own_other, own_short, own_short_other, rows_nodes, nodes_of}
 use Rattle.tk_journal.proofs.Orderly.{Row, sends, open_named}
 use Rattle.tk_journal.proofs.Sizes.{objects_few, rows_of, sends_short}
 use Rattle.tk_journal.proofs.Standing.{IsStanding, RanksBy, is_small, all_holds, standing_after, factors_small, one_small, bounded_small, dealt_small}
@@ -128,12 +128,8 @@ pub rows_some : (grid : Grid) (parts : List Part) (all : List ℕ) (b : Reported
 rows_some grid parts all b [] some = absurd (omega (arith, some))
 rows_some grid parts all b (r ∷ reports) some = omega arith
 
-monitor_nodes : (b : Reported → ℤ) (reports : List Reported) → map (λ (q : Part). q.node) (map (λ r. monitor (b r) r) reports) ≡ map (λ (r : Reported). r.mon.0) reports
-monitor_nodes b [] = refl
-monitor_nodes b (r ∷ reports) = ap (λ xs. r.mon.0 ∷ xs) (monitor_nodes b reports)
-
 pub all_nodes : (grid : Grid) (parts : List Part) (all : List ℕ) (b : Reported → ℤ) (reports : List Reported) → map (λ (d : Row). d.0) (dealt_rows grid parts all 1 (map (λ r. monitor (b r) r) reports)) ≡ map (λ (r : Reported). r.mon.0) reports
-all_nodes grid parts all b reports = rows_nodes grid parts all 1 (map (λ r. monitor (b r) r) reports) ∙ monitor_nodes b reports
+all_nodes grid parts all b reports = rows_nodes grid parts all 1 (map (λ r. monitor (b r) r) reports) ∙ nodes_of b reports
 
 pub full_standing : (s : Setup) (j : List Noted) (reports : List Reported) → 0 < s.monitors → IsFullAt s j reports → is_within_limit (full_at s j reports) ≡ true → IsStanding s (j ++ assigns j (full_at s j reports))
 unfolding full_decides
@@ -174,10 +170,10 @@ pub record IsWideAt (s : Setup) (j : List Noted) (reports : List Reported) : Typ
   pub called : IsWideCalled (in_force s j) (table_at s j) reports
   pub sizes : AreSized s j
 
-wide_ascends : (n : ℕ) → IsAscending (objects n)
+pub wide_ascends : (n : ℕ) → IsAscending (objects n)
 wide_ascends n = ascends (objects n) (rises-objects n)
 
-all_within : (n : ℕ) → All (λ o. o ≤ n) (objects n)
+pub all_within : (n : ℕ) → All (λ o. o ≤ n) (objects n)
 all_within n = all_by (λ o. o ≤ n) (objects n) (λ o in'. (of_catalogue n o in').1)
 
 pub wide_standing : (s : Setup) (j : List Noted) (reports : List Reported) → IsWithinLimits s → IsWideAt s j reports → IsStanding s (j ++ assigns j (wide_at s j reports))

@@ -10,7 +10,7 @@ use Rattle.tk_base.specs.Objects.{objects}
 use Rattle.tk_base.specs.Ascending.{IsAscending}
 use Rattle.tk_base.specs.Settings.{Setup, IsWithinLimits}
 use Rattle.tk_base.specs.declared.ids.Mon.{Mon}
-use Rattle.tk_border.proofs.RisingLemmas.{ascends, rises-objects}
+use Rattle.tk_border.proofs.RisingLemmas.{ascends}
 use Rattle.tk_rows.specs.Factors.{Grid}
 use Rattle.tk_rows.proofs.WritingLemmas.{ascending_are_apart}
 use Rattle.tk_frames.specs.declared.frame.Frame.{Frame}
@@ -37,7 +37,7 @@ use Rattle.tk_journal.proofs.Content.{all_by}
 use Rattle.tk_journal.proofs.Tables.{IsObject, AreSized, own_is, rows_count, table_size, table_balanced}
 use Rattle.tk_journal.proofs.Tuning.{AreTuned, EachTuning, IsOpened, collects_tunings, tuned_by, tuned_later, wide_by, force_by, force_limits, force_objects, force_monitors, force_closed, force_past}
 use Rattle.tk_journal.proofs.Standing.{IsStanding, AreAgreed, standing_agreed, agreed_same, object_of}
-use Rattle.tk_journal.proofs.Ending.{IsFullAt, IsWideAt, chosen_count, sent_tunings}
+use Rattle.tk_journal.proofs.Ending.{IsFullAt, IsWideAt, chosen_count, sent_tunings, wide_ascends}
 use Rattle.tk_journal.proofs.Orderly.{IsOrderly, Row, open_named}
 use Rattle.tk_journal.proofs.Sizes.{short-append, collects_short, objects_few}
 use Rattle.tk_journal.proofs.Sound.{IsRoundOver, HasRound, no_round, round_same, round_got, round_collects}
@@ -109,9 +109,6 @@ firm_collects s j round all q mons few closed new r h =
       short = short-append j (collects round all (q ∷ mons)) h.short (collects_short round all (q ∷ mons) (let l = objects_few s.objects all r.ascends r.positive r.within in omega (arith, l, few)));
     }
 
-catalogue_ascends : (n : ℕ) → IsAscending (objects n)
-catalogue_ascends n = ascends (objects n) (rises-objects n)
-
 -- a wide round is over all objects
 pub wide_round : (s : Setup) (j : List Noted) (round k : ℕ) → s.monitors ≡ suc k → AreCounted s j → last_round j < round → IsAscending (members_at j) → All (λ o. o ≤ s.objects) (members_at j)
     → IsRoundOver s (j ++ wide_collects s round) (objects s.objects)
@@ -123,7 +120,7 @@ wide_round s j round k some c new up within =
     (all_by (Contains all) (members_at j) (λ t in'. let o = object_of s (members_at j) all t up within in' in in_catalogue s.objects t o.from_one o.within))
     (all_by (λ o. o ≤ s.objects) all (λ o in'. (of_catalogue s.objects o in').1))
     (all_by (λ o. 0 < o) all (λ o in'. (of_catalogue s.objects o in').0))
-    (catalogue_ascends s.objects)
+    (wide_ascends s.objects)
     (λ mon m none. absurd (true≢false (sym (is_in_range 1 (suc k) mon m.from_one (let w = m.within in omega (arith, w, some))) ∙ none)))
     (λ _. refl))
 

@@ -36,7 +36,7 @@ use Rattle.tk_journal.proofs.Reports.{Gives, if_gives}
 use Rattle.tk_journal.proofs.Accepted.{accepted_kind, accepted_answer}
 use Rattle.tk_journal.proofs.Counting.{AreCounted}
 use Rattle.tk_journal.proofs.Content.{all_by, report_takes_part, IsResolving, resolution_within, resolution_positive, resolution_holds, resolution_ascends}
-use Rattle.tk_journal.proofs.Tuning.{force_limits, wide_by, force_closed, force_full}
+use Rattle.tk_journal.proofs.Tuning.{force_limits, wide_by, force_closed, force_full, and_none}
 use Rattle.tk_journal.proofs.Standing.{IsStanding, AreAgreed, standing_agreed, all_holds}
 use Rattle.tk_journal.proofs.Ending.{IsFullAt, full_standing, wide_standing, short_standing, full_short, wide_short, short_short}
 use Rattle.tk_journal.proofs.Sizes.{short-append, objects_few}
@@ -117,10 +117,6 @@ turn_wide : (s : Setup) (before : List Noted) (from : Mon) (seq : ℕ) (border :
     → IsFirm s (before ++ n.Got from (f.Report seq border failed values) ∷ [] ++ wide_collects s (rounds s before + 1))
 turn_wide s before from seq border failed values k few p =
     firm_wide s (before ++ n.Got from (f.Report seq border failed values) ∷ []) (rounds s before + 1) k few p.order.some p.order.closed (let c = p.order.count in omega (arith, c)) p.order.order p.firm
-
-and_none : (b : Bool) → (b && false) ≡ false
-and_none true = refl
-and_none false = refl
 
 pub range_contains : (a k mon : ℕ) → a ≤ mon → mon < a + k → Contains (range_with_len a k) mon
 range_contains a k mon low high =

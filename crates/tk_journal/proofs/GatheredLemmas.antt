@@ -17,6 +17,7 @@ use Rattle.tk_journal.specs.Readings.{assigns_sent, is_open, last_round, monitor
 use Rattle.tk_journal.specs.Refusal.{refusal_of, shown_by, known_by}
 use Rattle.tk_base.specs.Objects.{objects}
 use Rattle.std.specs.List.{range_with_len}
+use Rattle.std.proofs.lemmas.Option.{same_Some}
 use Rattle.tk_journal.specs.Turns.{collects, demanded, rounds, wide_collects}
 use Rattle.tk_journal.specs.declared.noted.Noted.{Noted}
 use Rattle.tk_journal.proofs.Accepted.{accepted_kind, accepted_values, awaited_waits}
@@ -74,9 +75,6 @@ HasGathered s j = is_open s j ≡ true → (mon : ℕ) → IsMonitor s mon → G
 not_none : {A : Type 0} (x : A) → Some x ≡ None → ⊥
 not_none x e = cc
 
-some_is : {A : Type 0} (x y : A) → Some x ≡ Some y → x ≡ y
-some_is x y e = cc
-
 -- Values for the last round are accepted only with the number of the last Assign
 values_are : (s : Setup) (before : List Noted) (mon : ℕ) (frame : Frame) (r : Reported) → refusal_of s before mon frame ≡ None → values_for (last_round before) mon frame ≡ Some r
     → frame ≡ f.Values (last_round before) (assigns_sent mon before) r.border r.values
@@ -85,7 +83,7 @@ values_are s before mon (f.Values round seq border values) r none is =
     let waits = awaited_waits before mon round awaited.awaited in
     let same : values_for (last_round before) mon (f.Values round seq border values) ≡ Some (record { mon = record { 0 = mon }; values = values; border = border }) =
     ap (λ b. if b then Some (record { mon = record { 0 = mon }; values = values; border = border }) else None) (eq-eqb round (last_round before) waits.last) in
-    let e : record { mon = record { 0 = mon }; values = values; border = border } ≡ r = some_is (record { mon = record { 0 = mon }; values = values; border = border }) r (sym same ∙ is) in
+    let e : record { mon = record { 0 = mon }; values = values; border = border } ≡ r = same_Some (record { mon = record { 0 = mon }; values = values; border = border }) r (sym same ∙ is) in
     ap (λ q. f.Values q seq border values) waits.last ∙ ap (λ q. f.Values (last_round before) q border values) awaited.now ∙ ap (λ (x : Reported). f.Values (last_round before) (assigns_sent mon before) x.border x.values) e
 values_are s before mon (f.Hello run version m) r none is = absurd (cc)
 values_are s before mon (f.Report seq border failed values) r none is = absurd (cc)
@@ -99,7 +97,7 @@ gathers : (s : Setup) (before : List Noted) (from : Mon) (frame : Frame) (mon : 
     → later (values_of (last_round before) mon before) (if own then now else None) ≡ Some r → Contains (frames_from mon (with_got before from frame)) (f.Values (last_round before) (assigns_sent mon before) r.border r.values)
 gathers s before from frame mon r true (Some v) o w none g is =
     let e : from.0 ≡ mon = eqb-true from.0 mon o in
-    let same : v ≡ r = some_is v r is in
+    let same : v ≡ r = same_Some v r is in
     let frame_is : frame ≡ f.Values (last_round before) (assigns_sent mon before) r.border r.values = values_are s before mon frame r (subst (λ q. refusal_of s before q frame ≡ None) e none) (w ∙ ap Some same) in
     subst (λ (x : Frame). Contains (frames_from mon (with_got before from frame)) x) frame_is (is_from mon before from frame o)
 gathers s before from frame mon r true None o w none g is = was_from mon before from frame (f.Values (last_round before) (assigns_sent mon before) r.border r.values) (g r is)

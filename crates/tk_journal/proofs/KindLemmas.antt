@@ -26,7 +26,7 @@ use Rattle.tk_journal.proofs.Counting.{collects_count, got_count, named_count}
 use Rattle.tk_journal.proofs.LawLemmas.{one_less}
 use Rattle.tk_journal.proofs.Orderly.{others_of}
 use Rattle.tk_journal.proofs.Same.{same_closing}
-use Rattle.tk_journal.proofs.StreakLemmas.{streak_got}
+use Rattle.tk_journal.proofs.StreakLemmas.{streak_got, kept}
 use Rattle.tk_journal.proofs.WholeLemmas.{by_turns, turn_is}
 use Rattle.tk_journal.specs.declared.turn.Turn.{Turn}
 use Rattle.tk_journal.specs.declared.turn.TurnKind.{TurnKind}
@@ -64,13 +64,6 @@ unfolding turns_of
 none_opened o = opened_turns o.settings o.members [] [] (enumerate_from 1 o.factors)
 
 -- ---- the streak
-
-kept : (s : Setup) (front : List Noted) (count : ℕ) (rest : List Noted) → inputs_of rest ≡ [] → walk (failures_after s) front count rest ≡ count
-kept s front count [] none = refl
-kept s front count (n.Got from frame ∷ rest) none = absurd (cc)
-kept s front count (n.Sent to frame ∷ rest) none = kept s (front ++ n.Sent to frame ∷ []) count rest none
-kept s front count (n.Published publication ∷ rest) none = kept s (front ++ n.Published publication ∷ []) count rest none
-kept s front count (n.Tuned k epsilon ∷ rest) none = absurd (cc)
 
 streak_tuned : (s : Setup) (before : List Noted) (k : ℕ) (epsilon : ℤ) (rest : List Noted) → inputs_of rest ≡ [] → streak s (before ++ n.Tuned k epsilon ∷ rest) ≡ (if is_calm s (before ++ n.Tuned k epsilon ∷ rest) then 0 else streak s before)
 unfolding streak

@@ -9,7 +9,6 @@ use Rattle.tk_base.specs.Objects.{objects, is_in}
 use Rattle.tk_base.specs.Settings.{Setup}
 use Rattle.tk_base.specs.declared.ids.Mon.{Mon}
 use Rattle.tk_frames.specs.declared.frame.Frame.{Frame}
-use Rattle.tk_alloc.specs.declared.reported.Reported.{Reported}
 use Rattle.tk_base.specs.History.{last_of}
 use Rattle.tk_journal.specs.Laws.{IsMonitor, IsSetUp}
 use Rattle.tk_journal.specs.Legal.{IsLegal, Opening, opened}
@@ -32,6 +31,7 @@ use Rattle.tk_journal.proofs.Turning.{any_range, orderly_demanded}
 use Rattle.tk_journal.proofs.GrowLemmas.{Grows, grows, with_got}
 use Rattle.tk_journal.proofs.GrowLemmas.Grows.{Nothing, ToOne, ToAll, Asks}
 use Rattle.tk_journal.specs.Sending.{IsLastAsked}
+use Rattle.tk_journal.proofs.Rounding.{waits_less}
 
 -- ---- the last of a list
 
@@ -70,11 +70,6 @@ last_same mon a b round asked frames h = record {
   is = ap (λ r. asked_of r mon b) round ∙ asked (last_round a) ∙ h.is;
   last = ap (λ (xs : List Frame). last_of xs) frames ∙ h.last ∙ ap (λ r. Some (f.Collect r h.asked)) (sym round);
 }
-
-waits_less : (asked : Option (List ℕ)) (values more : Option Reported) → (is_some asked && not (is_some (later values more))) ≡ true → (is_some asked && not (is_some values)) ≡ true
-waits_less None values more h = h
-waits_less (Some x) values None h = h
-waits_less (Some x) values (Some y) h = absurd (false≢true h)
 
 got_waits : (mon : ℕ) (j : List Noted) (from : Mon) (frame : Frame) → Waits mon (with_got j from frame) → Waits mon j
 unfolding waits_for

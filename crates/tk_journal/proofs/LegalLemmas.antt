@@ -39,9 +39,6 @@ pub record FrameTurn (s : Setup) (P : List Noted → Type 0) : Type 0 where
   pub closes : (j : List Noted) → P j → P (j ++ closing s j)
   pub tunes : (before : List Noted) (k : ℕ) (epsilon : ℤ) → IsAccepted s before (n.Tuned k epsilon) → P before → P (before ++ n.Tuned k epsilon ∷ [] ++ wide_collects s (rounds s before + 1))
 
-three_parts : (before got demands ends : List Noted) → before ++ got ++ demands ++ ends ≡ before ++ (got ++ demands ++ ends)
-three_parts before got demands ends = append_assoc (before ++ got) demands ends ∙ append_assoc before got (demands ++ ends) ∙ ap (λ xs. before ++ xs) (sym (append_assoc got demands ends))
-
 by_got : (s : Setup) (P : List Noted → Type 0) → FrameTurn s P → (before : List Noted) (from : Mon) (frame : Frame) → IsAccepted s before (n.Got from frame) → P before
     → P (before ++ turn_of s before (n.Got from frame))
 unfolding turn_of

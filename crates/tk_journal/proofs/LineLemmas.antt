@@ -1,9 +1,10 @@
 -- What one more name, place or monitor adds to the text of a line.
-use Rattle.std.proofs.Common.{◌≡◌, ℕ, suc, zero, ◌+◌, ◌-◌, ◌<◌, Bool, true, cond, Some, List, [], ◌∷◌, ◌++◌, length, take, get_or, sym, ap, ◌∙◌, arith, append_assoc, append-nil, length-take, rules}
+use Rattle.std.proofs.Common.{◌≡◌, ℕ, suc, ◌+◌, ◌-◌, ◌<◌, Bool, true, cond, Some, List, [], ◌∷◌, ◌++◌, length, take, get_or, sym, ap, ◌∙◌, arith, append_assoc, append-nil, length-take, rules}
 use Rattle.std.specs.Prelude.{codes, decimal, flat_map, nat_lt, slice_get}
 use Rattle.std.specs.List.{join_by, range_with_len}
 use Rattle.std.proofs.lemmas.List.Concat.{flat_map-append}
 use Rattle.std.proofs.lemmas.List.{take_more}
+use Rattle.std.proofs.lemmas.Option.{get_or_from_slice_get}
 use Rattle.tk_border.proofs.RisingLemmas.{range-append}
 use Rattle.tk_journal.specs.Line.{monitor_text, name_text, names_text, places_text}
 
@@ -23,15 +24,10 @@ join_by-push f sep (x ∷ xs) y =
     ∙ sym (append_assoc (f x) (flat_map (λ z. sep ++ f z) xs) (sep ++ f y))
     ∙ ap (λ (b : Bool). (f x ++ flat_map (λ z. sep ++ f z) xs) ++ (cond b sep [] ++ f y)) (sym more)
 
-got : {X : Type 0} (xs : List X) (i : ℕ) (x d : X) → slice_get xs i ≡ Some x → get_or xs i d ≡ x
-got [] i x d h = absurd (cc)
-got (y ∷ xs) zero x d h = cc
-got (y ∷ xs) (suc i) x d h = got xs i x d h
-
 pub names_more : (names : List (List ℕ)) (members : List ℕ) (i o : ℕ) (name : List ℕ) → i < length members → o ≡ get_or members i 0 → slice_get names (o - 1) ≡ Some name
     → names_text names (take i members) ++ (codes " " ++ name) ≡ names_text names (take (i + 1) members)
 names_more names members i o name within at named =
-    ap (λ (n : List ℕ). names_text names (take i members) ++ (codes " " ++ n)) (sym (got names (o - 1) name [] named))
+    ap (λ (n : List ℕ). names_text names (take i members) ++ (codes " " ++ n)) (sym (get_or_from_slice_get names (o - 1) name [] named))
     ∙ ap (λ (m : ℕ). names_text names (take i members) ++ name_text names m) at
     ∙ sym (flat_map-push (name_text names) (take i members) (get_or members i 0))
     ∙ ap (names_text names) (sym (take_more members i 0 within))
@@ -50,7 +46,7 @@ pub monitors_more : (cut : List (List ℕ)) (i : ℕ) (places : List ℕ) → sl
 monitors_more cut i places here =
     let next : i + 1 ≡ 1 + i = omega arith in
     let place : i ≡ 1 + i - 1 = omega arith in
-    ap (λ (p : List ℕ). flat_map (monitor_text cut) (range_with_len 1 i) ++ (codes " " ++ decimal (i + 1) ++ codes ":" ++ places_text p)) (sym (got cut i places [] here))
+    ap (λ (p : List ℕ). flat_map (monitor_text cut) (range_with_len 1 i) ++ (codes " " ++ decimal (i + 1) ++ codes ":" ++ places_text p)) (sym (get_or_from_slice_get cut i places [] here))
     ∙ ap (λ (m : ℕ). flat_map (monitor_text cut) (range_with_len 1 i) ++ (codes " " ++ decimal m ++ codes ":" ++ places_text (get_or cut i []))) next
     ∙ ap (λ (j : ℕ). flat_map (monitor_text cut) (range_with_len 1 i) ++ (codes " " ++ decimal (1 + i) ++ codes ":" ++ places_text (get_or cut j []))) place
     ∙ sym (flat_map-push (monitor_text cut) (range_with_len 1 i) (1 + i))

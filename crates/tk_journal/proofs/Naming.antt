@@ -95,7 +95,7 @@ named_one s j to seq changes d h mon r =
 abbrev pub AreNumbered : Setup → List Noted → Type 0
 AreNumbered s j = (mon : ℕ) → IsMonitor s mon → seqs_to mon j ≡ range_with_len 1 (assigns_sent mon j)
 
-range_push : (a k : ℕ) → range_with_len a k ++ (a + k) ∷ [] ≡ range_with_len a (k + 1)
+pub range_push : (a k : ℕ) → range_with_len a k ++ (a + k) ∷ [] ≡ range_with_len a (k + 1)
 range_push a zero = let e : a + 0 ≡ a = omega arith in ap (λ m. m ∷ []) e
 range_push a (suc k) = ap (λ xs. a ∷ xs) (ap (λ m. range_with_len (a + 1) k ++ m ∷ []) (let e : a + suc k ≡ a + 1 + k = omega arith in e) ∙ range_push (a + 1) k) ∙ (let e : suc (k + 1) ≡ suc k + 1 = omega arith in ap (range_with_len a) e)
 
@@ -143,10 +143,6 @@ pub numbered_all : {A : Type 0} (s : Setup) (j : List Noted) (to seq : A → ℕ
 numbered_all s j to seq members changes rows is next h mon r =
     let one = one_row to 1 s.monitors rows mon is r.from_one (let w = r.within in omega (arith, w)) in
     numbered_row mon j to seq members changes rows one.row one.alone (next one.row ∙ ap (λ q. assigns_sent q j + 1) one.own) (h mon r)
-
-one_or_none : {A : Type 0} (b : Bool) (d : A) (P : List A → Type 0) → (b ≡ true → P (d ∷ [])) → (b ≡ false → P []) → P (if b then d ∷ [] else [])
-one_or_none true d P p q = p refl
-one_or_none false d P p q = q refl
 
 pub numbered_one : {A : Type 0} (s : Setup) (j : List Noted) (to seq : A → ℕ) (members : List ℕ) (changes : A → List (ℕ × ℤ)) (d : A)
     → seq d ≡ assigns_sent (to d) j + 1 → AreNumbered s j → AreNumbered s (j ++ batch to (named seq members changes) (d ∷ []))

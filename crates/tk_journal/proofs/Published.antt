@@ -1,5 +1,5 @@
 -- Publications: their numbers, and where they stand.
-use Rattle.std.proofs.Common.{◌≡◌, ℕ, suc, zero, Bool, true, false, ◌+◌, List, [], ◌∷◌, ◌++◌, length, map, drop, refl, sym, ap, ◌∙◌, subst, arith}
+use Rattle.std.proofs.Common.{◌≡◌, ℕ, Bool, true, false, ◌+◌, List, [], ◌∷◌, ◌++◌, length, map, drop, refl, sym, ap, ◌∙◌, subst, arith}
 use Rattle.std.specs.Prelude.{ℤ, if◌then◌else◌, filter, not, ◌==◌, ◌||◌}
 use Rattle.std.specs.List.{list_any, range_with_len, enumerate_from}
 use Rattle.std.proofs.lemmas.List.{append-nil, length-append, map-append}
@@ -26,6 +26,7 @@ use Rattle.tk_journal.specs.declared.noted.Noted.TheVariants as n
 use Rattle.tk_journal.specs.declared.publication.Publication.{Publication}
 use Rattle.tk_journal.proofs.Pieces.{batch}
 use Rattle.tk_journal.proofs.LegalLemmas.{by_parts, legal_carries}
+use Rattle.tk_journal.proofs.Naming.{range_push}
 
 -- ---- what a frame demands publishes nothing
 
@@ -185,19 +186,13 @@ none_more j entries none = filter_map-append published_in j entries ∙ ap (λ (
 count_same : (j k : List Noted) → publications k ≡ publications j → AreCountedUp j → AreCountedUp k
 count_same j k same h = subst (λ (ps : List Publication). map (λ (p : Publication). p.number) ps ≡ range_with_len 1 (length ps)) (sym same) h
 
-range_next : (a k : ℕ) → range_with_len a k ++ (a + k) ∷ [] ≡ range_with_len a (k + 1)
-range_next a zero = let e : a + 0 ≡ a = omega arith in ap (λ m. m ∷ []) e
-range_next a (suc k) =
-    ap (λ xs. a ∷ xs) (ap (λ m. range_with_len (a + 1) k ++ m ∷ []) (let e : a + suc k ≡ a + 1 + k = omega arith in e) ∙ range_next (a + 1) k)
-    ∙ (let e : suc (k + 1) ≡ suc k + 1 = omega arith in ap (range_with_len a) e)
-
 one_more : (ps : List Publication) (p : Publication) → p.number ≡ length ps + 1 → map (λ (q : Publication). q.number) ps ≡ range_with_len 1 (length ps)
     → map (λ (q : Publication). q.number) (ps ++ p ∷ []) ≡ range_with_len 1 (length (ps ++ p ∷ []))
 one_more ps p next before =
     map-append (λ (q : Publication). q.number) ps (p ∷ [])
     ∙ ap (λ xs. xs ++ p.number ∷ []) before
     ∙ ap (λ m. range_with_len 1 (length ps) ++ m ∷ []) (next ∙ (let e : length ps + 1 ≡ 1 + length ps = omega arith in e))
-    ∙ range_next 1 (length ps)
+    ∙ range_push 1 (length ps)
     ∙ ap (range_with_len 1) (sym (length-append ps (p ∷ [])))
 
 stops_none : (s : Setup) (last : Bool) → publications (if last then stops s else []) ≡ []

@@ -1,8 +1,8 @@
 -- The reports to a round.
-use Rattle.std.proofs.Common.{◌≡◌, ℕ, suc, zero, Bool, true, false, not, ◌+◌, ◌≤◌, ◌<◌, ◌==◌, ◌||◌, ◌&&◌, List, [], ◌∷◌, map, Option, Some, None, refl, ap, ◌∙◌, subst, arith, inl, inr}
+use Rattle.std.proofs.Common.{◌≡◌, ℕ, suc, zero, Bool, true, false, ◌+◌, ◌≤◌, ◌<◌, ◌==◌, List, [], ◌∷◌, map, Option, Some, None, refl, ap, ◌∙◌, subst, arith, inl, inr}
 use Rattle.std.specs.Prelude.{fold, is_some, if◌then◌else◌}
 use Rattle.std.specs.List.{filter_map, list_any, cons_option, range_with_len}
-use Rattle.std.proofs.lemmas.Bool.{cases_eq}
+use Rattle.std.proofs.lemmas.Bool.{cases_eq, or_parts}
 use Rattle.tk_base.specs.Settings.{Setup}
 use Rattle.tk_frames.specs.declared.frame.Frame.{Frame}
 use Rattle.tk_frames.specs.declared.frame.Frame.TheVariants as f
@@ -84,14 +84,10 @@ all_there j a (suc k) each =
 
 -- ---- an open round
 
-or_none : (a b : Bool) → (a || b) ≡ false → (a ≡ false) × (b ≡ false)
-or_none true b e = cc
-or_none false b e = (refl, e)
-
 pub in_range_any : (p : ℕ → Bool) (a k mon : ℕ) → a ≤ mon → mon < a + k → list_any p (range_with_len a k) ≡ false → p mon ≡ false
 in_range_any p a zero mon low high none = absurd (omega (arith, low, high))
 in_range_any p a (suc k) mon low high none =
-    let split = or_none (p a) (list_any p (range_with_len (a + 1) k)) none in
+    let split = or_parts (p a) (list_any p (range_with_len (a + 1) k)) none in
     elim (cases_eq mon a) [
       | inl e ↦ ap p e ∙ split.0
       | inr ne ↦ in_range_any p (a + 1) k mon (omega (arith, low, ne)) (omega (arith, high)) split.1
@@ -101,12 +97,3 @@ in_range_any p a (suc k) mon low high none =
 pub closed_waits : (s : Setup) (j : List Noted) → is_open s j ≡ false → (mon : ℕ) → IsMonitor s mon → waits_for (last_round j) mon j ≡ false
 unfolding is_open
 closed_waits s j closed mon r = in_range_any (λ q. waits_for (last_round j) q j) 1 s.monitors mon r.from_one (omega (arith, r.within)) closed
-
-some_there : {B : Type 0} (o : Option B) → is_some o ≡ true → IsThere o
-some_there None e = cc
-some_there (Some y) e = (y, refl)
-
-answered_there : {A B : Type 0} (asked : Option A) (values : Option B) → (is_some asked && not (is_some values)) ≡ false → is_some asked ≡ true → IsThere values
-answered_there asked (Some y) e yes' = (y, refl)
-answered_there (Some x) None e yes' = cc
-answered_there None None e yes' = cc

@@ -3,7 +3,7 @@ use Rattle.tk_journal.specs.declared.noted.Noted.TheVariants as n
 use Rattle.std.proofs.Common.{◌≡◌, ℕ, suc, ◌+◌, ◌==◌, Bool, true, false, List, [], ◌∷◌, ◌++◌, Some, refl, sym, ap, ◌∙◌, subst, arith, inl, inr}
 use Rattle.std.specs.Prelude.{ℤ, if◌then◌else◌}
 use Rattle.std.specs.List.{enumerate_from, range_with_len}
-use Rattle.std.proofs.lemmas.Bool.{cases_eq, true≢false, eq-eqb, eqb-true, ne_eqb}
+use Rattle.std.proofs.lemmas.Bool.{cases_eq, true≢false, eq-eqb, eqb-true, ne_eqb, false_from_ne_true}
 use Rattle.tk_base.specs.Settings.{Setup}
 use Rattle.tk_base.specs.declared.ids.Mon.{Mon}
 use Rattle.tk_frames.specs.declared.frame.Frame.{Frame}
@@ -43,15 +43,11 @@ got_no_report s before from frame mon quiet old =
     ∙ got_quiet s before from frame mon (from.0 == mon) (is_answer (assigns_sent mon before) frame) refl refl
     (λ own fresh. let e : from.0 ≡ mon = eqb-true from.0 mon own in quiet e (subst (λ q. is_answer (assigns_sent q before) frame ≡ true) (sym e) fresh)) old
 
-not_that : (b : Bool) → (b ≡ true → ⊥) → b ≡ false
-not_that true h = absurd (h refl)
-not_that false h = refl
-
 grown_no_report : (s : Setup) (before : List Noted) (from : Mon) (frame : Frame) (after : List Noted) → Grows s before from frame after → NoReport s before → NoReport s after
 grown_no_report s before from frame after (Nothing e same resting) h closed mon m =
     let was : is_open s before ≡ false = sym same ∙ sym (ap (is_open s) e) ∙ closed in
     ap (λ j. is_report (answer_of mon j)) e
-    ∙ got_no_report s before from frame mon (λ own fresh. not_that (is_report (Some frame)) (λ is. true≢false (sym (resting fresh is) ∙ was))) (h was mon m)
+    ∙ got_no_report s before from frame mon (λ own fresh. false_from_ne_true (is_report (Some frame)) (λ is. true≢false (sym (resting fresh is) ∙ was))) (h was mon m)
 grown_no_report s before from frame after (ToOne members row border failed values fresh' node was closed' e) h closed mon m =
     let now = with_got before from frame in
     elim (cases_eq row.0 mon) [

@@ -44,7 +44,7 @@ or_right false b e = e
 
 -- ---- a taken frame opens no round
 
-waits_less : (asked : Option (List ℕ)) (values more : Option Reported) → (is_some asked && not (is_some (later values more))) ≡ true → (is_some asked && not (is_some values)) ≡ true
+pub waits_less : (asked : Option (List ℕ)) (values more : Option Reported) → (is_some asked && not (is_some (later values more))) ≡ true → (is_some asked && not (is_some values)) ≡ true
 waits_less None values more h = h
 waits_less (Some x) values None h = h
 waits_less (Some x) values (Some y) h = cc

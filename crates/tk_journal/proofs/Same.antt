@@ -137,13 +137,6 @@ force_same s a b e =
 
 -- ---- publications and Stops
 
--- no retune and no Collect
-abbrev pub IsNeither : Noted → Type 0
-IsNeither (n.Got from frame) = Unit {0}
-IsNeither (n.Sent to frame) = round_in (n.Sent to frame) ≡ None
-IsNeither (n.Published publication) = Unit {0}
-IsNeither (n.Tuned k epsilon) = ⊥
-
 first_more : (a b : List Noted) → first_round b ≡ None → first_round (a ++ b) ≡ first_round a
 first_more [] b none = none
 first_more (e ∷ a) b none = ap (λ x. if is_some (round_in e) then round_in e else x) (first_more a b none)

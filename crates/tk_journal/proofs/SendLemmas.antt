@@ -8,7 +8,7 @@ use Rattle.std.proofs.lemmas.Bool.{false≢true, and_parts, leb-true}
 use Rattle.std.proofs.lemmas.List.Elements.{All-contains}
 use Rattle.tk_base.specs.History.{EachFrom}
 use Rattle.tk_base.specs.Ascending.{IsAscending}
-use Rattle.tk_border.proofs.RisingLemmas.{ascends, rises-objects}
+use Rattle.tk_border.proofs.RisingLemmas.{ascends}
 use Rattle.tk_base.specs.Objects.{objects}
 use Rattle.tk_base.specs.Pairs.{objects_of}
 use Rattle.tk_base.specs.Settings.{Setup, IsWithinLimits}
@@ -157,12 +157,6 @@ can_ask s front asked limits o h begun up within among =
       within = within;
       among = among;
     }
-
-pub catalogue_ascends : (n : ℕ) → IsAscending (objects n)
-catalogue_ascends n = ascends (objects n) (rises-objects n)
-
-pub catalogue_within : (n : ℕ) → All (λ o. o ≤ n) (objects n)
-catalogue_within n = all_by (λ o. o ≤ n) (objects n) (λ o in'. (of_catalogue n o in').1)
 
 pub all_among : (s : Setup) (front : List Noted) → IsStanding s front → All (Contains (objects s.objects)) (members_at front)
 all_among s front st = all_by (Contains (objects s.objects)) (members_at front) (λ t in'. let o = object_of s (members_at front) [] t st.chosen.ascends st.chosen.within in' in in_catalogue s.objects t o.from_one o.within)

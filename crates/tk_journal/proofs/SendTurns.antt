@@ -1,7 +1,7 @@
 -- Each turn says what may be said, so every legal journal does.
 use Rattle.tk_frames.specs.declared.frame.Frame.TheVariants as f
 use Rattle.tk_journal.specs.declared.noted.Noted.TheVariants as n
-use Rattle.std.proofs.Common.{◌≡◌, ℕ, suc, ◌+◌, ◌^◌, ◌≤◌, ◌<◌, ◌==◌, ℤ, pos, Bool, true, false, not, List, [], ◌∷◌, ◌++◌, length, map, Contains, None, refl, sym, ap, ◌∙◌, subst, arith, append_assoc}
+use Rattle.std.proofs.Common.{◌≡◌, ℕ, suc, ◌+◌, ◌^◌, ◌≤◌, ◌<◌, ◌==◌, ℤ, pos, Bool, true, not, List, [], ◌∷◌, ◌++◌, length, map, Contains, None, refl, sym, ap, ◌∙◌, subst, arith, append_assoc}
 use Rattle.std.specs.Prelude.{filter, unsigned_abs}
 use Rattle.std.specs.List.{All, list_all, enumerate_from}
 use Rattle.std.proofs.lemmas.Bool.{and_parts, le-ltb}
@@ -26,33 +26,32 @@ use Rattle.tk_journal.specs.Deciding.{full_decides, is_within_limit, reports_at,
 use Rattle.tk_journal.specs.Laws.{IsMonitor, IsSetUp}
 use Rattle.tk_journal.specs.Legal.{IsAccepted, IsLegal, Opening, opened, turn_of}
 use Rattle.tk_journal.specs.Publishing.{closing}
-use Rattle.tk_journal.specs.Readings.{assigns_sent, in_force, is_open, members_at, monitors, table_at}
+use Rattle.tk_journal.specs.Readings.{assigns_sent, in_force, members_at, monitors, table_at}
 use Rattle.tk_journal.specs.Refusal.{known_by, refusal_of}
 use Rattle.tk_journal.specs.Turns.{assigns, demanded, full_at, is_wide, reported, rounds, short_at, wide_at, wide_collects}
 use Rattle.tk_journal.specs.declared.noted.Noted.{Noted}
 use Rattle.tk_journal.proofs.Appends.{assigns_sent-append, members_at-append}
 use Rattle.tk_journal.proofs.Content.{report_takes_part}
-use Rattle.tk_journal.proofs.Ending.{IsWideAt}
+use Rattle.tk_journal.proofs.Ending.{IsWideAt, wide_ascends, all_within}
 use Rattle.tk_journal.proofs.Firm.{IsFirm, got_tuned, wide_begins}
-use Rattle.tk_journal.proofs.FirmTurns.{AreRoundObjects, firm_demanded, fresh_content, full_at_end, report_objects, takes_at_end}
+use Rattle.tk_journal.proofs.FirmTurns.{AreRoundObjects, firm_demanded, fresh_content, full_at_end, report_objects, takes_at_end, got_sizes}
 use Rattle.tk_journal.proofs.LawLemmas.{one_less, orderly}
 use Rattle.tk_journal.proofs.LegalLemmas.{tuned_assigns}
-use Rattle.tk_journal.proofs.Orderly.{IsEnding, IsOrderly, Row, assigns_got}
+use Rattle.tk_journal.proofs.Orderly.{IsOrderly, Row, assigns_got}
 use Rattle.tk_journal.proofs.Pieces.{got_assigns, got_members}
-use Rattle.tk_journal.proofs.Same.{factor_by, own_by}
 use Rattle.tk_journal.proofs.Sound.{round_got}
 use Rattle.tk_journal.proofs.SoundLemmas.{legal_firm}
 use Rattle.tk_journal.proofs.Standing.{bounded_small, is_small}
-use Rattle.tk_journal.proofs.Tables.{AreSized, table_size}
+use Rattle.tk_journal.proofs.Tables.{table_size}
 use Rattle.tk_journal.proofs.Tuning.{force_objects}
-use Rattle.tk_journal.proofs.Turning.{orderly_demanded, values_ending}
+use Rattle.tk_journal.proofs.Turning.{orderly_demanded}
 use Rattle.tk_journal.specs.Shapes.{IsFreshReport, IsLastValues, Shape}
 use Rattle.tk_journal.specs.Shapes.Shape.{Plain, Short, Wide, Full, LoneEnd, LoneWide, EndFull, EndOver, EndWide}
-use Rattle.tk_journal.proofs.GrowLemmas.{with_got}
+use Rattle.tk_journal.proofs.GrowLemmas.{with_got, ending_of}
 use Rattle.tk_journal.proofs.HeardLemmas.{first_sent}
 use Rattle.tk_journal.proofs.ShapeLemmas.{shape}
 use Rattle.tk_journal.specs.Sending.{IsSaidWell}
-use Rattle.tk_journal.proofs.SendLemmas.{CanAsk, all_among, asks_well, batch_well, can_ask, catalogue_ascends, catalogue_within, closing_well, listed_monitor, rest_all, sent_well}
+use Rattle.tk_journal.proofs.SendLemmas.{CanAsk, all_among, asks_well, batch_well, can_ask, closing_well, listed_monitor, rest_all, sent_well}
 use Rattle.tk_journal.proofs.WholeLemmas.{by_turns}
 
 abbrev pub AreBegun : Setup → List Noted → Type 0
@@ -107,7 +106,7 @@ kept_is p xs q in' = is_in_contained xs q (and_parts (is_in xs q) (p q) (sym (is
 ask_wide : (s : Setup) (before : List Noted) (from : Mon) (frame : Frame) (round : ℕ) → IsBegun s before from frame → EachFrom (IsSaidWell s) (with_got before from frame) (wide_collects s round)
 ask_wide s before from frame round h =
     asks_well s (with_got before from frame) round (objects s.objects) (monitors s) (λ q in'. listed_monitor s q in')
-    (ask_got s before from frame (objects s.objects) (can_ask s before (objects s.objects) h.limits h.order h.firm h.begun (catalogue_ascends s.objects) (catalogue_within s.objects) (all_among s before h.firm.standing)))
+    (ask_got s before from frame (objects s.objects) (can_ask s before (objects s.objects) h.limits h.order h.firm h.begun (wide_ascends s.objects) (all_within s.objects) (all_among s before h.firm.standing)))
 
 -- ---- Assigns by what was decided
 
@@ -147,21 +146,10 @@ wide_well s now reports limits c firm =
     let parts = wide_parts setup members reports in
     let factor_of : (z : ℤ) → unsigned_abs z < 2 ^ 108 → IsFactor z = λ z h. omega (arith, h) in
     sent_well s now members grid parts all (map (monitor (pos 0)) reports) limits firm
-    (subst (λ q. All (λ o. o ≤ q) all) (force_objects s now) (catalogue_within setup.objects))
+    (subst (λ q. All (λ o. o ≤ q) all) (force_objects s now) (all_within setup.objects))
     (bounded_small grid parts all 1 (map (monitor (pos 0)) reports) (slight_at IsFactor factor_of grid parts all 1 reports c.called.reported.values (λ o in'. leeway_size setup grid present reports o c.called in')))
 
 -- ---- the last Values
-
-ending_of : (s : Setup) (before : List Noted) (from : Mon) (frame : Frame) → IsMonitor s from.0 → refusal_of s before from.0 frame ≡ None → IsOrderly s before → IsLastValues s before from frame → IsEnding s (with_got before from frame) (reports_at s (with_got before from frame))
-ending_of s before from frame range none o v =
-    subst (λ (g : Frame). refusal_of s before from.0 g ≡ None → is_open s (with_got before from g) ≡ false → IsEnding s (with_got before from g) (reports_at s (with_got before from g))) (sym v.is)
-    (λ none' closed'. values_ending s before from v.round (assigns_sent from.0 before) v.border v.values range none' o closed') none v.closed
-
-got_sizes : (s : Setup) (j : List Noted) (from : Mon) (frame : Frame) → AreSized s j → AreSized s (j ++ n.Got from frame ∷ [])
-got_sizes s j from frame z = record {
-  own = λ o r. subst IsFactor (sym (own_by s j (j ++ n.Got from frame ∷ []) (λ mon. got_assigns mon j from frame) o)) (z.own o r);
-  each = λ o mon r m. subst IsFactor (sym (factor_by j (j ++ n.Got from frame ∷ []) (λ q. got_assigns q j from frame) mon o)) (z.each o mon r m);
-}
 
 wide_ends : (s : Setup) (before : List Noted) (from : Mon) (frame : Frame) → IsBegun s before from frame → IsLastValues s before from frame → is_wide s (with_got before from frame) ≡ true → IsWideAt s (with_got before from frame) (reports_at s (with_got before from frame))
 wide_ends s before from frame h v wide =
@@ -237,7 +225,7 @@ turn_well o k some set before (n.Tuned q epsilon) accepted legal h =
     let order = orderly o before set legal in
     let firm = legal_firm o before set legal in
     let all = objects s.objects in
-    let can = can_ask s before all set.limits order firm h.begun (catalogue_ascends s.objects) (catalogue_within s.objects) (all_among s before firm.standing) in
+    let can = can_ask s before all set.limits order firm h.begun (wide_ascends s.objects) (all_within s.objects) (all_among s before firm.standing) in
     record {
       each = each_join (IsSaidWell s) [] before (n.Tuned q epsilon ∷ wide_collects s (rounds s before + 1)) h.each
           (tt, asks_well s (before ++ n.Tuned q epsilon ∷ []) (rounds s before + 1) all (monitors s) (λ m in'. listed_monitor s m in') (ask_tuned s before q epsilon all can));

@@ -32,6 +32,7 @@ use Rattle.tk_frames.proofs.CarriedLemmas.{tally-append}
 use Rattle.tk_journal.proofs.Accepted.{accepted_kind}
 use Rattle.tk_journal.proofs.GrowLemmas.{Grows, grows, range_rises, with_got}
 use Rattle.tk_journal.proofs.GrowLemmas.Grows.{Nothing, ToOne, ToAll, Asks}
+use Rattle.tk_journal.proofs.Rounding.{or_right}
 
 abbrev pub is_other : Frame → Bool
 is_other (f.Assign seq members changes) = false
@@ -163,10 +164,6 @@ halt_neither = record { assign = λ seq members changes. refl; collect = λ roun
 or_left : (a b : Bool) → (a || b) ≡ false → a ≡ false
 or_left true b h = absurd (true≢false h)
 or_left false b h = refl
-
-or_right : (a b : Bool) → (a || b) ≡ false → b ≡ false
-or_right true b h = absurd (true≢false h)
-or_right false b h = h
 
 halt_first : (mon : ℕ) (to : Mon) (frame : Frame) (frames : List Frame) → is_stop (n.Sent to frame) ≡ false → tally is_halt frames ≡ 0 → tally is_halt (cons_option (if to.0 == mon then Some frame else None) frames) ≡ 0
 halt_first mon to (f.Assign seq members changes) frames live h = none_one is_halt (to.0 == mon) (f.Assign seq members changes) frames refl ∙ h

@@ -10,7 +10,7 @@ use Rattle.std.proofs.lemmas.List.Elements.{filter_map-append}
 use Rattle.std.proofs.lemmas.List.Sums.{fold_push}
 use Rattle.tk_journal.proofs.ProgressLemmas.{are_same_by, settled_is, progress_goes_on, closing_is}
 use Rattle.std.specs.List.{cons_option, enumerate_from, list_all, range_with_len}
-use Rattle.std.proofs.lemmas.Bool.{and_from, and_parts, cases_Bool, eq-eqb, eqb-true, false≢true, true≢false}
+use Rattle.std.proofs.lemmas.Bool.{and_from, and_parts, cases_Bool, eq-eqb, eqb-true, false≢true, true≢false, not-true}
 use Rattle.tk_base.specs.Settings.{Setup}
 use Rattle.tk_base.specs.declared.ids.Mon.{Mon}
 use Rattle.tk_frames.specs.Assigns.{Assign, assign_in}
@@ -44,6 +44,7 @@ use Rattle.tk_journal.proofs.Pieces.{assigns_on-sent, batch_from, batch_to, got_
 use Rattle.tk_journal.specs.Sending.{IsAnswered}
 use Rattle.tk_journal.proofs.SendLemmas.{calm_settled, monitor_listed}
 use Rattle.tk_journal.proofs.WholeLemmas.{by_turns, stands_whole}
+use Rattle.tk_journal.proofs.Ended.{or_any}
 
 some_halts : (xs : List ℕ) → 0 < length xs → 0 < tally is_halt (map (λ _. f.Stop) xs)
 some_halts [] some = absurd (omega (arith, some))
@@ -54,17 +55,9 @@ kept_some p xs x in' own =
     let there = is_in_contained (filter p xs) x (is_in-filter p xs x ∙ and_from (is_in xs x) (p x) (contained_is_in xs x in') own) in
     let b = there.1 in omega (arith, b)
 
-or_right_true : (b : Bool) → (b || true) ≡ true
-or_right_true true = refl
-or_right_true false = refl
-
-not_true : (b : Bool) → not b ≡ true → b ≡ false
-not_true true e = absurd (false≢true e)
-not_true false e = refl
-
 calm_closed : (s : Setup) (j : List Noted) → is_calm s j ≡ true → is_open s j ≡ false
 unfolding is_calm
-calm_closed s j calm = not_true (is_open s j) (and_parts (not (is_open s j)) (list_all (λ mon. is_some (settled_of mon j)) (monitors s)) calm).0
+calm_closed s j calm = not-true (is_open s j) (and_parts (not (is_open s j)) (list_all (λ mon. is_some (settled_of mon j)) (monitors s)) calm).0
 
 -- ---- one entry more
 
@@ -192,7 +185,7 @@ stopped_by s j p m = elim (cases_Bool (is_stopped (j ++ n.Published p ∷ stops 
 
 calm_last_stops : (s : Setup) (j : List Noted) → IsMonitor s 1 → is_calm s j ≡ true → is_last s j ≡ true → is_stopped (j ++ closing s j) ≡ true
 calm_last_stops s j m calm last =
-    let due : is_due s j ≡ true = and_from (is_calm s j) (differs (in_force s j) (members_at j) (last_of (publications j)) || is_last s j) calm (ap (λ b. differs (in_force s j) (members_at j) (last_of (publications j)) || b) last ∙ or_right_true (differs (in_force s j) (members_at j) (last_of (publications j)))) in
+    let due : is_due s j ≡ true = and_from (is_calm s j) (differs (in_force s j) (members_at j) (last_of (publications j)) || is_last s j) calm (ap (λ b. differs (in_force s j) (members_at j) (last_of (publications j)) || b) last ∙ or_any (differs (in_force s j) (members_at j) (last_of (publications j)))) in
     ap is_stopped (ap (λ xs. j ++ xs) (closing_is s j due last)) ∙ stopped_by s j (publication_at s j) m
 
 abbrev Ended : Setup → List Noted → Type 0

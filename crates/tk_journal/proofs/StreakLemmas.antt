@@ -13,7 +13,7 @@ use Rattle.tk_journal.specs.declared.noted.Noted.{Noted}
 use Rattle.tk_journal.proofs.Appends.{walk-append}
 
 -- what is sent and published leaves the count
-kept : (s : Setup) (front : List Noted) (count : ℕ) (rest : List Noted) → inputs_of rest ≡ [] → walk (failures_after s) front count rest ≡ count
+pub kept : (s : Setup) (front : List Noted) (count : ℕ) (rest : List Noted) → inputs_of rest ≡ [] → walk (failures_after s) front count rest ≡ count
 kept s front count [] none = refl
 kept s front count (n.Got from frame ∷ rest) none = absurd (cc)
 kept s front count (n.Sent to frame ∷ rest) none = kept s (front ++ n.Sent to frame ∷ []) count rest none

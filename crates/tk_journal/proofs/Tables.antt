@@ -7,7 +7,6 @@ use Rattle.std.proofs.lemmas.List.FromFn.{get_or-map-range_with_len, length-map-
 use Rattle.tk_base.specs.Settings.{Setup}
 use Rattle.tk_base.specs.Objects.{objects}
 use Rattle.tk_rows.specs.Factors.{IsFactor, AreFactors, IsBalanced, AreBalanced, factor_at, row_of}
-use Rattle.tk_alloc.specs.Rounds.{IsOfSize}
 use Rattle.tk_journal.specs.Laws.{IsMonitor}
 use Rattle.tk_journal.specs.Readings.{monitors, factor, own, table_at}
 use Rattle.tk_journal.specs.declared.noted.Noted.{Noted}
@@ -73,6 +72,3 @@ table_balanced s j z i within =
     let place : i + 1 - 1 ≡ i = omega arith in
     subst (λ (m : ℕ). IsBalanced m (get_or (table_at s j).rows i [])) (sym (table_size s j))
     (subst (λ (row : List ℤ). IsBalanced s.monitors row) (sym (row_is s j (i + 1) o) ∙ ap (λ (q : ℕ). get_or (table_at s j).rows q []) place) (row_balanced s j (i + 1) o z))
-
-pub of_size : (s : Setup) (j : List Noted) → IsOfSize s (table_at s j)
-of_size s j = record { objects = rows_count s j; monitors = table_size s j }

@@ -167,7 +167,7 @@ found : (r a b : Option ℕ) → (is_some a ≡ true → b ≡ a) → is_some (i
 found None a b rest some = rest some
 found (Some x) a b rest some = refl
 
-and_none : (b : Bool) → (b && false) ≡ false
+pub and_none : (b : Bool) → (b && false) ≡ false
 and_none true = refl
 and_none false = refl
 

@@ -19,6 +19,7 @@ abbrev pub report_in : ℕ → Frame → Option Reported
 report_in mon (f.Report seq border failed values) = Some (record { mon = record { 0 = mon }; values = values; border = border })
 report_in mon frame = None
 
+-- what the current answer of a monitor reports, if it is a Report
 abbrev pub answered_report : ℕ → Option Frame → Option Reported
 answered_report mon None = None
 answered_report mon (Some frame) = report_in mon frame

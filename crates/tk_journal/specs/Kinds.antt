@@ -35,6 +35,7 @@ values_widen setup now Wide = false
 values_widen setup now Full = false
 values_widen setup now End = not (is_wide setup now) && not (is_within_limit (full_at setup now (reports_at setup now)))
 
+-- whether a frame opens a wide round
 unfoldable pub opens_wide : Setup → List Noted → ℕ → Frame → Bool
 opens_wide setup before mon (f.Report seq border failed values) = report_widens setup before (reported mon border values) (kind_of setup before mon (f.Report seq border failed values))
 opens_wide setup before mon (f.Values round seq border values) =
@@ -58,15 +59,17 @@ turned setup before (n.Tuned k epsilon) = record {
 turned setup before (n.Sent to frame) = []
 turned setup before (n.Published publication) = []
 
--- the turns of a journal, and their kinds
+-- the turns of a journal, in order
 unfoldable pub turns_of : Setup → List Noted → List Turn
 turns_of setup journal = walk (λ before turns e. turns ++ turned setup before e) [] [] journal
 
+-- the kinds of its turns
 abbrev pub turns : Setup → List Noted → List TurnKind
 turns setup journal = map (λ t. t.kind) (turns_of setup journal)
 
 -- ---- readings
 
+-- whether a turn of this kind is a short round
 abbrev pub is_short_kind : TurnKind → Bool
 is_short_kind Tune = false
 is_short_kind Stale = false
@@ -76,6 +79,7 @@ is_short_kind Wide = false
 is_short_kind Full = false
 is_short_kind End = false
 
+-- whether a turn of this kind opens a full round
 abbrev pub is_full_kind : TurnKind → Bool
 is_full_kind Tune = false
 is_full_kind Stale = false
@@ -85,6 +89,7 @@ is_full_kind Wide = false
 is_full_kind Full = true
 is_full_kind End = false
 
+-- whether a turn of this kind takes a stale frame
 abbrev pub is_stale_kind : TurnKind → Bool
 is_stale_kind Tune = false
 is_stale_kind Stale = true
@@ -101,6 +106,7 @@ pub record RoundCounts : Type 0 where
   pub wide : ℕ
   pub stale : ℕ
 
+-- how many of some turns are short, open a full round, open a wide one, or are stale
 abbrev pub counts_of : List Turn → RoundCounts
 counts_of turned = record {
   short = count_by (λ t. is_short_kind t.kind) turned;
@@ -113,5 +119,6 @@ counts_of turned = record {
 abbrev pub failed_since : ℕ → Turn → ℕ
 failed_since count t = if t.calm then 0 else (if t.fails then count + 1 else count)
 
+-- the streak at the end of some turns
 abbrev pub streak_of : List Turn → ℕ
 streak_of turned = fold failed_since 0 turned

@@ -21,18 +21,20 @@ use Rattle.tk_journal.specs.declared.noted.Noted.TheVariants as n
 abbrev pub monitors : Setup → List ℕ
 monitors setup = range_with_len 1 setup.monitors
 
--- the Assigns sent to a monitor, and how many they are
+-- the Assigns sent to a monitor
 abbrev pub assigns_to : ℕ → List Noted → List Assign
 assigns_to mon journal = filter_map assign_in (frames_to mon journal)
 
+-- how many Assigns were sent to a monitor
 unfoldable pub assigns_sent : ℕ → List Noted → ℕ
 assigns_sent mon journal = length (assigns_to mon journal)
 
--- the sequence numbers of the Assigns sent to a monitor
+-- the sequence number of an Assign
 abbrev pub seq_in : Frame → Option ℕ
 seq_in (f.Assign seq members changes) = Some seq
 seq_in frame = None
 
+-- the sequence numbers of the Assigns sent to a monitor
 abbrev pub seqs_to : ℕ → List Noted → List ℕ
 seqs_to mon journal = filter_map seq_in (frames_to mon journal)
 
@@ -47,10 +49,11 @@ members_in (n.Tuned k epsilon) = None
 unfoldable pub members_at : List Noted → List ℕ
 members_at journal = unwrap_or (last_of (filter_map members_in journal)) []
 
--- the factor of an object at a monitor, and the coordinator's own: minus the sum of all monitors'
+-- the factor of an object at a monitor
 unfoldable pub factor : ℕ → List Noted → ℕ → ℤ
 factor mon journal o = row (assigns_to mon journal) o
 
+-- the coordinator's own factor of an object: minus the sum of all monitors'
 unfoldable pub own : Setup → List Noted → ℕ → ℤ
 own setup journal o = neg_ℤ (int_sum (map (λ mon. factor mon journal o) (monitors setup)))
 
@@ -63,11 +66,12 @@ table_at setup journal = record {
 
 -- ---- answers
 
--- the Assigns among what passed on a link
+-- a frame that passed down, if it is an Assign
 abbrev pub assign_down : Passed → Option Assign
 assign_down (Up frame) = None
 assign_down (Down frame) = assign_in frame
 
+-- how many Assigns passed on a link
 abbrev pub assigns_on : List Passed → ℕ
 assigns_on link = length (filter_map assign_down link)
 
@@ -91,6 +95,7 @@ pub record Progress : Type 0 where
   pub places : List ℕ
   pub last : Bool
 
+-- how far a frame says that its monitor is, if it is a Settled
 abbrev pub progress_in : Frame → Option Progress
 progress_in (f.Settled seq last places) = Some (record { places = places; last = last })
 progress_in frame = None
@@ -106,11 +111,12 @@ told before progress (Down frame) = progress
 unfoldable pub progress_of : ℕ → List Noted → Option Progress
 progress_of mon journal = walk told [] None (link_of mon journal)
 
--- what the current answer says, where it is a Settled
+-- what an answer says, where it is a Settled
 abbrev pub settled_in : Option Frame → Option Progress
 settled_in None = None
 settled_in (Some frame) = progress_in frame
 
+-- the same of the current answer of a monitor
 abbrev pub settled_of : ℕ → List Noted → Option Progress
 settled_of mon journal = settled_in (answer_of mon journal)
 
@@ -132,20 +138,22 @@ round_in (n.Tuned k epsilon) = None
 unfoldable pub last_round : List Noted → ℕ
 last_round journal = unwrap_or (last_of (filter_map round_in journal)) 0
 
--- the objects that a round asks of a monitor, if it asks it
+-- the objects that a frame asks for, if it is a Collect of this round
 abbrev pub asked_by : ℕ → Frame → Option (List ℕ)
 asked_by round (f.Collect r asked) = if r == round then Some asked else None
 asked_by round frame = None
 
+-- the objects that a round asks of a monitor, if it asks it
 unfoldable pub asked_of : ℕ → ℕ → List Noted → Option (List ℕ)
 asked_of round mon journal = last_of (filter_map (asked_by round) (frames_to mon journal))
 
--- what a monitor's Values say to a round
+-- what a frame of a monitor says to a round, if it is Values of it
 abbrev pub values_for : ℕ → ℕ → Frame → Option Reported
 values_for round mon (f.Values r seq border values) =
     if r == round then Some (record { mon = record { 0 = mon }; values = values; border = border }) else None
 values_for round mon frame = None
 
+-- what a monitor's Values say to a round, if there are any
 unfoldable pub values_of : ℕ → ℕ → List Noted → Option Reported
 values_of round mon journal = last_of (filter_map (values_for round mon) (frames_from mon journal))
 
@@ -170,10 +178,12 @@ pub record Tuning : Type 0 where
   pub epsilon : ℤ
   pub round : Option ℕ
 
+-- the round that the next Collect names, if there is one
 abbrev pub first_round : List Noted → Option ℕ
 first_round [] = None
 first_round (e ∷ after) = if is_some (round_in e) then round_in e else first_round after
 
+-- the retunes of a journal, in order
 abbrev pub tunings : List Noted → List Tuning
 tunings [] = []
 tunings (n.Tuned k epsilon ∷ after) = record { k = k; epsilon = epsilon; round = first_round after } ∷ tunings after
@@ -196,6 +206,7 @@ in_force setup journal = tuned_to setup (last_of (filter (λ t. is_over setup jo
 
 -- ---- publications and the end
 
+-- whether an entry sends Stop
 abbrev pub is_stop : Noted → Bool
 is_stop (n.Sent to f.Stop) = true
 is_stop e = false

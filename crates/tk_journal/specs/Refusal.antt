@@ -74,6 +74,7 @@ abbrev pub or_else : Option CoordRefusal → Option CoordRefusal → Option Coor
 or_else None next = next
 or_else (Some refusal) next = Some refusal
 
+-- whether a border is refused, by the least level of a member at these values
 abbrev pub refusal_of_border : Known → List (ℕ × ℤ) → ℤ → Option CoordRefusal
 refusal_of_border known values border = bad_border border (unwrap_or (least_in known values) (pos 0))
 
@@ -102,6 +103,7 @@ go_on (Some before) last places =
     if before.last then last && are_same places before.places
     else length places == length before.places && list_all (λ p. nat_le p.0 p.1) (zip before.places places)
 
+-- places are refused that no feeders can have, or that do not go on from earlier ones
 abbrev pub refusal_of_cut : Option Progress → Bool → List ℕ → Option CoordRefusal
 refusal_of_cut before last places = if are_places places && go_on before last places then None else Some BadCut
 
@@ -119,10 +121,12 @@ abbrev pub is_awaited : Option (ℕ × List ℕ) → ℕ → Bool
 is_awaited None round = false
 is_awaited (Some (r, asked)) round = r == round
 
+-- the objects that it asks of the monitor, none where it does not wait
 abbrev pub asked_in : Option (ℕ × List ℕ) → List ℕ
 asked_in None = []
 asked_in (Some (round, asked)) = asked
 
+-- Values are ahead of the Assigns sent, or not asked for, or behind; else their content is tested
 abbrev pub refusal_of_awaited : Shown → Known → ℕ → ℕ → ℤ → List (ℕ × ℤ) → Option CoordRefusal
 refusal_of_awaited shown known round seq border values =
     if nat_lt shown.at seq then Some (AheadOfSequence shown.at seq)
@@ -130,6 +134,7 @@ refusal_of_awaited shown known round seq border values =
     else (if nat_lt seq shown.at then Some (BehindSequence shown.at seq)
     else refusal_of_values known (asked_in shown.waits) border values))
 
+-- a Report, a Settled and Values meet their tests, and no other kind is for the coordinator
 abbrev pub refusal_of_kind : Shown → Known → Frame → Option CoordRefusal
 refusal_of_kind shown known (f.Hello run version mon) = Some (NotForCoordinator k.Hello)
 refusal_of_kind shown known (f.Report seq border failed values) = refusal_of_answer shown seq (refusal_of_report known border failed values)
@@ -139,11 +144,13 @@ refusal_of_kind shown known (f.Assign seq members changes) = Some (NotForCoordin
 refusal_of_kind shown known (f.Settled seq last places) = refusal_of_answer shown seq (refusal_of_cut shown.progress last places)
 refusal_of_kind shown known f.Stop = Some (NotForCoordinator k.Stop)
 
+-- a frame behind Stop is refused, and one in front of it is tested by its kind
 abbrev pub refusal_over : Shown → Known → Frame → Option CoordRefusal
 refusal_over shown known frame = if shown.stopped then Some AfterStop else refusal_of_kind shown known frame
 
 -- ---- what a journal shows
 
+-- whether there is an answer, and it is a Report
 abbrev pub is_report : Option Frame → Bool
 is_report (Some (f.Report seq border failed values)) = true
 is_report answer = false
@@ -154,6 +161,7 @@ waits_at mon journal =
     if waits_for (last_round journal) mon journal then option_map (λ asked. (last_round journal, asked)) (asked_of (last_round journal) mon journal)
     else None
 
+-- what a journal shows of a monitor
 abbrev pub shown_by : ℕ → List Noted → Shown
 shown_by mon journal = record {
   at = assigns_sent mon journal;
@@ -163,6 +171,7 @@ shown_by mon journal = record {
   stopped = is_stopped journal;
 }
 
+-- over what the content of a monitor's frames is tested, by a journal
 abbrev pub known_by : Setup → ℕ → List Noted → Known
 known_by setup mon journal = record {
   mon = mon;

@@ -51,6 +51,7 @@ pub record Stands (s : Setup) (before : List Noted) : Type 0 where
   pub small : AreFactorsSmall s before
   pub named : (mon : ℕ) → IsMonitor s mon → members_of (assigns_to mon before) ≡ members_at before
 
+-- that stands, a publication is due, and this is the one
 pub record IsPublishable (s : Setup) (before : List Noted) (p : Publication) : Type 0 where
   pub stands : Stands s before
   pub due : is_due s before ≡ true

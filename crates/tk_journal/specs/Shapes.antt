@@ -26,6 +26,7 @@ pub record IsLastValues (s : Setup) (before : List Noted) (from : Mon) (frame : 
   pub opened : is_open s before ≡ true
   pub closed : is_open s (before ++ n.Got from frame ∷ []) ≡ false
 
+-- the shape of the turn of a taken frame: it demands nothing, or Assigns, or the Collects of a round
 pub data Shape (s : Setup) (before : List Noted) (from : Mon) (frame : Frame) (demands : List Noted) : Type 0 where
   Plain : demands ≡ [] → fails_at s before from.0 frame ≡ false → is_open s (before ++ n.Got from frame ∷ []) ≡ is_open s before
       → (is_answer (assigns_sent from.0 before) frame ≡ true → is_report (Some frame) ≡ true → is_open s before ≡ true) → Shape s before from frame demands

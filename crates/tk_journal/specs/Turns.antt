@@ -39,6 +39,7 @@ fails_at setup before mon frame = false
 abbrev pub unless_calm : Setup → List Noted → ℕ → ℕ
 unless_calm setup before count = if is_calm setup before then 0 else count
 
+-- the count of short tests failed since all was calm, behind one more entry
 abbrev pub failures_after : Setup → List Noted → ℕ → Noted → ℕ
 failures_after setup before count (n.Got from frame) =
     if fails_at setup before from.0 frame then unless_calm setup before count + 1 else unless_calm setup before count
@@ -74,6 +75,7 @@ abbrev pub is_lone_full : Setup → TurnKind → Bool
 is_lone_full setup Full = setup.monitors == 1
 is_lone_full setup kind = false
 
+-- the count of rounds opened, behind one more entry: a Collect names it
 abbrev pub rounds_after : Setup → List Noted → ℕ → Noted → ℕ
 rounds_after setup before count (n.Got from frame) =
     if is_lone_full setup (kind_of setup before from.0 frame) then count + 1 else count
@@ -101,10 +103,11 @@ abbrev pub assigns : List Noted → Decided → List Noted
 assigns journal decided =
     map (λ d. n.Sent (record { 0 = d.0 }) (f.Assign (assigns_sent d.0 journal + 1) decided.members d.1)) (drop 1 decided.dealt)
 
--- what a full round decides, and what a wide round decides, by the reports to it
+-- what a full round decides, by the reports to it
 abbrev pub full_at : Setup → List Noted → List Reported → Decided
 full_at setup journal reports = full_decides (in_force setup journal) (table_at setup journal) (members_at journal) reports
 
+-- what a wide round decides, by the reports to it
 abbrev pub wide_at : Setup → List Noted → List Reported → Decided
 wide_at setup journal reports = wide_decides (in_force setup journal) (table_at setup journal) (members_at journal) reports
 

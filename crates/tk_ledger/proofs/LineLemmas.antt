@@ -61,7 +61,7 @@ pub last-push : (lines more : List (List ℕ)) (line : List ℕ) → more ≡ li
 last-push lines more line is =
     ap (λ (l : List (List ℕ)). unwrap_or (last_of l) []) is ∙ ap (λ (o : Option (List ℕ)). unwrap_or o []) (fold_push (λ _ e. Some e) None lines line)
 
-or_one : (a b : Bool) → (a || (b || false)) ≡ (a || b)
+pub or_one : (a b : Bool) → (a || (b || false)) ≡ (a || b)
 or_one true b = refl
 or_one false true = refl
 or_one false false = refl

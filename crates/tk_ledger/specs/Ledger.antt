@@ -24,18 +24,22 @@ passed_at mon (n.Tuned k epsilon) = None
 abbrev pub frames_at : ℕ → List Noted → List Frame
 frames_at mon journal = filter_map (passed_at mon) journal
 
+-- whether a frame is an Assign
 abbrev pub is_assign : Frame → Bool
 is_assign (f.Assign seq members changes) = true
 is_assign frame = false
 
+-- whether a frame is a Report
 abbrev pub is_report : Frame → Bool
 is_report (f.Report seq border failed values) = true
 is_report frame = false
 
+-- whether a frame is a Settled
 abbrev pub is_settled : Frame → Bool
 is_settled (f.Settled seq last places) = true
 is_settled frame = false
 
+-- whether a frame is Stop
 abbrev pub is_stop : Frame → Bool
 is_stop f.Stop = true
 is_stop frame = false

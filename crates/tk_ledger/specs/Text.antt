@@ -16,6 +16,7 @@ use Rattle.tk_ledger.specs.declared.ledger.Ledger.{Ledger}
 
 -- ---- publications
 
+-- whether an entry is a retune
 abbrev pub is_tuned : Noted → Bool
 is_tuned (n.Got from frame) = false
 is_tuned (n.Sent to frame) = false
@@ -88,9 +89,11 @@ whole per = record {
   stop = sum_by (count_of k.Stop) per;
 }
 
+-- the line of the frames: how many of each kind went over all links
 abbrev pub frames_text : Ledger → List ℕ
 frames_text ledger = codes "frames" ++ counts_text (whole ledger.per)
 
+-- the line of the rounds: how many were short, full and wide, and how many frames were stale
 abbrev pub rounds_text : Ledger → List ℕ
 rounds_text ledger =
     codes "rounds short " ++ decimal ledger.short
@@ -99,6 +102,7 @@ rounds_text ledger =
     ++ codes " stale " ++ decimal ledger.stale
     ++ codes "\n"
 
+-- the line of the bytes: how many all frames have in version 1
 abbrev pub bytes_text : Ledger → List ℕ
 bytes_text ledger = codes "bytes " ++ decimal ledger.bytes ++ codes "\n"
 

@@ -17,7 +17,7 @@ use Rattle.tk_hub.specs.declared.course.Course.{Course}
 use Rattle.tk_hub.specs.declared.course.Course.TheVariants as cs
 use Rattle.tk_hub.specs.declared.course.HubTurn.{HubTurn}
 use Rattle.tk_hub.specs.declared.course.HubTurn.TheVariants as t
-use Rattle.tk_hub.proofs.LinesLemmas.{grows_none, lines_add, lines_within, text_all, text_none, text_stays}
+use Rattle.tk_hub.proofs.LinesLemmas.{lines_add, lines_within, text_all, text_none, text_stays}
 use Rattle.tk_wire.specs.Meanings.{Counts}
 use Rattle.tk_wire.specs.Net.{NetState, called, listened}
 use Rattle.tk_wire.specs.declared.net.NetFault.{NetFault}
@@ -27,6 +27,7 @@ use Rattle.tk_live.specs.Parting.{and_failed_of, of_fault, of_turn}
 use Rattle.tk_live.specs.declared.parting.Parting.{Parting}
 use Rattle.tk_live.specs.declared.parting.Parting.TheVariants as p
 use Rattle.tk_live.proofs.LineLemmas.{cut_front, no_lines, written_front}
+use Rattle.tk_ledger.proofs.SinkLemmas.{grows_none}
 
 -- ---- the net
 

@@ -1,5 +1,5 @@
 -- How much of the lines of a journal was written, turn by turn.
-use Rattle.std.proofs.Common.{◌≡◌, ◌≤◌, ◌-◌, ℕ, List, [], ◌++◌, length, take, Option, refl, sym, ap, subst, ◌∙◌, arith, append_assoc}
+use Rattle.std.proofs.Common.{◌≡◌, ◌≤◌, ◌-◌, ℕ, List, [], ◌++◌, length, take, Option, sym, ap, subst, ◌∙◌, arith}
 use Rattle.std.specs.List.{concat}
 use Rattle.std.proofs.lemmas.List.{take-take, take_rest}
 use Rattle.tk_input.specs.Sink.{Grows, GrowsByFront}
@@ -9,16 +9,8 @@ use Rattle.tk_ledger.specs.Text.{lines_of}
 use Rattle.tk_hub.specs.Lines.{text_between, text_from, text_written, written_in}
 use Rattle.tk_hub.specs.Writing.{CutsLine}
 use Rattle.tk_hub.specs.declared.lines.Lines.{Lines}
-use Rattle.tk_hub.proofs.LinesLemmas.{cut_is_front, grows_more, length-lines_of, lines_within, text_none, text_split}
-
--- one text was written, and then a front of another
-pub grows_front : (a b c : Option (List ℕ)) (x y : List ℕ) → Grows a b x → GrowsByFront b c y → GrowsByFront a c (x ++ y)
-grows_front a b c x y first (front, back, parts, more) =
-    (x ++ front, back, ap (λ w. x ++ w) parts ∙ sym (append_assoc x front back), grows_more a b c x front first more)
-
--- all of a text is a front of it
-pub grows_whole : (a b : Option (List ℕ)) (x y : List ℕ) → Grows a b x → GrowsByFront a b (x ++ y)
-grows_whole a b x y grown = (x, y, refl, grown)
+use Rattle.tk_hub.proofs.LinesLemmas.{cut_is_front, length-lines_of, lines_within, text_none, text_split}
+use Rattle.tk_ledger.proofs.SinkLemmas.{front_more, front_of}
 
 module _ (names : List (List ℕ)) (journal : List Noted) where
   -- all lines are those from the first on
@@ -48,8 +40,8 @@ module _ (names : List (List ℕ)) (journal : List Noted) where
       let at = written_in journal from in
       let rest = text_split names journal at (written_in journal to) (in_order from to below) (lines_within journal to.passed) in
       let more : GrowsByFront b c (text_from names journal at) = subst (GrowsByFront b c) (sym rest) (cut_is_front _ _ b c cut) in
-      subst (GrowsByFront a c) (sym (all_lines from)) (grows_front a b c (text_written names journal from) (text_from names journal at) first more)
+      subst (GrowsByFront a c) (sym (all_lines from)) (front_more a b c (text_written names journal from) (text_from names journal at) first more)
 
   -- what is written is a front of all lines
   pub written_front : (lines : Lines) (a b : Option (List ℕ)) → Grows a b (text_written names journal lines) → GrowsByFront a b (concat (lines_of names journal))
-  written_front lines a b grown = subst (GrowsByFront a b) (sym (all_lines lines)) (grows_whole a b _ _ grown)
+  written_front lines a b grown = subst (GrowsByFront a b) (sym (all_lines lines)) (front_of a b _ _ grown)

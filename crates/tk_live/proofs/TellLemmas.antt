@@ -9,7 +9,6 @@ use Rattle.tk_journal.specs.Readings.{is_stopped as has_sent_stop}
 use Rattle.tk_journal.proofs.Ended.{legal_ends}
 use Rattle.tk_journal.proofs.LawLemmas.{one_less}
 use Rattle.tk_ledger.specs.Text.{lines_of, text_of}
-use Rattle.tk_hub.proofs.LinesLemmas.{grows_more, grows_none}
 use Rattle.tk_ledger.specs.declared.printing.PrintFault.{PrintFault}
 use Rattle.tk_ledger.specs.declared.printing.PrintFault.TheVariants as g
 use Rattle.std.specs.Prelude.{OnOk, OnErr}
@@ -36,7 +35,7 @@ use Rattle.tk_live.specs.declared.verdict.Verdict.{Verdict}
 use Rattle.tk_live.specs.declared.verdict.Verdict.TheVariants as v
 use Rattle.tk_live.specs.Traffic.{traffic_of}
 use Rattle.tk_live.proofs.CarriedLemmas.{carried}
-use Rattle.tk_live.proofs.LineLemmas.{grows_front}
+use Rattle.tk_ledger.proofs.SinkLemmas.{front_more, grows_none, grows_more}
 
 -- where Stop was sent and every monitor took it, the run is over
 pub over_of : (s : StoryView) → IsStory s → has_sent_stop s.journal ≡ true → ((mon : ℕ) → IsMonitor s.settings mon → is_stopped (trail_of s mon) ≡ true) → IsOver s
@@ -50,32 +49,6 @@ over_of s h stopped halted =
 text_is : (names : List (List ℕ)) (s : StoryView) → text_of names s ≡ concat (lines_of names s.journal) ++ ledger_lines s
 unfolding text_of
 text_is names s = refl
-
--- no worker was started
-pub concludes_unstarted : (input : Input) (version : ℕ) (was : Option (List ℕ)) (taken taken' : ℕ) (verdict : Verdict) → (verdict ≡ v.LinkFault) ⊎ (verdict ≡ v.NoMemory)
-    → Concludes input version (traffic_of was was taken taken') (record { verdict = verdict; story = None; ends = None })
-concludes_unstarted input version was taken taken' verdict (inl is) = subst (λ x. Concludes input version (traffic_of was was taken taken') (record { verdict = x; story = None; ends = None })) (sym is) (record {
-  done = λ e. absurd (cc);
-  lived = λ e. absurd (cc);
-  sound = tt;
-  over = tt;
-  of_input = tt;
-  ends = tt;
-  one = λ s. refl;
-  written = refl;
-  differs = tt;
-})
-concludes_unstarted input version was taken taken' verdict (inr is) = subst (λ x. Concludes input version (traffic_of was was taken taken') (record { verdict = x; story = None; ends = None })) (sym is) (record {
-  done = λ e. absurd (cc);
-  lived = λ e. absurd (cc);
-  sound = tt;
-  over = tt;
-  of_input = tt;
-  ends = tt;
-  one = λ s. refl;
-  written = refl;
-  differs = tt;
-})
 
 -- the ends were kept
 pub concludes_kept : (input : Input) (version : ℕ) (was now : Option (List ℕ)) (taken taken' : ℕ) (verdict : Verdict) (ends : Ends) → AreOfInput input ends
@@ -119,7 +92,7 @@ concludes_told law input version was mid now taken taken' kept verdict h of_inpu
   of_input = of_input;
   ends = tt;
   one = λ s. refl;
-  written = subst (GrowsByFront was now) (sym (text_is input.names kept.story)) (grows_front was mid now (concat (lines_of input.names kept.story.journal)) (ledger_lines kept.story) complete.written front);
+  written = subst (GrowsByFront was now) (sym (text_is input.names kept.story)) (front_more was mid now (concat (lines_of input.names kept.story.journal)) (ledger_lines kept.story) complete.written front);
   differs = tells;
 }
 

@@ -33,6 +33,7 @@ and_failed_of p.WriteFailed = p.WriteFailed
 and_failed_of p.NetFailed = p.NetFailed
 and_failed_of p.NoMemory = p.NoMemory
 
+-- whether the run is done then
 abbrev pub is_done_of : Parting → Bool
 is_done_of p.Finished = true
 is_done_of p.Alarmed = false

@@ -12,10 +12,11 @@ pub record Traffic : Type 0 where
   pub taken : ℕ
   pub taken_then : ℕ
 
--- the same by what was written and taken before and after, and by the states of a net, which counts what is taken
+-- the same by what was written and taken before and after
 abbrev pub traffic_of : Option (List ℕ) → Option (List ℕ) → ℕ → ℕ → Traffic
 traffic_of before after taken taken_then = record { output = record { before = before; after = after }; taken = taken; taken_then = taken_then }
 
+-- the same of an output, by the states of a net, which counts what is taken
 abbrev pub traffic_over : Output → NetState → NetState → Traffic
 traffic_over output net net' = record { output = output; taken = net.taken; taken_then = net'.taken }
 

@@ -1,10 +1,6 @@
 -- Statuses that tell faults, and rules one after the other.
-use Rattle.std.proofs.Common.{◌≡◌, ◌∙◌, ℕ, List, Result, Ok, Err, ap, sym, subst}
-use Rattle.tk_input.specs.Log.{IsFault}
-use Rattle.tk_input.specs.declared.part.PartFault.{PartFault}
-use Rattle.tk_input.specs.declared.part.PartFault.TheVariants as p
-use Rattle.tk_load.specs.Faults.{Fault, after, log_fault, telling}
-use Rattle.tk_load.specs.Faults.Fault.{NoRoom}
+use Rattle.std.proofs.Common.{◌≡◌, ◌∙◌, Result, Ok, Err, ap, sym, subst}
+use Rattle.tk_load.specs.Faults.{Fault, after}
 use Rattle.tk_load.specs.Reads.{Meets, Says, Tells}
 use Rattle.tk_load.specs.declared.status.Status.{Status}
 use Rattle.tk_load.specs.declared.status.Status.TheVariants as s
@@ -38,24 +34,3 @@ tells_on (s.BadTrace file fault) meant next is = absurd is
 -- what comes after a rule that gives something
 pub meets_after : {V W B : Type 0} (view : B → W) (meant : Result V Fault) (x : V) (next : V → Result W Fault) (answer : Result B Status) → meant ≡ Ok x → Meets view (next x) answer → Meets view (after meant next) answer
 meets_after view meant x next answer is meets = subst (λ (m : Result _ Fault). Meets view (after m next) answer) (sym is) meets
-
--- want of memory tells whatever is meant
-no_room : {V : Type 0} (status : Status) (meant : Result V Fault) → Says status NoRoom → Tells status meant
-no_room s.NoMemory meant says = tt
-no_room (s.ReadFault file) meant says = absurd (cc)
-no_room (s.BadInput file line kind) meant says = absurd (cc)
-no_room (s.TooGreat mon obj) meant says = absurd (cc)
-no_room s.Done meant says = absurd says
-no_room s.Usage meant says = absurd says
-no_room s.WriteFault meant says = absurd says
-no_room s.LinkFault meant says = absurd says
-no_room (s.LinkDiffers mon direction place sent received) meant says = absurd says
-no_room (s.BadTrace file fault) meant says = absurd says
-
--- a status that says the fault of a log tells it
-pub tells_log : {V : Type 0} (status : Status) (file : List ℕ) (fault : PartFault) (read : Result V PartFault) → Says status (log_fault file fault) → IsFault fault read → Tells status (telling (log_fault file) read)
-tells_log status file p.TooMany read says is = tells_of status (log_fault file p.TooMany) (telling (log_fault file) read) says (ap (telling (log_fault file)) is)
-tells_log status file (p.BadRow n) read says is = tells_of status (log_fault file (p.BadRow n)) (telling (log_fault file) read) says (ap (telling (log_fault file)) is)
-tells_log status file (p.UnknownName n) read says is = tells_of status (log_fault file (p.UnknownName n)) (telling (log_fault file) read) says (ap (telling (log_fault file)) is)
-tells_log status file (p.BadNumber n) read says is = tells_of status (log_fault file (p.BadNumber n)) (telling (log_fault file) read) says (ap (telling (log_fault file)) is)
-tells_log status file p.NoMemory read says is = no_room status (telling (log_fault file) read) says

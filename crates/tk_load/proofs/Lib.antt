@@ -8,7 +8,7 @@ mod MultiLemmas
 mod NumberedLemmas
 mod PartsLemmas
 mod ReadLemmas
-mod RetuneLemmas
+pub mod RetuneLemmas
 mod SessionLemmas
 pub mod ToldLemmas
 pub mod TracedLemmas

@@ -127,10 +127,6 @@ pub logs_answered : {A : Type 0} (view : A → Sources) (reads : FileReads) (wid
 logs_answered view reads width names words (Err e) wants = subst (λ (status : Status). ReadsLogs reads words view (logs_in width names) (Err status)) (sym wants) (logs_wanting view reads width names words)
 logs_answered view reads width names words (Ok x) wants = absurd wants
 
--- all logs were read
-pub logs_read : {A : Type 0} (view : A → Sources) (reads : FileReads) (width : Option ℕ) (names : List (List ℕ)) (words : List (ℕ × List ℕ)) (parts : A) → SoFar reads width names words (view parts) → ReadsLogs reads words view (logs_in width names) (Ok parts)
-logs_read view reads width names words parts so_far = record { logs = so_far.logs; are_of = so_far.are_of; read = so_far.read; meets = so_far.value }
-
 -- the logs of the words before and the next one
 abbrev pub named_at : List (Mon × Bor (List ℕ)) → ℕ → Mon × Bor (List ℕ) → ℕ × List ℕ
 named_at words i d = ((get_or words i d).0.0, (get_or words i d).1.now)

@@ -3,7 +3,7 @@ use Rattle.std.proofs.Common.{◌≡◌, ℕ, zero, suc, ◌+◌, ◌^◌, ◌<�
 use Rattle.std.specs.Prelude.{bytes_eq, flat_map, nat_le}
 use Rattle.std.specs.List.{list_all, list_any, range_with_len}
 use Rattle.std.specs.Int.Digits.{AllBelowBase, digits_of}
-use Rattle.std.proofs.lemmas.Bool.{le-leb, lt-leb, lt-ltb, ne_eqb}
+use Rattle.std.proofs.lemmas.Bool.{le-leb, lt-leb, lt-ltb, ne_eqb, false_from_ne_true}
 use Rattle.std.proofs.lemmas.Fmt.{decimal-digits_of, decimal_injective, length-decimal-le}
 use Rattle.std.proofs.lemmas.Int.Digits.{all_below_base_digits_of}
 use Rattle.std.proofs.lemmas.List.{append-nil, append_assoc, length-append, length-map}
@@ -129,13 +129,9 @@ names_more text n is =
 
 -- ---- the names
 
-not_true : (b : Bool) → (b ≡ true → ⊥) → b ≡ false
-not_true true other = absurd (other refl)
-not_true false other = refl
-
 -- two names differ
 name_other : (o m : ℕ) → m < o → o ≤ 65536 → bytes_eq (name_of o) (name_of m) ≡ false
-name_other o m less few = not_true (bytes_eq (name_of o) (name_of m)) (λ same.
+name_other o m less few = false_from_ne_true (bytes_eq (name_of o) (name_of m)) (λ same.
     let texts : 111 ∷ decimal o ≡ 111 ∷ decimal m = (bytes_eq-Decides (name_of o) (name_of m)).0 same in
     let numbers = decimal_injective o m (omega arith) (omega arith) (cc texts) in omega (arith, numbers))
 

@@ -5,7 +5,6 @@ use Rattle.std.proofs.lemmas.List.{length-replicate}
 use Rattle.tk_input.specs.Files.{HasRisen}
 use Rattle.tk_input.specs.declared.files.Files.{Ghosts as FilesOf}
 use Rattle.tk_load.specs.Faults.{Fault, after, bad_file}
-use Rattle.tk_load.specs.Faults.Fault.{Unread}
 use Rattle.tk_load.specs.Input.{File, bytes_from, bytes_in}
 use Rattle.tk_load.specs.Reads.{AreKept, FileReads, Gave, IsRead, Meets, Reads, Says, reads_by}
 use Rattle.tk_load.specs.declared.status.InputKind.TheVariants.{TooLong}
@@ -83,11 +82,6 @@ reads_too_long view reads name status long says =
 pub reads_bytes : {A : Type 0} (view : A → List ℕ) (reads : FileReads) (name : List ℕ) (bytes : A)
     → IfSome (reads.told name) (λ content. view bytes ≡ content) → length (view bytes) ≤ 67108864 → Reads reads name view bytes_in (Ok bytes)
 reads_bytes view reads name bytes is fit = record { content = Some (view bytes); read = is; meets = bytes_fit name (view bytes) fit }
-
--- one that could not be read
-pub reads_failed : {A : Type 0} (view : A → List ℕ) (reads : FileReads) (name : List ℕ) (status : Status)
-    → HasRisen (reads.failed name) (reads.failed_then name) → Says status (Unread name) → Reads reads name view bytes_in (Err status)
-reads_failed view reads name status rose says = record { content = None; read = rose; meets = tells_of {V = List ℕ} status (Unread name) _ says refl }
 
 -- want of memory, whatever the file gives
 pub reads_wanting : {A V : Type 0} (view : A → V) (meant : File → Result V Fault) (reads : FileReads) (name : List ℕ)

@@ -22,20 +22,13 @@ use Rattle.tk_load.specs.Windowed.{IsTicked, IsWindowedOver, ticked_row, ticked_
 use Rattle.tk_load.specs.declared.basis.Basis.{Basis}
 use Rattle.tk_load.specs.declared.changes.Together.{Together}
 use Rattle.tk_load.specs.declared.settings.Limits.{Limits}
+use Rattle.tk_trace.proofs.NameLemmas.{ok_is, then_is}
 
 -- ---- what rules that were passed gave
-
--- the value of the first rule, and what the further one made of it
-then_is : {A B E : Type 0} (further : A → Result B E) (r : Result A E) (y : B) → and_then further r ≡ Ok y → (x : A) × (r ≡ Ok x) × (further x ≡ Ok y)
-then_is further (Ok x) y is = (x, refl, is)
-then_is further (Err e) y is = absurd (cc)
 
 -- one value
 abbrev ok : {A E : Type 0} → A → Result A E
 ok x = Ok x
-
-ok_is : {A E : Type 0} (x y : A) → ok {E = E} x ≡ Ok y → x ≡ y
-ok_is x y is = cc
 
 -- a result whose faults are told as those of the input
 told_is : {A E : Type 0} (fault : E → Fault) (r : Result A E) (x : A) → telling fault r ≡ Ok x → r ≡ Ok x

@@ -27,13 +27,15 @@ pub data Fault : Type 0 where
   Great : Mon → Obj → Fault
   NoRoom : Fault
 
--- what is wrong with a file as a whole, and with the settings and the logs together, which are no file
+-- what is wrong with a file as a whole
 abbrev pub bad_file : List ℕ → InputKind → Fault
 bad_file file kind = Bad file 0 kind
 
+-- what is wrong with the settings or with the logs together, which are no file
 abbrev pub bad_whole : InputKind → Fault
 bad_whole kind = Bad [] 0 kind
 
+-- why a file is no list of names or of queries, at its record where one is at fault
 abbrev pub catalog_fault : List ℕ → CatalogFault → Fault
 catalog_fault file c.Empty = bad_file file k.Empty
 catalog_fault file c.TooMany = bad_file file k.TooMany
@@ -42,6 +44,7 @@ catalog_fault file (c.BadName n) = Bad file n k.BadName
 catalog_fault file (c.Repeated n) = Bad file n k.Repeated
 catalog_fault file c.NoMemory = NoRoom
 
+-- why a file is no log, at its record where one is at fault
 abbrev pub log_fault : List ℕ → PartFault → Fault
 log_fault file p.TooMany = bad_file file k.TooMany
 log_fault file (p.BadRow n) = Bad file n k.BadRow
@@ -49,23 +52,28 @@ log_fault file (p.UnknownName n) = Bad file n k.UnknownName
 log_fault file (p.BadNumber n) = Bad file n k.BadNumber
 log_fault file p.NoMemory = NoRoom
 
+-- why no window can go over the log of a file: it would have too many changes
 abbrev pub expand_fault : List ℕ → ExpandFault → Fault
 expand_fault file (e.TooLong n) = bad_file file k.TooMany
 expand_fault file e.NoMemory = NoRoom
 
+-- why a file is no order, at its line that is at fault
 abbrev pub order_fault : List ℕ → OrderFault → Fault
 order_fault file (o.BadOrder n) = Bad file n k.BadOrder
 order_fault file o.NoMemory = NoRoom
 
+-- the kind of bad input that a setting past its limit is
 abbrev pub setting_kind : SettingFault → InputKind
 setting_kind s.BadCount = k.BadCount
 setting_kind s.BadK = k.BadK
 setting_kind s.BadEpsilon = k.BadEpsilon
 setting_kind s.BadWeight = k.BadWeight
 
+-- why there are no settings
 abbrev pub setting_fault : SettingFault → Fault
 setting_fault fault = bad_whole (setting_kind fault)
 
+-- why the logs of all monitors together are refused
 abbrev pub logs_fault : LogsFault → Fault
 logs_fault (l.MonitorGap mon) = bad_whole (k.MonitorGap mon)
 logs_fault (l.TooManyFeeders mon) = bad_whole (k.TooManyFeeders mon)

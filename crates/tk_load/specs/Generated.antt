@@ -29,6 +29,7 @@ update_by monitors objects one two three four = record {
   by = pos (four % 100) -ℤ pos 20;
 }
 
+-- the state of the generator after its next word
 abbrev pub after_one : ℕ → ℕ
 after_one state = (word_at state).1
 
@@ -62,10 +63,11 @@ changes_at mon updates = map (λ u. (u.object, u.by)) (filter (λ u. u.mon == mo
 abbrev pub logs_made : ℕ → List Update → Assigned
 logs_made monitors updates = map (λ mon. (record { 0 = mon }, changes_at mon updates)) (range_with_len 1 monitors)
 
--- the name of an object, and the names of so many
+-- the name of an object: its number behind the letter o
 abbrev pub name_of : ℕ → List ℕ
 name_of o = codes "o" ++ decimal o
 
+-- the names of so many objects
 abbrev pub names_made : ℕ → List (List ℕ)
 names_made objects = map name_of (range_with_len 1 objects)
 

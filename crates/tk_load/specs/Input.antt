@@ -39,11 +39,12 @@ pub record ReadWords : Type 0 where
   pub width : Option ℕ
   pub logs : List (ℕ × File)
 
--- the bytes of a file, at most 64 MiB
+-- what was read under a name, at most 64 MiB
 abbrev pub bytes_from : List ℕ → Option (List ℕ) → Result (List ℕ) Fault
 bytes_from name None = Err (Unread name)
 bytes_from name (Some bytes) = if nat_lt 67108864 (length bytes) then Err (bad_file name TooLong) else Ok bytes
 
+-- the bytes of a file, where it was read and is not too long
 abbrev pub bytes_in : File → Result (List ℕ) Fault
 bytes_in file = bytes_from file.name file.content
 
@@ -92,6 +93,7 @@ count_of logs = sum_by (λ log. length log.1.part) logs
 abbrev pub counted : ℕ → List ℕ → Expansion → Result Expansion Fault
 counted before name log = if nat_lt 4000000 (before + length log.part) then Err (bad_file name TooManyUpdates) else Ok log
 
+-- the same of a file, over these names
 abbrev pub changes_after : ℕ → Option ℕ → List (List ℕ) → File → Result Expansion Fault
 changes_after before width names file = after (changes_in width names file) (counted before file.name)
 
@@ -116,11 +118,12 @@ ends_with (Some width) logs = Some (ends_by_monitor logs)
 abbrev pub together : Option ℕ → Sources → ℕ → Result Together Fault
 together width logs objects = after (joined (parts_in logs) objects) (λ all. Ok (record { logs = all; ends = ends_with width logs }))
 
--- what is wrong with the k and epsilon that an event asks for, under the settings
+-- what is wrong with settings, where they are refused
 abbrev pub kind_in : {A : Type 0} → Result A SettingFault → Option InputKind
 kind_in (Ok settings) = None
 kind_in (Err fault) = Some (setting_kind fault)
 
+-- what is wrong with the k and epsilon that an event asks for, under the settings
 abbrev pub retune_kind : Setup → Event → Option InputKind
 retune_kind s (Retune asked) = kind_in (settings_of asked.k asked.epsilon 1 s.objects s.monitors)
 retune_kind s (Raise mon f) = None
@@ -128,24 +131,26 @@ retune_kind s (Check mon) = None
 retune_kind s (Up mon) = None
 retune_kind s (Down mon) = None
 
--- the event of a line, unless it is a retune past the limits
+-- a line of a file passes, unless there is something wrong with it
 abbrev pub bad_line : List ℕ → ℕ → Option InputKind → Result (Unit {0}) Fault
 bad_line name line None = Ok tt
 bad_line name line (Some kind) = Err (Bad name line kind)
 
+-- the event of a line passes, unless it is a retune past the limits
 abbrev pub retune_tested : Setup → List ℕ → Unit {0} → Event × ℕ → Result (Unit {0}) Fault
 retune_tested s name done event = bad_line name event.1 (retune_kind s event.0)
 
--- each retune of an order does
+-- each event of an order does
 abbrev pub retunes_tested : Setup → List ℕ → OrderView → Result (Unit {0}) Fault
 retunes_tested s name order = through (retune_tested s name) tt (zip order.events order.lines)
 
--- the order of a file
+-- the order that some bytes are, each retune within the limits
 abbrev pub order_of_bytes : Setup → List ℕ → List ℕ → Result OrderView Fault
 order_of_bytes s name bytes =
     after (telling (order_fault name) (order_of bytes)) (λ order.
     after (retunes_tested s name order) (λ done. Ok order))
 
+-- the order of a file
 abbrev pub order_from : Setup → File → Result OrderView Fault
 order_from s file = after (bytes_in file) (order_of_bytes s file.name)
 

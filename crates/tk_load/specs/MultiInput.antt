@@ -31,13 +31,15 @@ pub record MultiGiven : Type 0 where
   pub alones : List Alone
   pub order : Option MultiOrderView
 
+-- the same of an input as the code has it
 abbrev pub given_by : MultiInput → MultiGiven
 given_by input = record { queries = input.queries; logs = input.logs; alones = input.alones.items; order = input.order }
 
--- the queries of a file
+-- the queries that the bytes of a file are
 abbrev pub queries_from : List ℕ → List ℕ → Result (List QueryView) Fault
 queries_from name bytes = telling (catalog_fault name) (queries_of bytes)
 
+-- the queries of a file
 abbrev pub queries_in : File → Result (List QueryView) Fault
 queries_in file = after (bytes_in file) (queries_from file.name)
 
@@ -55,13 +57,15 @@ multi_fault file m.NoMemory = NoRoom
 abbrev pub alones_in : List ℕ → List (List ℕ) → LogSet → List QueryView → Result (List Alone) Fault
 alones_in file names logs queries = telling (multi_fault file) (alones_of names logs queries)
 
--- the order, where the words name a file of one
+-- the order of several queries that the bytes of a file are
 abbrev pub multi_order_from : List ℕ → List ℕ → Result MultiOrderView Fault
 multi_order_from name bytes = telling (order_fault name) (multi_order_of bytes)
 
+-- the order of a file
 abbrev pub multi_order_of_file : File → Result MultiOrderView Fault
 multi_order_of_file file = after (bytes_in file) (multi_order_from file.name)
 
+-- the order, where the words name a file of one
 abbrev pub multi_order_in : Option File → Result (Option MultiOrderView) Fault
 multi_order_in None = Ok None
 multi_order_in (Some file) = after (multi_order_of_file file) (λ order. Ok (Some order))

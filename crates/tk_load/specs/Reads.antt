@@ -30,10 +30,11 @@ HasFailed reads name = HasRisen (reads.failed name) (reads.failed_then name)
 abbrev pub name_in : Option (Bor (List ℕ)) → Option (List ℕ)
 name_in file = option_map (λ s. s.now) file
 
--- the words themselves
+-- a log as the words name it: its monitor and the name of its file
 abbrev pub log_of : ℕ × File → ℕ × List ℕ
 log_of log = (log.0, log.1.name)
 
+-- the words themselves
 abbrev pub words_of : ReadWords → SourceWords
 words_of read = record {
   k = read.k;
@@ -108,10 +109,11 @@ pub record LoadsBy {A : Type 0} (meant : ReadWords → Result A Fault) (reads : 
 abbrev pub Loads : FileReads → SourceWords → Result Input Status → Type 0
 Loads = LoadsBy input_of
 
--- the words without their order, and the same of what stands in front of one
+-- the words without their order
 abbrev pub without_order : SourceWords → SourceWords
 without_order words = record words { order = None }
 
+-- the files but the order's were read, and the answer is what stands in front of it, or the first rule that fails
 abbrev pub LoadsBasis : FileReads → SourceWords → Result Basis Status → Type 0
 LoadsBasis reads words = LoadsBy basis_of reads (without_order words)
 

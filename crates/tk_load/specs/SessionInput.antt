@@ -33,20 +33,22 @@ abbrev pub line_kind : Setup → SessionLine → Option InputKind
 line_kind settings (Step event) = retune_kind settings event
 line_kind settings Restart = None
 
--- a line, unless it is a retune past the limits, and all lines of an order
+-- a line passes, unless it is a retune past the limits
 abbrev pub line_tested : Setup → List ℕ → Unit {0} → ℕ × SessionLine → Result (Unit {0}) Fault
 line_tested settings name done line = bad_line name line.0 (line_kind settings line.1)
 
+-- all lines of an order do
 abbrev pub lines_tested : Setup → List ℕ → List (ℕ × SessionLine) → Result (Unit {0}) Fault
 lines_tested settings name order = through (line_tested settings name) tt order
 
--- the order of a file, whose first fault is a bad line, then too many changes, then a retune past the limits
+-- the order that bytes are, whose first fault is a bad line, then too many changes, then a retune past the limits
 abbrev pub session_order_by : Setup → LogSet → List ℕ → List ℕ → Result (List (ℕ × SessionLine)) Fault
 session_order_by settings logs name bytes =
     after (telling (order_fault name) (session_order_of bytes)) (λ order.
     after (few_changes logs name order) (λ few.
     after (lines_tested settings name order) (λ done. Ok order)))
 
+-- the order of a file
 abbrev pub session_order_from : Setup → LogSet → File → Result (List (ℕ × SessionLine)) Fault
 session_order_from settings logs file = after (bytes_in file) (session_order_by settings logs file.name)
 

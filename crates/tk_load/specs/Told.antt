@@ -32,7 +32,7 @@ only (Some name) = name ∷ []
 abbrev pub files_of : SourceWords → List (List ℕ)
 files_of words = words.objects ∷ (map (λ log. log.1) words.logs ++ only words.order)
 
--- the same of the words of several queries
+-- the words of several queries with what stands under the names of their files
 abbrev pub multi_read_by : (List ℕ → List ℕ) → MultiWords → ReadMulti
 multi_read_by contents words = record {
   objects = file_by contents words.objects;
@@ -41,6 +41,7 @@ multi_read_by contents words = record {
   logs = map (λ log. (log.0, file_by contents log.1)) words.logs;
 }
 
+-- the files of these words, in the order of work
 abbrev pub multi_files_of : MultiWords → List (List ℕ)
 multi_files_of words = words.objects ∷ words.queries ∷ (map (λ log. log.1) words.logs ++ only words.order)
 

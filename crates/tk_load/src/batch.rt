@@ -88,7 +88,8 @@ impl<'a> Batch<'a> {
     ) -> Result<Batch<'a>, NoMemory>
         ensures some { IfOk result (λ batch. 0 < length words.now → 0 < length batch.logs.items) }
         ensures few { IfOk result (λ batch. length batch.logs.items ≤ length words.now) }
-        ensures read { IfOk result (λ batch. EachAt (IsReadAs (reads_by F.Files files.old files.new)) words.now batch.logs.items) }
+        ensures read { IfOk result (λ batch.
+            EachAt (IsReadAs (reads_by F.Files files.old files.new)) words.now batch.logs.items) }
         ensures kept { AreKept F.Files files.old files.new }
     {
         let mut logs = Vec::new(alloc);
@@ -139,7 +140,8 @@ pub fn next_logs<R: Threads + Sync, F: Files>(
     requires { IsWidth width }
     ensures some { IfOk result (λ logs. 0 < length words.now → 0 < length logs.items) }
     ensures few { IfOk result (λ logs. length logs.items ≤ length words.now) }
-    ensures read { IfOk result (λ logs. EachAt (IsLogOf (reads_by F.Files files.old files.new) width names.now) words.now logs.items) }
+    ensures read { IfOk result (λ logs.
+        EachAt (IsLogOf (reads_by F.Files files.old files.new) width names.now) words.now logs.items) }
     ensures kept { AreKept F.Files files.old files.new }
 {
     let batch = Batch::read(alloc, words, files)?;

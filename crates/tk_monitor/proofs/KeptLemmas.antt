@@ -3,6 +3,7 @@ use Rattle.std.proofs.Common.{◌≡◌, ℕ, suc, ◌<◌, ◌≤◌, ◌+◌, 
 use Rattle.std.specs.Prelude.{ℤ, ◌+ℤ◌, unsigned_abs, slice_get, if◌then◌else◌, nat_lt}
 use Rattle.std.proofs.lemmas.Int.{ints}
 use Rattle.std.proofs.Math.Bool.{or-true, or-false}
+use Rattle.std.proofs.lemmas.Bool.{and_parts}
 use Rattle.tk_base.specs.declared.ids.Feeder.{Feeder}
 use Rattle.tk_frames.specs.declared.frame.Frame.TheVariants as f
 use Rattle.tk_input.specs.Logs.{AreParts, ArePlaces, IsObject}
@@ -15,7 +16,7 @@ use Rattle.tk_trail.specs.Frames.{report_at, settled_at, due_at, report_is_due, 
 use Rattle.tk_trail.specs.Legal.{IsLegal, HasNext, place_of, part_length, after_check, with_answer}
 use Rattle.tk_trail.specs.declared.entry.Entry.{Entry}
 use Rattle.tk_trail.specs.declared.entry.Entry.TheVariants.{Raised, Sent}
-use Rattle.tk_trail.proofs.LegalLemmas.{and_both, legal_raised, legal_sent, legal_places}
+use Rattle.tk_trail.proofs.LegalLemmas.{legal_raised, legal_sent, legal_places}
 use Rattle.tk_trail.proofs.LevelsLemmas.{Same, same-sent, values-same, levels-same, members-same, values-raised, levels-raised, value-raised, value-small, level_at-values_of, share_own, length-levels_of}
 use Rattle.tk_trail.proofs.PlacesLemmas.{places_at-raised, length-places_at}
 use Rattle.tk_trail.proofs.ReadingsLemmas.{assigns_of-raised, seq_of-raised, seq_of-sent, reported-raised, reported-sent, told-raised, told-sent, stopped-raised, stopped-sent}
@@ -137,17 +138,6 @@ kept_ended setup was board next phase g kept none =
     let past : slice_get (get_or setup.parts (g - 1) []) (get_or (places_at setup was.entries) (g - 1) 0) ≡ None = ap (λ (places : List ℕ). slice_get (get_or setup.parts (g - 1) []) (get_or places (g - 1) 0)) (sym kept.places) ∙ none in
     omega (arith, got_past (get_or setup.parts (g - 1) []) (get_or (places_at setup was.entries) (g - 1) 0) past, are.within (g - 1))
 
--- a trail that has the same entries and raises keeps the ties
-pub kept_trail : (setup : MonitorSetup) (was after : TrailView) (board : BoardView) (next : List ℕ) (phase : Phase) → IsKept setup was board next phase → after.entries ≡ was.entries → after.raises ≡ was.raises → IsKept setup after board next phase
-kept_trail setup was after board next phase kept entries raises = record {
-  within = kept.within;
-  legal = subst (IsLegal setup) (sym entries) kept.legal;
-  places = kept.places ∙ ap (places_at setup) (sym entries);
-  standing = kept.standing ∙ ap (standing_of setup) (sym entries);
-  phase_is = kept.phase_is ∙ ap phase_of (sym entries);
-  room = raises ∙ kept.room;
-}
-
 -- what a check sends
 report_when : (setup : MonitorSetup) (trail : List Entry) → report_is_due setup trail ≡ true → due_at setup trail ≡ Some (report_at setup trail)
 unfolding due_at
@@ -251,11 +241,11 @@ nothing_when setup trail is = choice_none (report_is_due setup trail) (end_is_du
 
 pub due_broken : (setup : MonitorSetup) (trail : List Entry) → report_is_due setup trail ≡ true → is_broken setup trail ≡ true
 unfolding report_is_due
-due_broken setup trail is = (and_both (may_report trail) (is_broken setup trail) is).1
+due_broken setup trail is = (and_parts (may_report trail) (is_broken setup trail) is).1
 
 pub due_ends : (setup : MonitorSetup) (trail : List Entry) → end_is_due setup trail ≡ true → at_ends setup trail ≡ true
 unfolding end_is_due
-due_ends setup trail is = (and_both (may_report trail && not (is_broken setup trail)) (at_ends setup trail) (and_both (may_report trail && not (is_broken setup trail) && at_ends setup trail) (not (is_end_told trail)) is).0).1
+due_ends setup trail is = (and_parts (may_report trail && not (is_broken setup trail)) (at_ends setup trail) (and_parts (may_report trail && not (is_broken setup trail) && at_ends setup trail) (not (is_end_told trail)) is).0).1
 
 -- what stands behind a check
 pub after_report : (setup : MonitorSetup) (trail : List Entry) → report_is_due setup trail ≡ true → trail ++ Sent (report_at setup trail) ∷ [] ≡ after_check setup trail

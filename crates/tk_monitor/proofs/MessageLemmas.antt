@@ -16,9 +16,10 @@ use Rattle.tk_trail.specs.declared.entry.Entry.{Entry}
 use Rattle.tk_trail.specs.declared.entry.Entry.TheVariants.{Took}
 use Rattle.tk_trail.proofs.MappedLemmas.{mapped_same}
 use Rattle.tk_trail.proofs.LevelsLemmas.{length-levels_of, level_at-levels_of, level_at-values_of, level-assign}
-use Rattle.tk_monitor.proofs.RefusalLemmas.{all_in, is_in_from_Contains}
+use Rattle.tk_monitor.proofs.RefusalLemmas.{all_in}
 use Rattle.tk_monitor.specs.Board.{BoardView, values_in, assigned, assigned_level}
 use Rattle.tk_monitor.specs.Kept.{standing_of, report_on, values_frame}
+use Rattle.tk_trail.proofs.MemberLemmas.{contained_is_in}
 
 -- the objects of a catalogue are within it
 pub within_catalogue : (n : ℕ) → All (λ o. o ≤ n) (objects n)
@@ -45,7 +46,7 @@ resolution_from_one n members failed = All-filter (λ o. is_in members o || is_i
 pub resolution_holds : (members failed asked : List ℕ) → ((o : ℕ) → is_in asked o ≡ (is_in members o || is_in failed o)) → holds asked members ≡ true
 resolution_holds members failed asked is = all_in asked members (λ k within.
     let o = get_or members k 0 in
-    is o ∙ ap (λ b. b || is_in failed o) (is_in_from_Contains members o (Contains-get_or members k 0 within)))
+    is o ∙ ap (λ b. b || is_in failed o) (contained_is_in members o (Contains-get_or members k 0 within)))
 
 -- an answer that equals another
 pub same_ok : {T E : Type 0} (r : Result T E) (a b : T) → a ≡ b → IfOk r (λ k. k ≡ a) → IfOk r (λ k. k ≡ b)

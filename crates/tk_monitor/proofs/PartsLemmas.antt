@@ -50,12 +50,6 @@ ends_left (part ∷ parts) (place ∷ next) shape within =
     (ends_left parts next (omega arith) (λ i. within (suc i)))
     ∙ ap (λ k. k == 0) (sym (sum_by-cons (λ (p : List (ℕ × ℤ) × ℕ). length p.0 - p.1) (part, place) (zip parts next)))
 
--- a part that goes on has a next change
-pub next_there : (xs : List (ℕ × ℤ)) (p : ℕ) → p < length xs → (c : ℕ × ℤ) × (slice_get xs p ≡ Some c)
-next_there [] p within = absurd (omega arith)
-next_there (x ∷ xs) zero within = (x, refl)
-next_there (x ∷ xs) (suc p) within = next_there xs p (omega arith)
-
 pub got_below : (xs : List (ℕ × ℤ)) (p : ℕ) (c : ℕ × ℤ) → slice_get xs p ≡ Some c → p < length xs
 got_below [] p c got = cc
 got_below (x ∷ xs) zero c got = omega arith

@@ -1,26 +1,24 @@
 -- The tests of a frame: what a loop that stops early, or the last of an ascending list, tells of the whole list.
-use Rattle.std.proofs.Common.{◌≡◌, ℕ, suc, zero, ◌<◌, ◌≤◌, ◌+◌, ◌-◌, Bool, true, false, ◌&&◌, ◌||◌, List, [], ◌∷◌, length, get_or, Some, None, Contains, refl, sym, ap, ◌∙◌, arith, eq-eqb, inl, inr}
+use Rattle.std.proofs.Common.{◌≡◌, ℕ, suc, zero, ◌<◌, ◌+◌, ◌-◌, Bool, true, false, ◌&&◌, ◌||◌, List, [], ◌∷◌, length, get_or, Some, None, Contains, refl, sym, ap, ◌∙◌, arith, inl, inr}
 use Rattle.std.specs.Prelude.{find, slice_get, nat_lt, nat_le, ◌==◌, IsTrue}
 use Rattle.std.specs.List.{list_all}
-use Rattle.std.proofs.lemmas.Bool.{leb-true, le-leb, lt-ltb, cases_lt}
+use Rattle.std.proofs.lemmas.Bool.{leb-true, le-leb, lt-ltb, cases_lt, and_from}
 use Rattle.std.proofs.lemmas.Map.Views.{exact_unsigned_eq}
 use Rattle.std.proofs.lemmas.List.Sums.{AllPass-from_list_all, list_all-from_AllPass}
 use Rattle.std.proofs.lemmas.List.{get_or_default}
+use Rattle.std.proofs.lemmas.Option.{get_or_from_slice_get}
 use Rattle.tk_base.specs.Ascending.{IsAscending, ascends}
 use Rattle.tk_base.specs.Objects.{is_in}
 use Rattle.tk_base.proofs.AscendingLemmas.{ascending_along}
 use Rattle.tk_trail.specs.Refusal.{are_some_of}
 use Rattle.tk_trail.proofs.AscendsLemmas.{ascending_passes}
+use Rattle.tk_trail.proofs.MemberLemmas.{is_in_contained}
 
 -- two tests that pass together are one
 pub bool_same : (a b : Bool) → (a ≡ true → b ≡ true) → (b ≡ true → a ≡ true) → a ≡ b
 bool_same true b there back = sym (there refl)
 bool_same false true there back = back refl
 bool_same false false there back = refl
-
-and_true : (a b : Bool) → a ≡ true → b ≡ true → (a && b) ≡ true
-and_true true b one two = two
-and_true false b one two = cc
 
 and_right : (a b : Bool) → (a && b) ≡ true → b ≡ true
 and_right true b both = both
@@ -30,17 +28,12 @@ and_right false b both = absurd (cc)
 pub last_tells : (n : ℕ) (xs : List ℕ) → IsAscending xs → 0 < length xs → nat_le (get_or xs (length xs - 1) 0) n ≡ are_some_of n xs
 last_tells n xs up some =
     bool_same (nat_le (get_or xs (length xs - 1) 0) n) (are_some_of n xs)
-    (λ last. and_true (nat_lt 0 (length xs) && ascends xs) (list_all (λ o. nat_le o n) xs) (and_true (nat_lt 0 (length xs)) (ascends xs) (lt-ltb 0 (length xs) some) (ascending_passes xs up))
+    (λ last. and_from (nat_lt 0 (length xs) && ascends xs) (list_all (λ o. nat_le o n) xs) (and_from (nat_lt 0 (length xs)) (ascends xs) (lt-ltb 0 (length xs) some) (ascending_passes xs up))
     (list_all-from_AllPass (λ o. nat_le o n) xs (λ k d within.
     let same = get_or_default xs k 0 d within in
     let below = ascending_along xs up k (length xs - 1) (omega arith) (omega arith) in
     le-leb (get_or xs k d) n (omega (arith, same, leb-true (get_or xs (length xs - 1) 0) n last)))))
     (λ all. AllPass-from_list_all (λ o. nat_le o n) xs (and_right (nat_lt 0 (length xs) && ascends xs) (list_all (λ o. nat_le o n) xs) all) (length xs - 1) 0 (omega arith))
-
--- an empty list has no last object
-pub none_tells : (n : ℕ) (xs : List ℕ) → length xs ≤ 0 → false ≡ are_some_of n xs
-none_tells n [] none = refl
-none_tells n (x ∷ xs) none = absurd (omega arith)
 
 -- the first element that passes
 pub find_first : {X : Type 0} (p : X → Bool) (xs : List X) (i : ℕ) (c : X) → ((k : ℕ) (d : X) → k < i → p (get_or xs k d) ≡ false) → slice_get xs i ≡ Some c → p c ≡ true → find p xs ≡ Some c
@@ -59,23 +52,9 @@ find_none p (x ∷ xs) none =
     let first : p x ≡ false = none 0 x (omega arith) in
     rw first (find_none p xs (λ k d below. none (suc k) d (omega arith)))
 
-or_right : (a b : Bool) → b ≡ true → (a || b) ≡ true
-or_right true b is = refl
-or_right false b is = is
-
--- membership, as a test and as a fact
-pub is_in_from_Contains : (xs : List ℕ) (o : ℕ) → Contains xs o → is_in xs o ≡ true
-is_in_from_Contains [] o (k, within, is) = absurd (omega arith)
-is_in_from_Contains (x ∷ xs) o (zero, within, is) = rw (eq-eqb x o is) refl
-is_in_from_Contains (x ∷ xs) o (suc k, within, is) = or_right (x == o) (is_in xs o) (is_in_from_Contains xs o (k, omega arith, is))
-
 found : (x : ℕ) (xs : List ℕ) (o : ℕ) (first : Bool) → (x == o) ≡ first → (first || is_in xs o) ≡ true → (is_in xs o ≡ true → Contains xs o) → Contains (x ∷ xs) o
 found x xs o true here is later = (0, omega arith, exact_unsigned_eq x o here)
 found x xs o false apart is later = let there : Contains xs o = later is in (suc there.0, omega (arith, there.1), there.2)
-
-pub Contains_from_is_in : (xs : List ℕ) (o : ℕ) → is_in xs o ≡ true → Contains xs o
-Contains_from_is_in [] o is = absurd (cc)
-Contains_from_is_in (x ∷ xs) o is = found x xs o (x == o) refl is (Contains_from_is_in xs o)
 
 -- all members are in a set, or some one is not
 pub all_in : (set members : List ℕ) → ((k : ℕ) → k < length members → is_in set (get_or members k 0) ≡ true) → list_all (is_in set) members ≡ true
@@ -86,19 +65,14 @@ missing true is none = absurd (none is)
 missing false is none = is
 
 pub not_in : (set : List ℕ) (o : ℕ) → (Contains set o → ⊥) → is_in set o ≡ false
-not_in set o none = missing (is_in set o) refl (λ is. none (Contains_from_is_in set o is))
+not_in set o none = missing (is_in set o) refl (λ is. none (is_in_contained set o is))
 
 -- one more element that does not pass
-got_is : {X : Type 0} (xs : List X) (i : ℕ) (c d : X) → slice_get xs i ≡ Some c → get_or xs i d ≡ c
-got_is [] i c d got = cc
-got_is (x ∷ xs) zero c d got = cc
-got_is (x ∷ xs) (suc i) c d got = got_is xs i c d got
-
 pub passed_more : {X : Type 0} (p : X → Bool) (xs : List X) (i : ℕ) (c : X) → ((k : ℕ) (d : X) → k < i → p (get_or xs k d) ≡ false) → slice_get xs i ≡ Some c → p c ≡ false → (k : ℕ) (d : X) → k < i + 1 → p (get_or xs k d) ≡ false
 passed_more p xs i c before got fails k d below =
     elim (cases_lt k i) [
       | inl there ↦ before k d there
-      | inr here ↦ let is : k ≡ i = omega arith in rw is (ap p (got_is xs i c d got) ∙ fails)
+      | inr here ↦ let is : k ≡ i = omega arith in rw is (ap p (get_or_from_slice_get xs i c d got) ∙ fails)
     ]
 
 -- what a test that failed rules out

@@ -16,7 +16,8 @@ use Rattle.tk_trail.specs.Legal.{IsLegal}
 use Rattle.tk_trail.proofs.LevelsLemmas.{share_none, share_own}
 use Rattle.tk_trail.proofs.MappedLemmas.{mapped_one, mapped_same}
 use Rattle.tk_trail.proofs.PlacesLemmas.{places_at-start}
-use Rattle.tk_trail.proofs.ValuesLemmas.{value_of-set, value_of-small, int_sum-cons}
+use Rattle.tk_input.proofs.SumLemmas.{int_sum-cons, value_of-size}
+use Rattle.tk_trail.proofs.ValuesLemmas.{value_of-set}
 use Rattle.tk_monitor.specs.Board.{BoardView, shifted}
 use Rattle.tk_monitor.specs.Kept.{values_on, next_in, standing_of}
 use Rattle.tk_monitor.specs.Start.{StandsAt}
@@ -69,7 +70,7 @@ stands_small n parts next i c s are shape within got at =
       ints,
       ap (λ (zs : List ℤ). level_at zs c.0) at.values,
       moved_value n parts next i c are shape within got,
-      value_of-small parts (set next i (suc (get_or next i 0))) c.0,
+      value_of-size parts (set next i (suc (get_or next i 0))) c.0,
       are.weights c.0,
     )
 
@@ -97,16 +98,6 @@ constant a (suc n) h all =
 pub zero_values : (n : ℕ) (parts : List (List (ℕ × ℤ))) (m : ℕ) → values_on n parts (replicate m 0) ≡ replicate n (pos 0)
 unfolding values_on objects
 zero_values n parts m = constant 1 n (value_of parts (replicate m 0)) (zero_value parts m)
-
--- two lists of places with the same places
-pub same_places : (xs ys : List ℕ) → length xs ≡ length ys → ((i : ℕ) → i < length xs → get_or xs i 0 ≡ get_or ys i 0) → xs ≡ ys
-same_places [] [] shape same = refl
-same_places [] (y ∷ ys) shape same = absurd (omega arith)
-same_places (x ∷ xs) [] shape same = absurd (omega arith)
-same_places (x ∷ xs) (y ∷ ys) shape same =
-    let first : x ≡ y = same 0 (omega arith) in
-    let rest : xs ≡ ys = same_places xs ys (omega arith) (λ i within. same (suc i) (omega arith)) in
-    cc
 
 -- a new monitor stands as the empty trail says
 start_value : (setup : MonitorSetup) (o : ℕ) → value_of setup.parts setup.from o ≡ value_of_object setup [] o

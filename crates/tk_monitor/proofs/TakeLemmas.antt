@@ -1,11 +1,11 @@
 -- What a frame that is taken leaves of the ties between a monitor and its trail.
-use Rattle.std.proofs.Common.{◌≡◌, ℕ, suc, zero, ◌<◌, ◌≤◌, ◌+◌, ◌^◌, Bool, true, false, not, ◌&&◌, ◌||◌, ◌==◌, cond, List, [], ◌∷◌, ◌++◌, length, map, get_or, Option, Some, None, refl, sym, ap, ap₂, ◌∙◌, subst, arith, inl, inr}
+use Rattle.std.proofs.Common.{◌≡◌, ℕ, suc, zero, ◌<◌, ◌≤◌, ◌+◌, ◌^◌, Bool, true, false, not, ◌&&◌, ◌||◌, ◌==◌, cond, List, [], ◌∷◌, ◌++◌, length, map, get_or, Option, Some, None, refl, sym, ap, ap₂, ◌∙◌, subst, arith}
 use Rattle.std.specs.Prelude.{ℤ, unsigned_abs, find, if◌then◌else◌, All, nat_lt, nat_le}
 use Rattle.std.specs.List.{list_all, range_with_len, zip}
 use Rattle.tk_input.specs.Logs.{value_of}
 use Rattle.std.specs.Option.{option_map}
 use Rattle.std.proofs.Math.Bool.{or-false}
-use Rattle.std.proofs.lemmas.Bool.{leb-true, ltb-true, cases_lt, lt-ltb}
+use Rattle.std.proofs.lemmas.Bool.{leb-true, ltb-true, and_parts, not-false, or_parts, ltb-false}
 use Rattle.std.proofs.lemmas.Map.Views.{exact_unsigned_eq}
 use Rattle.std.proofs.lemmas.List.Sums.{AllPass-from_list_all}
 use Rattle.std.proofs.lemmas.List.{get_or_default}
@@ -24,7 +24,7 @@ use Rattle.tk_trail.specs.Legal.{IsLegal, after_take}
 use Rattle.tk_trail.specs.declared.entry.Entry.{Entry}
 use Rattle.tk_trail.specs.declared.entry.Entry.TheVariants.{Took, Sent}
 use Rattle.tk_trail.specs.declared.refusal.MonitorRefusal.TheVariants.{WrongSequence, BadMembers, BadChange, BadCollect}
-use Rattle.tk_trail.proofs.LegalLemmas.{if_none, and_both, not_refused, legal_taken}
+use Rattle.tk_trail.proofs.LegalLemmas.{if_none, not_refused, legal_taken}
 use Rattle.tk_trail.proofs.LevelsLemmas.{Same, same-took, same-sent, values_at-same, members_of-push}
 use Rattle.tk_trail.proofs.PlacesLemmas.{places_at-took, places_at-sent}
 use Rattle.tk_trail.proofs.ReadingsLemmas.{assigns_of-other, assigns_of-assign, seq_of-sent, seq_of-other, seq_of-assign, reported-sent, reported-assign, reported-collect, reported-stop, told-sent, told-assign, told-collect, told-stop, stopped-sent, stopped-took, stopped-stop}
@@ -34,10 +34,6 @@ use Rattle.tk_monitor.specs.Kept.{IsKept, standing_of, phase_of, answer_on, valu
 use Rattle.tk_monitor.specs.declared.phase.Phase.{Phase}
 use Rattle.tk_monitor.proofs.KeptLemmas.{kept_same, phase_made, standing-same}
 use Rattle.tk_monitor.proofs.MessageLemmas.{report-standing, assigned-standing, values-standing}
-
-not_false : (b : Bool) → not b ≡ false → b ≡ true
-not_false true is = refl
-not_false false is = cc
 
 passed : (b : Bool) {P : Type 0} (r s : P) → (if b then None else Some r) ≡ None → b ≡ true
 passed true r s is = refl
@@ -59,13 +55,6 @@ found_none p [] none k d below = absurd (omega arith)
 found_none p (x ∷ xs) none zero d below = (not_found (p x) x (find p xs) none).0
 found_none p (x ∷ xs) none (suc k) d below = found_none p xs (not_found (p x) x (find p xs) none).1 k d (omega arith)
 
-or_parts_false : (a b : Bool) → (a || b) ≡ false → (a ≡ false) × (b ≡ false)
-or_parts_false true b is = absurd (cc)
-or_parts_false false b is = (refl, is)
-
-not_below : (a b : ℕ) → nat_lt a b ≡ false → b ≤ a
-not_below a b is = elim (cases_lt a b) [ inl below ↦ absurd (let e = lt-ltb a b below in cc) | inr above ↦ above ]
-
 -- what the tests of an Assign tell
 pub record AssignPasses (setup : MonitorSetup) (trail : List Entry) (seq : ℕ) (members : List ℕ) (changes : List (ℕ × ℤ)) : Type 0 where
   pub running : is_stopped trail ≡ false
@@ -79,16 +68,16 @@ assign_passes setup trail seq members changes none =
     let kind = not_refused setup trail (f.Assign seq members changes) none in
     let first = if_none (not (seq == seq_of trail + 1)) (WrongSequence (seq_of trail) seq) _ kind.1 in
     let second = if_none (not (are_members n members)) BadMembers (option_map (λ (change : ℕ × ℤ). BadChange (record { 0 = change.0 })) (find (is_bad_change n) changes)) first.1 in
-    let are = and_both (are_some_of n members) (nat_le (length members) 1024) (not_false (are_members n members) second.0) in
-    let some = and_both (nat_lt 0 (length members) && ascends members) (list_all (λ o. nat_le o n) members) are.0 in
+    let are = and_parts (are_some_of n members) (nat_le (length members) 1024) (not-false (are_members n members) second.0) in
+    let some = and_parts (nat_lt 0 (length members) && ascends members) (list_all (λ o. nat_le o n) members) are.0 in
     let good : All (λ c. is_bad_change n c ≡ false) changes = found_none (is_bad_change n) changes (mapped_none (λ (change : ℕ × ℤ). BadChange (record { 0 = change.0 })) (find (is_bad_change n) changes) second.1) in
     record {
       running = kind.0;
-      next = exact_unsigned_eq seq (seq_of trail + 1) (not_false (seq == seq_of trail + 1) first.0);
-      members_are = record { some_member = ltb-true 0 (length members) (and_both (nat_lt 0 (length members)) (ascends members) some.0).0; in_range = within_all n members some.1 };
+      next = exact_unsigned_eq seq (seq_of trail + 1) (not-false (seq == seq_of trail + 1) first.0);
+      members_are = record { some_member = ltb-true 0 (length members) (and_parts (nat_lt 0 (length members)) (ascends members) some.0).0; in_range = within_all n members some.1 };
       factors_are = record {
-        within = λ k d below. not_below n (get_or changes k d).0 (or_parts_false (nat_lt n (get_or changes k d).0) (nat_lt (2 ^ 112) (unsigned_abs (get_or changes k d).1)) (good k d below)).0;
-        small = λ k d below. not_below (2 ^ 112) (unsigned_abs (get_or changes k d).1) (or_parts_false (nat_lt n (get_or changes k d).0) (nat_lt (2 ^ 112) (unsigned_abs (get_or changes k d).1)) (good k d below)).1;
+        within = λ k d below. ltb-false n (get_or changes k d).0 (or_parts (nat_lt n (get_or changes k d).0) (nat_lt (2 ^ 112) (unsigned_abs (get_or changes k d).1)) (good k d below)).0;
+        small = λ k d below. ltb-false (2 ^ 112) (unsigned_abs (get_or changes k d).1) (or_parts (nat_lt n (get_or changes k d).0) (nat_lt (2 ^ 112) (unsigned_abs (get_or changes k d).1)) (good k d below)).1;
       };
     }
 
@@ -103,12 +92,12 @@ pub collect_passes : (setup : MonitorSetup) (trail : List Entry) (round : ℕ) (
 collect_passes setup trail round asked none =
     let n = setup.objects in
     let kind = not_refused setup trail (f.Collect round asked) none in
-    let all = and_both (nat_lt 0 (seq_of trail) && are_some_of n asked) (list_all (is_in asked) (members_at trail)) (passed (is_collect (shown_by setup trail) asked) BadCollect BadCollect kind.1) in
-    let front = and_both (nat_lt 0 (seq_of trail)) (are_some_of n asked) all.0 in
+    let all = and_parts (nat_lt 0 (seq_of trail) && are_some_of n asked) (list_all (is_in asked) (members_at trail)) (passed (is_collect (shown_by setup trail) asked) BadCollect BadCollect kind.1) in
+    let front = and_parts (nat_lt 0 (seq_of trail)) (are_some_of n asked) all.0 in
     record {
       running = kind.0;
       after_assign = ltb-true 0 (seq_of trail) front.0;
-      within = within_all n asked (and_both (nat_lt 0 (length asked) && ascends asked) (list_all (λ o. nat_le o n) asked) front.1).1;
+      within = within_all n asked (and_parts (nat_lt 0 (length asked) && ascends asked) (list_all (λ o. nat_le o n) asked) front.1).1;
       held = all.1;
     }
 

@@ -53,6 +53,7 @@ pub record AreFactors (n : ℕ) (changes : List (ℕ × ℤ)) : Type 0 where
 abbrev pub assigned_level : List ℤ → List ℤ → List (ℕ × ℤ) → ℕ → ℤ
 assigned_level values levels changes o = option_map_or (λ factor. level_at values o +ℤ factor) (value_at changes o) (level_at levels o)
 
+-- the levels of all objects then
 unfoldable pub assigned : List ℤ → List ℤ → List (ℕ × ℤ) → List ℤ
 assigned values levels changes = map (assigned_level values levels changes) (objects (length levels))
 

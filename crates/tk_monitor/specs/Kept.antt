@@ -16,10 +16,11 @@ use Rattle.tk_monitor.specs.declared.outcome.Checked.{Checked}
 use Rattle.tk_monitor.specs.declared.outcome.Checked.TheVariants.{Reported, ToldEnd, Nothing}
 use Rattle.tk_monitor.specs.declared.phase.Phase.{Phase}
 
--- what a trail gives for the board, and for the phase
+-- the board that a trail gives: values, levels and members at its end
 abbrev pub standing_of : MonitorSetup → List Entry → BoardView
 standing_of setup trail = record { values = values_of setup trail; levels = levels_of setup trail; members = members_at trail }
 
+-- the phase that a trail gives: the Assigns taken, and whether it reported, told the end and took Stop
 abbrev pub phase_of : List Entry → Phase
 phase_of trail = record { seq = seq_of trail; reported = is_reported trail; told = is_end_told trail; stopped = is_stopped trail }
 
@@ -44,13 +45,14 @@ next_in parts next i = slice_get (slice_index_or parts i []) (slice_index next i
 unfoldable pub values_on : ℕ → List (List (ℕ × ℤ)) → List ℕ → List ℤ
 values_on n parts next = map (value_of parts next) (objects n)
 
--- the frames that a board and some places give
+-- the Report that a board gives: the broken outsiders, with values and border over the members and them
 unfoldable pub report_on : BoardView → ℕ → Frame
 report_on s seq =
     let failed = broken s.levels s.members in
     let asked = resolution (length s.levels) s.members failed in
     f.Report seq (border s.levels s.members asked) failed (values_in s.values asked)
 
+-- the Values that a board gives to a round: values and border over the asked objects
 abbrev pub values_frame : BoardView → ℕ → ℕ → List ℕ → Frame
 values_frame s seq round asked = f.Values round seq (border s.levels s.members asked) (values_in s.values asked)
 

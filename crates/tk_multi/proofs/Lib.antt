@@ -2,7 +2,6 @@ pub mod AloneLaws
 pub mod AnswerLemmas
 pub mod AssignLemmas
 pub mod FrontLemmas
-pub mod KeepLemmas
 pub mod ListLemmas
 pub mod LogsLemmas
 pub mod MultiLemmas
@@ -13,3 +12,4 @@ pub mod SetLemmas
 pub mod StartLemmas
 pub mod ThroughLemmas
 pub mod WatchLemmas
+pub mod WatchedLemmas

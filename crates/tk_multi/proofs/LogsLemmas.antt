@@ -1,6 +1,6 @@
 -- The logs of a query pass every test, since the common ones do.
 use Rattle.std.proofs.Common.{◌≡◌, ℕ, suc, zero, ℤ, ◌+◌, ◌-◌, ◌<◌, ◌≤◌, ◌^◌, max, Bool, true, false, cond, unsigned_abs, Option, Some, None, option_map, Result, Ok, List, [], ◌∷◌, ◌++◌, All, length, map, get_or, ap, sym, subst, ◌∙◌, arith, refl, ⊎_elim}
-use Rattle.std.specs.Prelude.{filter, find, fold, is_some, nat_lt, option_and_then, sum_by, ◌==◌, ◌⊎◌, if◌then◌else◌}
+use Rattle.std.specs.Prelude.{filter, fold, is_some, nat_lt, option_and_then, sum_by, ◌==◌, ◌⊎◌, if◌then◌else◌}
 use Rattle.std.specs.List.{cons_option, position_or_len, range_with_len}
 use Rattle.std.proofs.Common.{inl, inr}
 use Rattle.std.proofs.lemmas.Bool.{cases_eq, eq-eqb, le-ltb, ne_eqb}
@@ -14,6 +14,7 @@ use Rattle.tk_input.specs.Logs.{AreLogs, AreParts, IsObject, LogSet, updates_of,
 use Rattle.tk_input.specs.declared.logs.LogsFault.{LogsFault}
 use Rattle.tk_input.specs.declared.logs.LogsFault.TheVariants as f
 use Rattle.tk_multi.specs.Projection.{Numbers, anew, assigned_from, seen_logs, under, watched_change, watched_in}
+use Rattle.tk_monitor.proofs.RefusalLemmas.{find_none}
 
 -- ---- the parts under their monitors make these logs
 
@@ -95,11 +96,11 @@ assigned_each P n (row ∷ logs) each =
 
 -- ---- the changes that a query sees
 
-seen_cons : (watch : List (Option ℕ)) (c : ℕ × ℤ) (cs : List (ℕ × ℤ)) → watched_in watch (c ∷ cs) ≡ cons_option (watched_change watch c) (watched_in watch cs)
+pub seen_cons : (watch : List (Option ℕ)) (c : ℕ × ℤ) (cs : List (ℕ × ℤ)) → watched_in watch (c ∷ cs) ≡ cons_option (watched_change watch c) (watched_in watch cs)
 unfolding watched_in
 seen_cons watch c cs = refl
 
-seen_none : (watch : List (Option ℕ)) → watched_in watch [] ≡ []
+pub seen_none : (watch : List (Option ℕ)) → watched_in watch [] ≡ []
 unfolding watched_in
 seen_none watch = refl
 
@@ -246,13 +247,9 @@ fewer watch (row ∷ logs) =
     let x = sum_by-cons updates_of (map (watched_in watch) row) (seen_logs watch logs) in
     let y = sum_by-cons updates_of row logs in omega (arith, x, y, here, later)
 
-none_found : {X : Type 0} (p : X → Bool) (xs : List X) → ((k : ℕ) (d : X) → k < length xs → p (get_or xs k d) ≡ false) → find p xs ≡ None
-none_found p [] fails = refl
-none_found p (x ∷ xs) fails = ap (λ (b : Bool). cond b (Some x) (find p xs)) (fails 0 x (omega arith)) ∙ none_found p xs (λ k d h. fails (suc k) d (omega (arith, h)))
-
 no_great : (n : ℕ) (parts : List (List (ℕ × ℤ))) → ((o : ℕ) → weight_of parts o ≤ 2 ^ 100) → is_some (great_object n parts) ≡ false
 no_great n parts light =
-    ap (λ (o : Option ℕ). is_some o) (none_found (λ (o : ℕ). nat_lt (2 ^ 100) (weight_of parts o)) (objects n) (λ k d h. let w = light (get_or (objects n) k d) in le-ltb (2 ^ 100) (weight_of parts (get_or (objects n) k d)) w))
+    ap (λ (o : Option ℕ). is_some o) (find_none (λ (o : ℕ). nat_lt (2 ^ 100) (weight_of parts o)) (objects n) (λ k d h. let w = light (get_or (objects n) k d) in le-ltb (2 ^ 100) (weight_of parts (get_or (objects n) k d)) w))
 
 seen_parts : (watch : List (Option ℕ)) (count : ℕ) (all : LogSet) (j : ℕ) → AreLogs all → Numbers count watch → j < length all.logs → (o : ℕ) → weight_of (get_or (seen_logs watch all.logs) j []) o ≤ 2 ^ 100
 seen_parts watch count all j logs numbers within o =

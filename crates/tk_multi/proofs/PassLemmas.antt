@@ -14,7 +14,7 @@ use Rattle.tk_world.specs.Events.{next_of}
 use Rattle.tk_multi.specs.Multi.{MultiView, left_by, moved_at, next_in, with_raise, with_world}
 use Rattle.tk_multi.specs.Projection.{is_watched, only_if}
 use Rattle.tk_multi.specs.Queries.{entry_at}
-use Rattle.tk_multi.proofs.KeepLemmas.{keep_none, keep_some}
+use Rattle.tk_drain.proofs.KeepLemmas.{keep_none, keep_some}
 
 -- the common part of two states is one, and they have as many worlds
 pub record AreAlike (m n : MultiView) : Type 0 where
@@ -40,9 +40,6 @@ pub alike_in : (m : MultiView) (q : ℕ) (e : Event) → AreAlike m (left_by m (
 alike_in m q e = alike_at m q e (entry_at m.worlds q)
 
 -- ---- entries of lists by the numbers of queries
-
-pub entry_past : {A : Type 0} (xs : List A) (q : ℕ) → nat_le 1 q ≡ false → entry_at xs q ≡ None
-entry_past xs q low = ap (λ (b : Bool). if b then slice_get xs (q - 1) else None) low
 
 pub entry_is : {A : Type 0} (xs : List A) (q : ℕ) → 1 ≤ q → entry_at xs q ≡ slice_get xs (q - 1)
 entry_is xs q from = ap (λ (b : Bool). if b then slice_get xs (q - 1) else None) (le-leb 1 q from)

@@ -5,7 +5,8 @@ use Rattle.tk_input.specs.Records.{and_then, records_in, through}
 use Rattle.tk_input.specs.declared.catalog.CatalogFault.{CatalogFault}
 use Rattle.tk_input.specs.declared.catalog.CatalogFault.TheVariants.{BadName, BadRow, Empty, NoMemory, Repeated, TooMany}
 use Rattle.tk_multi.specs.Queries.{IsFault, QueryView, queries_of, query_added, some_queries}
-use Rattle.tk_multi.proofs.ThroughLemmas.{through_first, through_none}
+use Rattle.tk_multi.proofs.ThroughLemmas.{through_first}
+use Rattle.tk_input.proofs.ThroughLemmas.{through-none}
 
 -- a record has its fields at their places
 pub has_field : (fields : List (List ℕ)) (i : ℕ) → i < length fields → None ≡ field_at fields i → ⊥
@@ -43,7 +44,7 @@ record_fault bytes before fields rest rows e same is fault =
 
 -- after the last record the queries so far are all
 pub read_all : (bytes : List ℕ) (before : List QueryView) (rows : List (List (List ℕ))) → through query_added before rows ≡ through query_added [] (records_in bytes) → rows ≡ [] → queries_of bytes ≡ some_queries before
-read_all bytes before rows same is = ap (and_then some_queries) (sym same ∙ through_none query_added before rows is)
+read_all bytes before rows same is = ap (and_then some_queries) (sym same ∙ through-none query_added before rows is)
 
 pub some_is : (queries : List QueryView) → (length queries ≡ 0 → ⊥) → some_queries queries ≡ Ok queries
 some_is [] some = absurd (some refl)

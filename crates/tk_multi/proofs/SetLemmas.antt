@@ -18,7 +18,8 @@ use Rattle.tk_multi.specs.declared.alone.Alone.{Alone}
 use Rattle.tk_multi.specs.declared.fault.MultiFault.{MultiFault}
 use Rattle.tk_multi.specs.declared.fault.MultiFault.TheVariants.{Bad, NoMemory, TooManyUpdates}
 use Rattle.tk_multi.proofs.ListLemmas.{get_or_zip, length_zip}
-use Rattle.tk_multi.proofs.ThroughLemmas.{through_first, through_none, through_some}
+use Rattle.tk_multi.proofs.ThroughLemmas.{through_first}
+use Rattle.tk_input.proofs.ThroughLemmas.{through-none, through-some}
 
 -- ---- settings in turn
 
@@ -30,7 +31,7 @@ settings_more names monitors before after queries i query settings q within is n
     let step : settings_added names monitors before query ≡ Ok after =
     ap (λ (k : ℕ). and_then (λ (s : Setup). Ok (before ++ s ∷ [])) (settings_at k (settings_for names monitors query))) (sym number)
     ∙ ap (and_then (λ (s : Setup). Ok (before ++ s ∷ []))) made ∙ ap (λ (l : List Setup). Ok l) (sym next) in
-    sym (through_some (settings_added names monitors) before after query (drop (i + 1) queries) (drop i queries)
+    sym (through-some (settings_added names monitors) before after query (drop (i + 1) queries) (drop i queries)
     (drop_more queries i query within ∙ ap (λ (x : QueryView). x ∷ drop (i + 1) queries) (sym is)) step)
 
 pub refuses_on : {A B : Type 0} (e : MultiFault) (r : Result A MultiFault) (further : A → Result B MultiFault) → Refuses e r → Refuses e (and_then further r)
@@ -81,7 +82,7 @@ spread_by names monitors before query queries all (Ok s) is some on =
 spread : (names : List (List ℕ)) (monitors : ℕ) (before : List Setup) (queries : List QueryView) (all : List Setup) → through (settings_added names monitors) before queries ≡ Ok all → Spread names monitors before queries all
 spread names monitors before [] all some = record {
   rest = [];
-  whole = same_ok all before (through (settings_added names monitors) before []) some (through_none (settings_added names monitors) before [] refl) ∙ sym (append-nil before);
+  whole = same_ok all before (through (settings_added names monitors) before []) some (through-none (settings_added names monitors) before [] refl) ∙ sym (append-nil before);
   are = tt;
 }
 spread names monitors before (query ∷ queries) all some =

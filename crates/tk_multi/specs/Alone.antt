@@ -40,6 +40,7 @@ alone_with names all prefix settings = record {
   from = beginnings (logs_for prefix names all);
 }
 
+-- the same of each of some queries, under settings of its own
 abbrev pub each_with : List (List ℕ) → LogSet → List QueryView → List Setup → List Alone
 each_with names all queries settings = map (λ pair. alone_with names all pair.0.prefix pair.1) (zip queries settings)
 

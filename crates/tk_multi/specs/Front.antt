@@ -2,10 +2,11 @@
 use Rattle.std.specs.Prelude.{ℕ, ◌+◌, ◌-◌, ◌≤◌, List, length, set, slice_index_or}
 use Rattle.tk_input.specs.Logs.{places_of}
 
--- the place of a feeder, and the places where one more change of it is raised
+-- the place of a feeder
 abbrev pub place_of : List (List ℕ) → ℕ → ℕ → ℕ
 place_of places mon feeder = slice_index_or (places_of places mon) (feeder - 1) 0
 
+-- the places once one more change of a feeder is raised
 abbrev pub raised : List (List ℕ) → ℕ → ℕ → List (List ℕ)
 raised places mon feeder = set places (mon - 1) (set (places_of places mon) (feeder - 1) (place_of places mon feeder + 1))
 

@@ -6,3 +6,4 @@ pub mod Multi
 pub mod Order
 pub mod Projection
 pub mod Queries
+pub mod Watched

@@ -65,19 +65,21 @@ is_raise (Check q mon) = false
 is_raise (Up q mon) = false
 is_raise (Down q mon) = false
 
--- what a step leaves: the event happened, or it does not happen and nothing changed
+-- the event happened and left this, or it does not happen and nothing changed
 abbrev pub Leaves : Option MultiView → MultiView → Moved → MultiView → Type 0
 Leaves next old Yes new = next ≡ Some new
 Leaves next old Idle new = (next ≡ None) × (new ≡ old)
 
+-- what a step by an event leaves
 abbrev pub Steps : MultiView → MultiEvent → Moved → MultiView → Type 0
 Steps old event moved new = Leaves (next_multi old event) old moved new
 
--- what an event leaves, where one that does not happen is passed over
+-- what comes next, or what was there before where nothing comes
 abbrev pub left_by : MultiView → Option MultiView → MultiView
 left_by old None = old
 left_by old (Some new) = new
 
+-- what an event leaves, where one that does not happen is passed over
 abbrev pub passed : MultiView → MultiEvent → MultiView
 passed m event = left_by m (next_multi m event)
 

@@ -18,6 +18,7 @@ watch_of prefix names = map (object_of (names_with prefix names)) names
 abbrev pub anew : List (Option ℕ) → ℕ → Option ℕ
 anew watch o = slice_index_or watch (o - 1) None
 
+-- whether an object is watched
 abbrev pub is_watched : List (Option ℕ) → ℕ → Bool
 is_watched watch o = is_some (anew watch o)
 
@@ -83,10 +84,11 @@ pub record Numbers (count : ℕ) (watch : List (Option ℕ)) : Type 0 where
   pub within : (o n : ℕ) → anew watch o ≡ Some n → IsObject count n
   pub once : (a b n : ℕ) → 1 ≤ a → 1 ≤ b → anew watch a ≡ Some n → anew watch b ≡ Some n → a ≡ b
 
--- the parts of a monitor, each under its number; the parts of each monitor, from monitor n on
+-- the parts of a monitor, each under its number
 abbrev pub under : ℕ → List (List (ℕ × ℤ)) → Assigned
 under mon parts = map (λ part. (record { 0 = mon }, part)) parts
 
+-- the parts of all monitors from number n on, each under that of its monitor
 abbrev pub assigned_from : ℕ → List (List (List (ℕ × ℤ))) → Assigned
 assigned_from n [] = []
 assigned_from n (parts ∷ logs) = under n parts ++ assigned_from (n + 1) logs

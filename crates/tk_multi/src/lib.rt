@@ -24,7 +24,9 @@ mod watched;
 pub use alone::Alone;
 pub use event::MultiEvent;
 pub use fault::MultiFault;
-pub use laws::{a_watched_object_keeps_its_name, each_query_is_as_alone};
+pub use laws::{
+    a_query_counts_what_the_logs_count, a_watched_object_keeps_its_name, each_query_is_as_alone,
+};
 pub use multi::Multi;
 pub use order::MultiOrder;
 pub use playing::{Told, tell};

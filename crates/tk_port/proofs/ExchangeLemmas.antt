@@ -1,5 +1,5 @@
 -- What a port does in a turn, one part behind the other.
-use Rattle.std.proofs.Common.{◌≡◌, ◌≤◌, ◌+◌, ℕ, List, [], ◌∷◌, ◌++◌, length, take, refl, sym, ap, ◌∙◌, subst, arith, true, false, Option, Some, None, IfNone, is_some}
+use Rattle.std.proofs.Common.{◌≡◌, ◌≤◌, ◌+◌, ℕ, List, [], ◌∷◌, ◌++◌, length, take, refl, sym, ap, ◌∙◌, subst, arith, true, false, Option, Some, None, IfNone}
 use Rattle.std.proofs.lemmas.List.{length-take}
 use Rattle.tk_base.specs.History.{IsFront}
 use Rattle.tk_frames.specs.declared.frame.Frame.{Frame}
@@ -23,6 +23,7 @@ use Rattle.tk_port.specs.declared.turn.Turn.TheVariants as t
 use Rattle.tk_port.specs.Turn.{Exchanges, HasSaid, IsAtRest, goes_on, pieces_of, Reaches, Stays, Takes, Checks, checking}
 use Rattle.tk_port.specs.declared.side.Side.{Side}
 use Rattle.tk_port.proofs.SideLemmas.{answered_sent, answered_taken}
+use Rattle.tk_input.proofs.CountLemmas.{not_some}
 
 pub reaches_on : (a b c : MonitorView) → Reaches a b → Reaches b c → Reaches a c
 reaches_on a b c (Stays from to is) q = subst (λ m. Reaches m c) is q
@@ -112,13 +113,9 @@ exchanges_checked x a b is =
           (subst (λ fs. IsEnd x (taken_by trail) (first ++ fs)) (said_grown x.written (sent_by trail) (sent_by (after_check setup trail)) within grown) e);
     })
 
-nothing_left : {X : Type 0} (o : Option X) → is_some o ≡ false → o ≡ None
-nothing_left None is = refl
-nothing_left (Some x) is = absurd (cc)
-
 due_behind : (setup : MonitorSetup) (trail : List Entry) (due : Option Frame) → due_at setup trail ≡ due → due_at setup (with_answer trail due) ≡ None
 due_behind setup trail None is = is
-due_behind setup trail (Some sent) is = nothing_left (due_at setup (trail ++ Sent sent ∷ [])) (due_after_check setup trail sent is)
+due_behind setup trail (Some sent) is = not_some (due_at setup (trail ++ Sent sent ∷ [])) (due_after_check setup trail sent is)
 
 -- nothing is due once a monitor is checked
 pub none_due : (setup : MonitorSetup) (trail : List Entry) → due_at setup (after_check setup trail) ≡ None

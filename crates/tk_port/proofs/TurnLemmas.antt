@@ -11,7 +11,7 @@ use Rattle.tk_end.specs.Link.{IsShut, Keeps, LinkView, Passes}
 use Rattle.tk_end.proofs.PassingLemmas.{passes_nothing, passes_on, passes_shut}
 use Rattle.tk_port.specs.Port.{EndsOne, IsOnCourse, IsPort, PortView, Shuts, TakesUpTo, Turns, TurnsOne, answer_of, course_of}
 use Rattle.tk_port.specs.Side.{refuses}
-use Rattle.tk_port.specs.Turn.{CountsTurned, Ends, Exchanges, IsAtRest, Stays, goes_on, pieces_of}
+use Rattle.tk_port.specs.Turn.{CountsTurned, Ends, Exchanges, IsAtRest, Stays, goes_on}
 use Rattle.tk_port.specs.declared.course.Course.{Course}
 use Rattle.tk_port.specs.declared.course.Course.TheVariants as c
 use Rattle.tk_port.specs.declared.side.Side.{Side}
@@ -88,21 +88,6 @@ port_concluded {W} run least turn x y z a b before course p open_ e ends s is =
 
 counts_same : (turn : Turn) (x y z : Counts) → z ≡ y → CountsTurned turn x y → CountsTurned turn x z
 counts_same turn x y z is k = subst (CountsTurned turn x) (sym is) k
-
--- what the turn did
-pub turns_concluded : {W : Type 0} (run : ℕ) (turn : Turn) (x y z : LinkView W) (a b : Side) (before course : Course) → Exchanges (pieces_of turn) x y a b → Ends y b turn → CountsTurned turn x.counts y.counts → (goes_on turn ≡ true → IsAtRest y b.monitor) → Shuts (course_of turn) y z → course ≡ course_of turn
-    → Turns turn (record { run = run; monitor = a.monitor; link = x; course = before }) (record { run = run; monitor = b.monitor; link = z; course = course })
-turns_concluded run turn x y z a b before course e ends counts rest s is =
-    let left = leaves_on turn y z b s in
-    record {
-      run = refl;
-      course = is;
-      passes = passes_on (pieces_of turn) (pieces_of turn) 0 x y z (omega arith) e.passes left.passes;
-      reaches = e.reaches;
-      ends = left.ends ends;
-      counts = counts_same turn x.counts y.counts z.counts left.counts counts;
-      rest = λ goes. left.rest goes (rest goes);
-    }
 
 ends_left : {W : Type 0} (turn : Turn) (y z : LinkView W) (m : MonitorView) → Shuts (course_of turn) y z → EndsOne y m turn → EndsOne z m turn
 ends_left t.Quiet y z m s e = (leaves_on t.Quiet y z (record { monitor = m }) s).ends e

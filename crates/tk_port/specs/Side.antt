@@ -13,15 +13,19 @@ use Rattle.tk_port.specs.declared.side.Side.{Side}
 abbrev pub IsSide : ℕ → Side → Type 0
 IsSide peer side = IsSetup side.monitor.setup
 
+-- the frames that the monitor took
 abbrev pub heard_by : ℕ → Side → List Frame
 heard_by peer side = taken_by side.monitor.trail
 
+-- the frames that the monitor sent
 abbrev pub said_by : ℕ → Side → List Frame
 said_by peer side = sent_by side.monitor.trail
 
+-- whether the monitor took Stop
 abbrev pub stops : ℕ → Side → Bool
 stops peer side = is_stopped side.monitor.trail
 
+-- which refusal a frame meets at the monitor, if it meets one
 abbrev pub refuses : ℕ → Frame → Side → Option MonitorRefusal
 refuses peer frame side = refusal_of side.monitor.setup side.monitor.trail frame
 
@@ -29,5 +33,6 @@ refuses peer frame side = refusal_of side.monitor.setup side.monitor.trail frame
 abbrev pub taking : MonitorView → Frame → MonitorView
 taking monitor frame = record monitor { trail = after_take monitor.setup monitor.trail frame }
 
+-- the side once its monitor has taken a frame
 abbrev pub takes : ℕ → Frame → Side → Side
 takes peer frame side = record side { monitor = taking side.monitor frame }

@@ -68,9 +68,6 @@ same_greatest (Some r) old top (Some v) is other low = elim (picks (Some r) old)
   | inr e ↦ absurd (other (sym (is ∙ e)))
 ]
 
-pub is_not : (b : Bool) → b ≡ false → b ≡ true → ⊥
-is_not b low high = cc
-
 -- ---- what stands in a block
 
 -- nothing stands behind the leaves

@@ -1,8 +1,8 @@
 -- How members become outsiders, and outsiders members.
-use Rattle.std.proofs.Common.{◌≡◌, ◌≢◌, ℕ, ◌+◌, ◌-◌, ◌<◌, ◌≤◌, ℤ, pos, ◌-ℤ◌, Bool, true, false, not, ◌||◌, ◌&&◌, cond, eqb, ltb, List, [], length, get_or, set, take, Option, Some, None, refl, sym, ap, ◌∙◌, subst, arith, inl, inr, eq-eqb, ne_eqb}
+use Rattle.std.proofs.Common.{◌≡◌, ◌≢◌, ℕ, ◌+◌, ◌-◌, ◌<◌, ◌≤◌, ℤ, pos, ◌-ℤ◌, Bool, true, false, not, ◌||◌, ◌&&◌, cond, eqb, ltb, List, length, get_or, set, take, Option, Some, None, refl, sym, ap, ◌∙◌, subst, arith, inl, inr, eq-eqb, ne_eqb}
 use Rattle.std.specs.List.Sorted.{IsPartitionPoint, IsPartitionedBy}
 use Rattle.std.proofs.lemmas.Bool.{cases_eq, cases_lt, le-ltb, lt-ltb, ltb-true, ltb-false}
-use Rattle.std.proofs.lemmas.List.{take_all, get_or-take, get_or_default, length-map, length-take}
+use Rattle.std.proofs.lemmas.List.{get_or-take, get_or_default, length-map, length-take}
 use Rattle.std.proofs.lemmas.List.Folds.{list_any_more, list_any_none}
 use Rattle.tk_base.specs.Ascending.{IsAscending, numbers_of}
 use Rattle.tk_base.specs.declared.ids.Obj.{Obj}
@@ -10,7 +10,7 @@ use Rattle.tk_base.specs.Objects.{is_in}
 use Rattle.tk_base.proofs.AscendingLemmas.{ascending_along, ascending_apart}
 use Rattle.tk_border.specs.Levels.{level_at, IsPassed}
 use Rattle.tk_rank.specs.Tree.{leaf_at}
-use Rattle.tk_rank.specs.Sides.{AreOutsiderLeaves, AreSides}
+use Rattle.tk_rank.specs.Sides.{AreOutsiderLeaves}
 use Rattle.tk_rank.proofs.SidesLemmas.{number_at, outsider_here, outsider_put, outsiders_same_by, put_at}
 
 -- ---- the search for a member
@@ -47,17 +47,9 @@ or_false : (a : Bool) → (a || false) ≡ a
 or_false true = refl
 or_false false = refl
 
-and_false : (a : Bool) → (a && false) ≡ false
+pub and_false : (a : Bool) → (a && false) ≡ false
 and_false true = refl
 and_false false = refl
-
-and_true : (a : Bool) → (a && true) ≡ a
-and_true true = refl
-and_true false = refl
-
-and_not : (a : Bool) → (a && not a) ≡ false
-and_not true = refl
-and_not false = refl
 
 in_more : (list : List ℕ) (i o q : ℕ) → i < length list → get_or list i 0 ≡ o → is_in (take (i + 1) list) q ≡ (is_in (take i list) q || eqb o q)
 in_more list i o q within at =
@@ -87,17 +79,10 @@ left_turn list i o q within at = elim (cases_eq q o) [
       ∙ sym (ap (λ t. is_in list q && not t) (in_more_elsewhere list i o q within at ne))
 ]
 
-pub release_begins : (levels : List ℤ) (list : List ℕ) (leaves : List (Option ℤ)) → AreOutsiderLeaves levels (is_in list) leaves → AreOutsiderLeaves levels (is_left list 0) leaves
-release_begins levels list leaves s = outsiders_same_by levels (is_in list) (is_left list 0) leaves (λ q. sym (and_true (is_in list q))) s
-
 pub release_goes_on : (levels : List ℤ) (list : List ℕ) (leaves : List (Option ℤ)) (i o : ℕ) → i < length list → get_or list i 0 ≡ o → 0 < o → o ≤ length levels → AreOutsiderLeaves levels (is_left list i) leaves → AreOutsiderLeaves levels (is_left list (i + 1)) (set leaves (o - 1) (Some (level_at levels o)))
 release_goes_on levels list leaves i o within at some low s =
     outsiders_same_by levels (λ q. cond (eqb q o) false (is_left list i q)) (is_left list (i + 1)) (set leaves (o - 1) (Some (level_at levels o)))
     (λ q. left_turn list i o q within at) (outsider_put levels (is_left list i) leaves o false some low s)
-
-pub release_ends : (levels : List ℤ) (list : List ℕ) (leaves : List (Option ℤ)) (i : ℕ) → length list ≤ i → AreOutsiderLeaves levels (is_left list i) leaves → AreOutsiderLeaves levels (is_in []) leaves
-release_ends levels list leaves i end s =
-    outsiders_same_by levels (is_left list i) (is_in []) leaves (λ q. ap (λ l. is_in list q && not (is_in l q)) (take_all i list end) ∙ and_not (is_in list q)) s
 
 -- ---- outsiders become members
 
@@ -137,12 +122,6 @@ next_leaf levels new i o m out up within at some low s =
     outsider_here levels (is_in (take i new)) out o some low s.outsiders
     ∙ ap (λ t. cond t None (Some (level_at levels o))) (ap (is_in (take i new)) (sym at) ∙ fresh new i up within)
 
-pub take_begins : (levels : List ℤ) (new : List ℕ) (m out : List (Option ℤ)) → ((place : ℕ) → get_or m place None ≡ None) → AreOutsiderLeaves levels (is_in []) out → AreTaken levels new 0 m out
-take_begins levels new m out none s = record {
-  members = λ place. none place ∙ sym (ap (λ t. cond t (Some (pos 0 -ℤ level_at levels (get_or new place 0))) None) (le-ltb place 0 (omega arith)));
-  outsiders = s;
-}
-
 pub take_goes_on : (levels : List ℤ) (new : List ℕ) (i o : ℕ) (m out : List (Option ℤ)) → i < length new → i < length m → get_or new i 0 ≡ o → 0 < o → o ≤ length levels → AreTaken levels new i m out → AreTaken levels new (i + 1) (set m i (Some (pos 0 -ℤ level_at levels o))) (set out (o - 1) None)
 take_goes_on levels new i o m out within room at some low s =
     let f = λ (place : ℕ). Some (pos 0 -ℤ level_at levels (get_or new place 0)) in
@@ -155,12 +134,3 @@ take_goes_on levels new i o m out within room at some low s =
       outsiders = outsiders_same_by levels (λ q. cond (eqb q o) true (is_in (take i new) q)) (is_in (take (i + 1) new)) (set out (o - 1) None)
           (λ q. taken_turn new i o q within at) (outsider_put levels (is_in (take i new)) out o true some low s.outsiders);
     }
-
-pub take_ends : (levels : List ℤ) (new : List ℕ) (i : ℕ) (m out : List (Option ℤ)) → i ≡ length new → length new ≤ length m → AreTaken levels new i m out → AreSides levels new m out
-take_ends levels new i m out end room s = record {
-  members = record {
-    room = room;
-    leaf = λ place. s.members place ∙ ap (λ n. cond (ltb place n) (Some (pos 0 -ℤ level_at levels (get_or new place 0))) None) end;
-  };
-  outsiders = outsiders_same_by levels (is_in (take i new)) (is_in new) out (λ q. ap (λ l. is_in l q) (take_all i new (omega arith))) s.outsiders;
-}

@@ -9,10 +9,8 @@ use Rattle.std.specs.Ordering.{int_cmp, is_lt}
 use Rattle.std.proofs.lemmas.Bool.{cases_lt}
 use Rattle.std.proofs.lemmas.Bool.Decides.{nat_tests}
 use Rattle.std.proofs.lemmas.Int.{ints, clamps}
-use Rattle.std.proofs.lemmas.List.{get_or_default}
 use Rattle.std.proofs.lemmas.List.Elements.{All-head, All-tail, All-set}
 use Rattle.tk_base.specs.Ascending.{IsAscending}
-use Rattle.tk_base.proofs.AscendingLemmas.{ascending_positive}
 use Rattle.tk_base.specs.Objects.{objects, is_in}
 use Rattle.tk_border.specs.Levels.{level_at, lowered, raised, least_of, greatest_of, least_member, outside, greatest_outside, above, AreMembers, AreObjects, AreSmall}
 use Rattle.tk_border.proofs.LevelLemmas.{least_some, small_least, outsiders_ascend}
@@ -20,6 +18,7 @@ use Rattle.tk_border.proofs.RisingLemmas.{Rises, rises, rises-filter, rises-obje
 use Rattle.tk_rank.proofs.SidesLemmas.{levels_read}
 use Rattle.tk_rank.specs.Tree.{leaf_at, standing, is_over, HasRoom, LeavesView}
 use Rattle.tk_rank.specs.Sides.{outsider_leaf, levels_of, AreMemberLeaves, AreOutsiderLeaves, AreSides, IsKept}
+use Rattle.tk_rank.proofs.ExchangeLemmas.{and_false}
 
 -- ---- a filter with a map
 
@@ -104,10 +103,6 @@ turned_test false x = refl
 
 pub outsider_is : (levels : List ℤ) (p : ℕ → Bool) (o : ℕ) → outsider_leaf levels p o ≡ cond (not (p o || ltb (length levels) o)) (Some (level_at levels o)) None
 outsider_is levels p o = turned_test (p o || ltb (length levels) o) (level_at levels o)
-
-and_false : (a : Bool) → (a && false) ≡ false
-and_false true = refl
-and_false false = refl
 
 and_true : (a : Bool) → (a && true) ≡ a
 and_true true = refl
@@ -231,10 +226,6 @@ rising_length b n (x ∷ xs) low up all =
 
 pub short_members : (n : ℕ) (members : List ℕ) → IsAscending members → All (λ o. o ≤ n) members → length members ≤ n
 short_members n members up all = let short = rising_length 0 n members (omega arith) (rises members up) all in omega arith
-
--- the objects of an ascending list are from 1
-pub from_one : (members : List ℕ) → IsAscending members → All (λ o. 0 < o) members
-from_one members up k d within = subst (λ x. 0 < x) (get_or_default members k 0 d within) (ascending_positive members up k within)
 
 -- ---- what is kept
 

@@ -140,21 +140,9 @@ levels_read levels members member_leaves outsider_leaves n long s =
 
 -- ---- the numbers in the leaves are small
 
-small_turned : (x : ℤ) → unsigned_abs x < 2 ^ 114 → unsigned_abs (pos 0 -ℤ x) < 2 ^ 114
-small_turned x small = omega (arith, ints)
-
-if_small : (t : Bool) (x : ℤ) → unsigned_abs x < 2 ^ 114 → IfSome (cond t (Some x) None) (λ y. unsigned_abs y < 2 ^ 114)
-if_small true x small = small
-if_small false x small = tt
-
 if_small_else : (t : Bool) (x : ℤ) → unsigned_abs x < 2 ^ 114 → IfSome (cond t None (Some x)) (λ y. unsigned_abs y < 2 ^ 114)
 if_small_else true x small = tt
 if_small_else false x small = small
-
-pub small_members : (levels : List ℤ) (members : List ℕ) (leaves : List (Option ℤ)) → AreSmall levels → AreMemberLeaves levels members leaves → AreSmallLeaves leaves
-small_members levels members leaves small s place =
-    subst (λ leaf. IfSome leaf (λ y. unsigned_abs y < 2 ^ 114)) (sym (s.leaf place))
-    (if_small (ltb place (length members)) (pos 0 -ℤ level_at levels (get_or members place 0)) (small_turned (level_at levels (get_or members place 0)) (small_level levels (get_or members place 0) small)))
 
 pub small_outsiders : (levels : List ℤ) (p : ℕ → Bool) (leaves : List (Option ℤ)) → AreSmall levels → AreOutsiderLeaves levels p leaves → AreSmallLeaves leaves
 small_outsiders levels p leaves small s place =

@@ -21,10 +21,11 @@ is_over level (Some y) = is_lt (int_cmp level y)
 abbrev pub node_at : List (Option ℤ) → ℕ → Option ℤ
 node_at nodes j = slice_index_or nodes j None
 
--- the number of leaves, which are the last half of the nodes
+-- how many leaves a tree of these nodes has
 abbrev pub width_of : List (Option ℤ) → ℕ
 width_of nodes = length nodes / 2
 
+-- the leaves, which are the last half of the nodes
 abbrev pub leaves_of : List (Option ℤ) → List (Option ℤ)
 leaves_of nodes = drop (width_of nodes) nodes
 

@@ -31,10 +31,11 @@ pub record AreChanges (objects : List ℕ) (changes : List (ℕ × ℤ)) : Type 
   pub same : objects_of changes ≡ objects
   pub small : All (λ p. IsFactor p.1) changes
 
--- the sum of an object's new factors at the nodes that a reallocation names, and of its old ones there
+-- the sum of an object's new factors at the nodes that a reallocation names
 abbrev pub new_sum : Reallocation → ℕ → ℤ
 new_sum change o = factor_in change.own o (pos 0) +ℤ int_sum (map (λ c. factor_in c.changes o (pos 0)) change.at.items)
 
+-- the sum of the object's factors at these nodes before it
 abbrev pub old_sum : Grid → Reallocation → ℕ → ℤ
 old_sum grid change o = factor_at grid 0 o +ℤ int_sum (map (λ c. factor_at grid c.mon.0 o) change.at.items)
 

@@ -10,8 +10,6 @@ mod mon_change;
 mod reallocation;
 mod row;
 mod table;
-#[cfg(test)]
-mod tests;
 
 pub use mon_change::MonChange;
 pub use reallocation::Reallocation;

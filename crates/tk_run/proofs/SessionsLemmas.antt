@@ -1,5 +1,5 @@
 -- The stories of sessions: over one catalogue, and their texts one after the other.
-use Rattle.std.proofs.Common.{◌≡◌, ℕ, suc, zero, ◌+◌, ◌<◌, List, [], ◌∷◌, ◌++◌, All, Option, Some, None, Ok, length, length-append, take, get_or, refl, sym, ap, subst, ◌∙◌, arith}
+use Rattle.std.proofs.Common.{◌≡◌, ℕ, suc, zero, ◌+◌, ◌<◌, List, [], ◌∷◌, ◌++◌, All, Ok, length, length-append, take, get_or, sym, ap, subst, ◌∙◌, arith}
 use Rattle.std.specs.Prelude.{flat_map}
 use Rattle.std.specs.List.{enumerate_from}
 use Rattle.std.proofs.Math.Seq.{get_or-append_seam}
@@ -18,11 +18,6 @@ use Rattle.tk_story.specs.Story.{IsStory}
 use Rattle.tk_ledger.specs.Text.{text_of}
 use Rattle.tk_run.specs.Sessions.{numbered_text, session_title}
 use Rattle.tk_run.proofs.MultiLemmas.{texts_more}
-
--- what is no value is none
-pub none_of : {A : Type 0} (o : Option A) → ((x : A) → o ≡ Some x → ⊥) → o ≡ None
-none_of None other = refl
-none_of (Some x) other = absurd (other x refl)
 
 -- no bytes are no order
 pub empty_order : (order : List (ℕ × SessionLine)) → session_order_of [] ≡ Ok order → lines_of order ≡ []

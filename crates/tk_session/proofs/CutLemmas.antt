@@ -1,7 +1,6 @@
 -- A story ends at a cut of its logs, and no place is below that from which it began.
-use Rattle.std.proofs.Common.{◌≡◌, ℕ, ◌+◌, ◌-◌, ◌<◌, ◌≤◌, List, [], ◌∷◌, ◌++◌, length, get_or, map, refl, sym, ap, ◌∙◌, subst, arith, inl, inr}
+use Rattle.std.proofs.Common.{◌≡◌, ℕ, ◌+◌, ◌-◌, ◌<◌, ◌≤◌, List, [], ◌++◌, length, get_or, map, refl, sym, ap, ◌∙◌, subst, arith, inl, inr}
 use Rattle.std.specs.Prelude.{slice_index}
-use Rattle.std.specs.List.{enumerate_from}
 use Rattle.std.proofs.lemmas.Bool.{cases_lt}
 use Rattle.std.proofs.lemmas.List.{get_or_past}
 use Rattle.std.proofs.lemmas.List.FromFn.{get_or-map-range_with_len, length-map-range_with_len}
@@ -16,6 +15,7 @@ use Rattle.tk_story.specs.Moments.{cut_of}
 use Rattle.tk_story.specs.Story.{IsStory, StoryView, setup_of, trail_of}
 use Rattle.tk_world.specs.World.{CanRun}
 use Rattle.tk_session.specs.Chain.{NoPlaceFalls}
+use Rattle.tk_trail.proofs.PlacesLemmas.{places_at-start}
 
 -- ---- the laws of trails that are used
 
@@ -67,18 +67,9 @@ story_ends_at_a_cut stay s h = record {
 
 -- ---- no place falls
 
-start_places : (n : ℕ) (from : List ℕ) → map (λ (p : ℕ × ℕ). p.1 + 0) (enumerate_from n from) ≡ from
-start_places n [] = refl
-start_places n (place ∷ from) = ap (λ ps. (place + 0) ∷ ps) (start_places (n + 1) from) ∙ ap (λ p. p ∷ from) (omega arith)
-
--- before its first entry a monitor stands where it began
-at_start : (setup : MonitorSetup) → places_at setup [] ≡ setup.from
-unfolding places_at
-at_start setup = start_places 1 setup.from
-
 place_rises : PlacesNeverFall → (s : StoryView) (mon f : ℕ) → get_or (setup_of s mon).from f 0 ≤ get_or (places s mon) f 0
 unfolding places
-place_rises rise s mon f = subst (λ ps. get_or ps f 0 ≤ get_or (places_at (setup_of s mon) (trail_of s mon)) f 0) (at_start (setup_of s mon)) (rise (setup_of s mon) [] (trail_of s mon) f)
+place_rises rise s mon f = subst (λ ps. get_or ps f 0 ≤ get_or (places_at (setup_of s mon) (trail_of s mon)) f 0) (places_at-start (setup_of s mon)) (rise (setup_of s mon) [] (trail_of s mon) f)
 
 pub no_place_falls_within : PlacesNeverFall → (s : StoryView) → IsStory s → NoPlaceFalls s.from (cut_of s)
 no_place_falls_within rise s h j f = elim (cases_lt j s.settings.monitors) [

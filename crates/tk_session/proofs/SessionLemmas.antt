@@ -21,6 +21,7 @@ use Rattle.tk_session.specs.Chain.{IsSession, begun, beginning_of}
 use Rattle.tk_session.specs.Sessions.{SessionsView, played, with_line}
 use Rattle.tk_session.specs.declared.session_line.SessionLine.{SessionLine}
 use Rattle.tk_session.specs.declared.session_line.SessionLine.TheVariants.{Step}
+use Rattle.tk_drain.proofs.KeepLemmas.{after_joined}
 
 -- ---- the laws of stories that are used
 
@@ -34,12 +35,6 @@ abbrev pub WhatIsReachedRuns : Type 0
 WhatIsReachedRuns = (settings : Setup) (logs : LogSet) (from : List (List ℕ)) (end : KeptStory) → IsStory end.story → IsReached (begun settings logs from) end → RunsFrom settings logs from end
 
 -- ---- what is reached
-
--- events behind events
-after_joined : (o : Option StoryView) (t : StoryView) (xs ys : List Event) → after o xs ≡ Some t → after o (xs ++ ys) ≡ after (Some t) ys
-after_joined None t xs ys is = absurd (cc)
-after_joined (Some s) t [] ys is = ap (λ (o : Option StoryView). after o ys) is
-after_joined (Some s) t (x ∷ xs) ys is = after_joined (next_of s x) t xs ys is
 
 pub reached_self : (kept : KeptStory) → IsReached kept kept
 reached_self kept = record { events = []; runs = refl; kept_too = sym (append-nil kept.events) }

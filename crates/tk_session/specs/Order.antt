@@ -17,6 +17,7 @@ use Rattle.tk_session.specs.declared.session_line.SessionLine.TheVariants.{Step,
 abbrev pub line_in : List ℕ → Option SessionLine
 line_in line = if bytes_eq line (codes "restart") then Some Restart else option_map Step (event_in (words line))
 
+-- whether a line is a restart
 abbrev pub is_restart : SessionLine → Bool
 is_restart (Step event) = false
 is_restart Restart = true
@@ -28,10 +29,11 @@ event_of Restart = None
 
 -- ---- what a file is
 
--- lines, each behind its number: what they are, and their numbers
+-- what the lines of an order are, without their numbers
 abbrev pub lines_of : List (ℕ × SessionLine) → List SessionLine
 lines_of order = map (λ line. line.1) order
 
+-- the numbers of the lines of an order
 abbrev pub numbers_of : List (ℕ × SessionLine) → List ℕ
 numbers_of order = map (λ line. line.0) order
 

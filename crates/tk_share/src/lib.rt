@@ -6,8 +6,6 @@
 
 mod dealing;
 mod laws;
-#[cfg(test)]
-mod tests;
 
 pub use dealing::deal;
 pub use laws::{

@@ -169,7 +169,7 @@ values_accepted s j mon setup x round seq border values h said among =
 
 -- ---- a Report
 
-or_right_true : (b : Bool) → (b || true) ≡ true
+pub or_right_true : (b : Bool) → (b || true) ≡ true
 or_right_true true = refl
 or_right_true false = refl
 
@@ -179,7 +179,7 @@ in_resolution n members failed o of in' =
     (is_in-filter (λ q. is_in members q || is_in failed q) (objects n) o
     ∙ and_from (is_in (objects n) o) (is_in members o || is_in failed o) (contained_is_in (objects n) o of) (ap (λ b. is_in members o || b) (contained_is_in failed o in') ∙ or_right_true (is_in members o)))
 
-all_true : (p : ℕ → Bool) (xs : List ℕ) → ((x : ℕ) → Contains xs x → p x ≡ true) → list_all p xs ≡ true
+pub all_true : (p : ℕ → Bool) (xs : List ℕ) → ((x : ℕ) → Contains xs x → p x ≡ true) → list_all p xs ≡ true
 all_true p [] each = refl
 all_true p (x ∷ xs) each = and_from (p x) (list_all p xs) (each x (zero, omega arith, refl)) (all_true p xs (λ y in'. each y (suc in'.0, (let b = in'.1 in omega (arith, b)), in'.2)))
 

@@ -5,7 +5,7 @@ use Rattle.std.proofs.Common.{◌≡◌, ℕ, suc, zero, ◌+◌, ◌^◌, ◌�
 use Rattle.std.specs.Prelude.{filter, filter_map, find, fold, nat_lt, nat_le, unsigned_abs, cond, if◌then◌else◌}
 use Rattle.std.specs.List.{All, list_all, list_any, range_with_len}
 use Rattle.std.specs.Option.{option_map}
-use Rattle.std.proofs.lemmas.Bool.{and_from, cases_Bool, eq-eqb, false≢true, le-leb, le-ltb, lt-ltb, true≢false}
+use Rattle.std.proofs.lemmas.Bool.{and_from, cases_Bool, eq-eqb, false≢true, le-leb, le-ltb, lt-ltb, or_from}
 use Rattle.std.proofs.lemmas.List.{length-append}
 use Rattle.std.proofs.lemmas.List.Elements.{All-contains, filter_map-append}
 use Rattle.std.proofs.lemmas.List.Folds.{list_any-append}
@@ -50,12 +50,9 @@ use Rattle.tk_story.proofs.PlaceLemmas.{sent_place}
 use Rattle.tk_journal.proofs.SendLemmas.{monitor_listed}
 use Rattle.tk_journal.proofs.SendTurns.{legal_well}
 use Rattle.tk_journal.proofs.ProgressLemmas.{settled_is}
+use Rattle.tk_story.proofs.ContentLemmas.{or_right_true, all_true}
 
 -- ---- Stop is the last frame
-
-or_right_true : (b : Bool) → (b || true) ≡ true
-or_right_true true = refl
-or_right_true false = refl
 
 later_last : (x y : Option Frame) (c : Frame) → y ≡ Some c → later x y ≡ Some c
 later_last x y c is = ap (later x) is
@@ -139,10 +136,6 @@ next_seq o j mon trail seq members changes rest set legal m is =
 
 -- ---- tests that pass
 
-all_true : (p : ℕ → Bool) (xs : List ℕ) → ((x : ℕ) → Contains xs x → p x ≡ true) → list_all p xs ≡ true
-all_true p [] each = refl
-all_true p (x ∷ xs) each = and_from (p x) (list_all p xs) (each x (zero, omega arith, refl)) (all_true p xs (λ y in'. each y (suc in'.0, (let b = in'.1 in omega (arith, b)), in'.2)))
-
 none_found : (p : ℕ × ℤ → Bool) (xs : List (ℕ × ℤ)) → ((x : ℕ × ℤ) → Contains xs x → p x ≡ false) → find p xs ≡ None
 none_found p [] each = refl
 none_found p (x ∷ xs) each = ap (λ b. cond b (Some x) (find p xs)) (each x (zero, omega arith, refl)) ∙ none_found p xs (λ y in'. each y (suc in'.0, (let b = in'.1 in omega (arith, b)), in'.2))
@@ -155,9 +148,6 @@ accepts_assign shown seq members changes next members' none =
     ap (λ b. if not b then Some (WrongSequence shown.seq seq) else (if not (are_members shown.objects members) then Some BadMembers else option_map (λ change. BadChange (record { 0 = change.0 })) (find (is_bad_change shown.objects) changes))) (eq-eqb seq (shown.seq + 1) next)
     ∙ ap (λ b. if not b then Some BadMembers else option_map (λ change. BadChange (record { 0 = change.0 })) (find (is_bad_change shown.objects) changes)) members'
     ∙ ap (option_map (λ change. BadChange (record { 0 = change.0 }))) none
-
-or_none : (a b : Bool) → a ≡ false → b ≡ false → (a || b) ≡ false
-or_none a b x y = ap (λ c. c || b) x ∙ y
 
 -- ---- the end was told
 
@@ -202,7 +192,7 @@ takes_assign o mon setup trail seq members changes h next =
     (and_from (are_some_of n members) (nat_le (length members) 1024) (some_objects n members can.some can.ascends (subst (λ q. All (λ o. o ≤ q) members) (sym same) can.within)) (le-leb (length members) 1024 can.few))
     (none_found (is_bad_change n) changes (λ c in'.
     let of = can.each c in' in
-    or_none (nat_lt n c.0) (nat_lt (2 ^ 112) (unsigned_abs c.1)) (le-ltb n c.0 (let w = of.0 in omega (arith, w, same))) (le-ltb (2 ^ 112) (unsigned_abs c.1) of.1)))
+    or_from (nat_lt n c.0) (nat_lt (2 ^ 112) (unsigned_abs c.1)) (le-ltb n c.0 (let w = of.0 in omega (arith, w, same))) (le-ltb (2 ^ 112) (unsigned_abs c.1) of.1)))
 
 takes_collect : (o : Opening) (mon : ℕ) (setup : MonitorSetup) (trail : List Entry) (round : ℕ) (asked : List ℕ) → IsNext o mon setup trail (f.Collect round asked) → refusal_of_kind (shown_by setup trail) (f.Collect round asked) ≡ None
 takes_collect o mon setup trail round asked h =

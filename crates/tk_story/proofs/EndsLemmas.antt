@@ -84,9 +84,6 @@ pub record Agrees (sent passed : List Frame) (place entries : ℕ) : Type 0 wher
   pub few : place ≤ entries
   pub front : IsFront passed sent
 
-pub agrees_at_first : {E : Type 0} (read : E → Option Frame) (xs : List E) (sent : List Frame) → Agrees sent (filter_map read (take 0 xs)) 0 0
-agrees_at_first read xs sent = record { count = refl; few = omega arith; front = record { is = refl } }
-
 pub agrees_over : {E : Type 0} (read : E → Option Frame) (xs : List E) (sent : List Frame) (place n : ℕ) (e : E) → slice_get xs n ≡ Some e → read e ≡ None
     → Agrees sent (filter_map read (take n xs)) place n → Agrees sent (filter_map read (take (n + 1) xs)) place (n + 1)
 agrees_over read xs sent place n e at none h =

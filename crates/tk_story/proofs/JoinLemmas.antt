@@ -110,7 +110,7 @@ pub record SpeaksNow (mon : ℕ) (j : List Noted) (setup : MonitorSetup) (trail 
   pub taken : assigns_of trail ≡ assigns_to mon j
   pub now : is_present (assigns_sent mon j) trail ≡ true → Same setup before trail
 
-nothing_left : (xs rest : List Assign) → length (xs ++ rest) ≡ length xs → rest ≡ []
+pub nothing_left : (xs rest : List Assign) → length (xs ++ rest) ≡ length xs → rest ≡ []
 nothing_left xs [] e = refl
 nothing_left xs (x ∷ rest) e = absurd (let l = length-append xs (x ∷ rest) in omega (arith, l, e))
 

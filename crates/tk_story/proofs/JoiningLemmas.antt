@@ -6,7 +6,7 @@ use Rattle.std.specs.Option.{option_map}
 use Rattle.std.proofs.lemmas.Bool.{cases_lt}
 use Rattle.std.proofs.lemmas.List.{length-append, length-map, length-replicate, take-map, append-nil, append_assoc}
 use Rattle.std.proofs.lemmas.List.FromFn.{get_or-range_with_len, length-enumerate_from, length-range_with_len}
-use Rattle.std.proofs.lemmas.Option.{get_or_from_slice_get, slice_get-get_or, slice_get-map}
+use Rattle.std.proofs.lemmas.Option.{get_or_from_slice_get, slice_get-get_or, slice_get-map, same_Some}
 use Rattle.tk_base.specs.History.{IsFront}
 use Rattle.tk_base.specs.Settings.{IsWithinLimits, Setup}
 use Rattle.tk_base.specs.declared.ids.Mon.{Mon}
@@ -184,16 +184,13 @@ there [] k less = absurd (omega (arith, less))
 there (x ∷ xs) zero less = record { it = x; is = refl }
 there (x ∷ xs) (suc k) less = let h = there xs k (omega (arith, less)) in record { it = h.it; is = h.is }
 
-pub some_same : {A : Type 0} (x y : A) → Some x ≡ Some y → x ≡ y
-some_same x y e = cc
-
 number_at : (m k : ℕ) → k < m → slice_get (range_with_len 1 m) k ≡ Some (1 + k)
 number_at m k less = slice_get-get_or (range_with_len 1 m) k 0 (let l = length-range_with_len 1 m in omega (arith, l, less)) ∙ ap Some (get_or-range_with_len 1 m k 0 less)
 
 made_at : (ends : List MonEnd) (logs : LogSet) (settings : Setup) (from : List (List ℕ)) (k : ℕ) (end : MonEnd) → map (λ e. as_made e.monitor) ends ≡ map (made_for settings logs from) (monitors settings)
     → k < settings.monitors → slice_get ends k ≡ Some end → as_made end.monitor ≡ made_for settings logs from (1 + k)
 made_at ends logs settings from k end is few at =
-    some_same (as_made end.monitor) (made_for settings logs from (1 + k)) (
+    same_Some (as_made end.monitor) (made_for settings logs from (1 + k)) (
     sym (slice_get-map (λ (e : MonEnd). as_made e.monitor) ends k ∙ ap (option_map (λ (e : MonEnd). as_made e.monitor)) at)
     ∙ ap (λ xs. slice_get xs k) is
     ∙ slice_get-map (made_for settings logs from) (monitors settings) k ∙ ap (option_map (made_for settings logs from)) (number_at settings.monitors k few))

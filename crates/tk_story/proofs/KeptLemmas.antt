@@ -3,7 +3,7 @@ use Rattle.std.proofs.Common.{◌≡◌, ℕ, zero, suc, ◌+◌, ◌-◌, ◌�
 use Rattle.std.specs.Prelude.{IsSome, slice_get}
 use Rattle.std.specs.Option.{option_map}
 use Rattle.std.proofs.lemmas.Bool.{cases_Bool, cases_lt, true≢false}
-use Rattle.std.proofs.lemmas.Option.{slice_get-map}
+use Rattle.std.proofs.lemmas.Option.{slice_get-map, same_Some}
 use Rattle.std.proofs.Common.{eq-eqb, ◌==◌}
 use Rattle.std.specs.Prelude.{if◌then◌else◌}
 use Rattle.std.proofs.lemmas.Grind.{not_there}
@@ -30,7 +30,7 @@ use Rattle.tk_story.specs.declared.ends.received.Received.TheVariants as r
 use Rattle.tk_story.proofs.DownLemmas.{down_is_taken}
 use Rattle.tk_story.proofs.EndsLemmas.{frame_of}
 use Rattle.tk_story.proofs.FrameLemmas.{derived, frames_tell}
-use Rattle.tk_story.proofs.JoiningLemmas.{AreBefore, all_ordered, at_map, before_more, end_of, less_before_up, none_before, ordered_before_down, ordered_is_story, some_same}
+use Rattle.tk_story.proofs.JoiningLemmas.{AreBefore, all_ordered, at_map, before_more, end_of, less_before_up, none_before, ordered_before_down, ordered_is_story}
 use Rattle.tk_story.proofs.QuietLemmas.{joined as joined_end, setup_is}
 use Rattle.tk_story.proofs.UpLemmas.{up_is_taken}
 
@@ -73,7 +73,7 @@ agree_or_differ (g ∷ gs) (r.Frame f ∷ xs) = elim (cases_Bool (derived g f)) 
       same = refl;
       sent_is = refl;
       received_is = refl;
-      other = λ e. true≢false (sym ((frames_tell g f).1 (some_same g f (frame_of (Some g) f e))) ∙ other);
+      other = λ e. true≢false (sym ((frames_tell g f).1 (same_Some g f (frame_of (Some g) f e))) ∙ other);
     };
   })
 ]
@@ -156,7 +156,7 @@ next_sent (f ∷ frames) [] odd h = absurd (let e = h.is in cc)
 next_sent (f ∷ frames) (g ∷ gs) odd h =
     let e = h.is in
     let first : r.Frame f ≡ r.Frame g = cc in
-    let same : f ≡ g = some_same f g (frame_of (Some f) g (ap Some first)) in
+    let same : f ≡ g = same_Some f g (frame_of (Some f) g (ap Some first)) in
     let n = next_sent frames gs odd (record { is = cc }) in
     record { frame = n.frame; rest = n.rest; odd_is = n.odd_is; sent_is = λ i. sym same i ∷ n.sent_is i }
 
@@ -170,7 +170,7 @@ refused_frame refusal odd frame is refused none = not_some (refusal frame) none 
 own_odd : (mon : ℕ) (odd : Option (Mon × Received)) (x : Mon × Received) → odd ≡ Some x → x.0.0 ≡ mon → odd_from mon odd ≡ Some x.1
 own_odd mon None x is own = absurd cc
 own_odd mon (Some y) x is own =
-    let same : y ≡ x = some_same y x is in
+    let same : y ≡ x = same_Some y x is in
     let number : (y.0.0 == mon) ≡ true = eq-eqb y.0.0 mon (ap (λ (p : Mon × Received). p.0.0) same ∙ own) in
     ap (λ (b : Bool). if b then Some y.1 else None) number ∙ ap (λ (p : Mon × Received). Some p.1) same
 
@@ -279,7 +279,7 @@ one_direction ends m DownLink DownLink p q s t a b first second = refl
 one_here : (link : KeptLink) (p q : ℕ) (s t : Option Frame) (a b : Received) → IsFirstDifference link p s a → IsFirstDifference link q t b → (p ≡ q) × (s ≡ t) × (a ≡ b)
 one_here link p q s t a b first second =
     let place = one_place link p q s t a b first second in
-    (place, sym first.sent_is ∙ ap (slice_get link.sent) place ∙ second.sent_is, some_same a b (sym first.received_is ∙ ap (slice_get link.received) place ∙ second.received_is))
+    (place, sym first.sent_is ∙ ap (slice_get link.sent) place ∙ second.sent_is, same_Some a b (sym first.received_is ∙ ap (slice_get link.received) place ∙ second.received_is))
 
 pub one_first : (ends : KeptEnds) (m k : ℕ) (d x : Direction) (p q : ℕ) (s t : Option Frame) (a b : Received) → IsFirstOfAll ends m d p s a → IsFirstOfAll ends k x q t b
     → (m ≡ k) × (d ≡ x) × (p ≡ q) × (s ≡ t) × (a ≡ b)

@@ -4,14 +4,14 @@ use Rattle.tk_journal.specs.declared.noted.Noted.TheVariants as n
 use Rattle.std.proofs.Common.{◌≡◌, ℕ, suc, zero, ◌+◌, ◌≤◌, ◌<◌, ◌&&◌, ◌||◌, ◌==◌, ℤ, Bool, true, false, not, List, [], ◌∷◌, ◌++◌, length, Contains, Option, Some, None, refl, sym, ap, ◌∙◌, subst, arith, append_assoc, append-nil, inl, inr}
 use Rattle.std.specs.Prelude.{count_by, filter_map, fold, is_some, nat_lt, if◌then◌else◌}
 use Rattle.std.specs.List.{cons_option, list_all, list_any}
-use Rattle.std.proofs.lemmas.Bool.{and_from, and_parts, cases_Bool, eqb-true, false≢true, lt-ltb, true≢false}
+use Rattle.std.proofs.lemmas.Bool.{and_from, cases_Bool, eqb-true, false≢true, lt-ltb, true≢false}
 use Rattle.std.proofs.lemmas.List.{length-append}
 use Rattle.std.proofs.lemmas.List.Elements.{filter_map-append}
 use Rattle.std.proofs.lemmas.List.Sums.{sum_by-cons}
 use Rattle.tk_base.specs.declared.ids.Mon.{Mon}
 use Rattle.tk_frames.specs.Assigns.{Assign, assign_in}
 use Rattle.tk_frames.specs.declared.frame.Frame.{Frame}
-use Rattle.tk_journal.specs.Laws.{IsMonitor, IsSetUp}
+use Rattle.tk_journal.specs.Laws.{IsMonitor}
 use Rattle.tk_journal.specs.Legal.{IsLegal, Opening, start}
 use Rattle.tk_journal.specs.Links.{frames_from}
 use Rattle.tk_journal.specs.Readings.{Progress, answer_of, assigns_sent, is_answer, is_calm, is_open, is_stopped, monitors, progress_of, settled_in, settled_of}
@@ -38,6 +38,7 @@ use Rattle.tk_journal.proofs.SendLemmas.{listed_monitor}
 use Rattle.tk_journal.proofs.SendTurns.{legal_well}
 use Rattle.tk_journal.proofs.StartLemmas.{start_set_up}
 use Rattle.tk_journal.proofs.StandLemmas.{answer_stands, calm_and_last_is_stopped, end_stays_told}
+use Rattle.tk_story.proofs.ContentLemmas.{all_true}
 
 -- ---- what stands behind the last Assign
 
@@ -212,9 +213,6 @@ count_same : (s : StoryView) → IsStill s → (mon : ℕ) → IsMonitor s.setti
 unfolding assigns_sent
 count_same s still mon m = ap (λ xs. length (filter_map assign_in xs)) (still.down mon m)
 
-legal_of : (s : StoryView) → IsStory s → IsSetUp (start s.settings)
-legal_of s h = start_is_set_up s h
-
 begun : (s : StoryView) → IsStory s → IsStill s → (mon : ℕ) → IsMonitor s.settings mon → 0 < seq_of (trail_of s mon)
 begun s h still mon m = let b = (legal_well (start s.settings) s.journal (start_set_up s.settings h.limits) h.journal_legal).begun mon m in let c = count_same s still mon m in omega (arith, b, c)
 
@@ -241,7 +239,7 @@ not_reported s h still mon m = elim (cases_Bool (is_reported (trail_of s mon))) 
       let trail = trail_of s mon in
       let r = reported_sent (setup_of s mon) trail (h.trails_legal mon m) yes' in
       let a = sent_stands s h still mon m (f.Report (seq_of trail) r.border r.failed r.values) r.sent (Rattle.std.proofs.lemmas.Bool.eq-eqb (seq_of trail) (seq_of trail) refl) in
-      let none = no_report_stands (start s.settings) s.journal mon (legal_of s h) h.journal_legal m (still_closed s h still) in
+      let none = no_report_stands (start s.settings) s.journal mon (start_is_set_up s h) h.journal_legal m (still_closed s h still) in
       absurd (true≢false (sym (ap is_report a.is ∙ a.report refl) ∙ none))
 ]
 
@@ -298,12 +296,8 @@ settled_by q f.Stop is no' = absurd (false≢true is)
 pub still_settled : (s : StoryView) → IsStory s → IsStill s → (mon : ℕ) → IsMonitor s.settings mon → is_some (settled_of mon s.journal) ≡ true
 still_settled s h still mon m =
     let a = has_answer s h still mon m in
-    let none = no_report_stands (start s.settings) s.journal mon (legal_of s h) h.journal_legal m (still_closed s h still) in
+    let none = no_report_stands (start s.settings) s.journal mon (start_is_set_up s h) h.journal_legal m (still_closed s h still) in
     ap (λ o. is_some (settled_in o)) a.1 ∙ settled_by (assigns_sent mon s.journal) a.0 (answer_fresh mon s.journal a.0 a.1) (ap is_report (sym a.1) ∙ none)
-
-all_listed : (p : ℕ → Bool) (xs : List ℕ) → ((x : ℕ) → Contains xs x → p x ≡ true) → list_all p xs ≡ true
-all_listed p [] each = refl
-all_listed p (x ∷ xs) each = and_from (p x) (list_all p xs) (each x (zero, omega arith, refl)) (all_listed p xs (λ y in'. each y (suc in'.0, (let b = in'.1 in omega (arith, b)), in'.2)))
 
 kept_or : (h : ℕ → Option Progress) (o : Option Progress) (xs : List ℕ) (q : Progress → Bool) → ((p : Progress) → o ≡ Some p → q p ≡ true) → list_all q (filter_map h xs) ≡ true → list_all q (cons_option o (filter_map h xs)) ≡ true
 kept_or h None xs q here rest = rest
@@ -317,7 +311,7 @@ pub still_calm : (s : StoryView) → IsStory s → IsStill s → is_calm s.setti
 unfolding is_calm
 still_calm s h still =
     and_from (not (is_open s.settings s.journal)) (list_all (λ mon. is_some (settled_of mon s.journal)) (monitors s.settings)) (ap not (still_closed s h still))
-    (all_listed (λ mon. is_some (settled_of mon s.journal)) (monitors s.settings) (λ mon in'. still_settled s h still mon (listed_monitor s.settings mon in')))
+    (all_true (λ mon. is_some (settled_of mon s.journal)) (monitors s.settings) (λ mon in'. still_settled s h still mon (listed_monitor s.settings mon in')))
 
 -- what a told end says stays: the current Settled has `last`
 last_here : (s : StoryView) → IsStory s → IsStill s → (mon : ℕ) → IsMonitor s.settings mon → at_ends (setup_of s mon) (trail_of s mon) ≡ true → (p : Progress) → settled_of mon s.journal ≡ Some p → p.last ≡ true
@@ -336,5 +330,5 @@ last_here s h still mon m ends p is =
 
 pub ended_is_stopped : (s : StoryView) → IsStory s → IsStill s → ((mon : ℕ) → IsMonitor s.settings mon → at_ends (setup_of s mon) (trail_of s mon) ≡ true) → is_stopped s.journal ≡ true
 ended_is_stopped s h still ends =
-    calm_and_last_is_stopped (start s.settings) s.journal (legal_of s h) h.journal_legal (still_calm s h still)
+    calm_and_last_is_stopped (start s.settings) s.journal (start_is_set_up s h) h.journal_legal (still_calm s h still)
     (kept_all (λ mon. settled_of mon s.journal) (monitors s.settings) (λ p. p.last) (λ mon in' p is. let m = listed_monitor s.settings mon in' in last_here s h still mon m (ends mon m) p is))

@@ -7,7 +7,6 @@ use Rattle.tk_base.specs.Settings.{Setup}
 use Rattle.tk_base.specs.Sum.{int_sum}
 use Rattle.tk_input.specs.Logs.{IsCut, total, value, value_of}
 use Rattle.tk_rows.proofs.SumLemmas.{int_sum-cons}
-use Rattle.tk_alloc.proofs.WideLemmas.{of_catalogue}
 use Rattle.tk_journal.specs.Laws.{IsMonitor}
 use Rattle.tk_journal.specs.Readings.{factor, in_force, members_at, monitors, own}
 use Rattle.tk_journal.specs.declared.noted.Noted.{Noted}
@@ -15,6 +14,7 @@ use Rattle.tk_journal.proofs.Standing.{object_of}
 use Rattle.tk_journal.proofs.Tables.{IsObject}
 use Rattle.tk_journal.specs.Sending.{Stands}
 use Rattle.tk_input.specs.Logs.{IsValid}
+use Rattle.tk_journal.proofs.SendLemmas.{listed_monitor}
 
 abbrev Logs : Type 0
 Logs = List (List (List (ℕ × ℤ)))
@@ -50,10 +50,6 @@ sums_ordered f g h k (m ∷ ms) each =
     let d = int_sum-cons (k m) (map k ms) in
     omega (arith, ints, here, rest, a, b, c, d)
 
-monitor_in : (s : Setup) (mon : ℕ) → Contains (monitors s) mon → IsMonitor s mon
-unfolding objects
-monitor_in s mon in' = let r = of_catalogue s.monitors mon in' in record { from_one = r.0; within = r.1 }
-
 -- where at each monitor no outsider's value plus factor is above a member's, the members hold at the cut
 pub holds_by : (s : Setup) (logs : Logs) (j : List Noted) (cut : List (List ℕ)) → length logs ≡ s.monitors → IsCut logs cut → Stands s j
     → ((t o mon : ℕ) → Contains (members_at j) t → (Contains (members_at j) o → ⊥) → IsObject s t → IsObject s o → IsMonitor s mon → (value logs mon o cut +ℤ factor mon j o) ≤ℤ (value logs mon t cut +ℤ factor mon j t))
@@ -67,7 +63,7 @@ holds_by s logs j cut count is st each = record {
   greatest = λ t o in' low high out.
       let t_of = object_of s (members_at j) [] t st.members.ascends st.members.within in' in
       let o_of : IsObject s o = record { from_one = low; within = high } in
-      let all = sums_ordered (λ mon. value logs mon o cut) (λ mon. factor mon j o) (λ mon. value logs mon t cut) (λ mon. factor mon j t) (monitors s) (λ mon m. each t o mon in' out t_of o_of (monitor_in s mon m)) in
+      let all = sums_ordered (λ mon. value logs mon o cut) (λ mon. factor mon j o) (λ mon. value logs mon t cut) (λ mon. factor mon j t) (monitors s) (λ mon m. each t o mon in' out t_of o_of (listed_monitor s mon m)) in
       let a = total_is logs cut o s.monitors count is.shape in
       let b = total_is logs cut t s.monitors count is.shape in
       let c = st.own t o in' out low high in

@@ -6,7 +6,6 @@ use Rattle.std.specs.Prelude.{filter_map, nat_lt, if◌then◌else◌}
 use Rattle.std.specs.List.{All}
 use Rattle.std.specs.Option.{option_map}
 use Rattle.std.proofs.lemmas.Bool.{cases_Bool, cases_lt, eq-eqb, false≢true, le-ltb, lt-ltb, true≢false}
-use Rattle.std.proofs.lemmas.List.{length-append}
 use Rattle.std.proofs.lemmas.List.Elements.{filter_map-append}
 use Rattle.tk_base.specs.History.{EachFrom, last_of}
 use Rattle.tk_base.proofs.HistoryLemmas.{each_at}
@@ -36,7 +35,7 @@ use Rattle.tk_journal.proofs.AskedLemmas.{each_collect_is_answered}
 use Rattle.tk_frames.proofs.CarriedLemmas.{tally-append}
 use Rattle.tk_journal.proofs.GatheredLemmas.{quiet_closing}
 use Rattle.tk_journal.proofs.HeardLemmas.{answer_was_got}
-use Rattle.tk_story.proofs.JoinLemmas.{Rest, carried_seq, rest_of, sent_at, seq_at_most, seq_from}
+use Rattle.tk_story.proofs.JoinLemmas.{Rest, carried_seq, rest_of, sent_at, seq_at_most, seq_from, nothing_left}
 use Rattle.tk_journal.proofs.SentLemmas.{flag}
 use Rattle.tk_trail.proofs.PairLemmas.{values_answer_collects}
 use Rattle.tk_trail.proofs.SendsLemmas.{Sends, last_entry}
@@ -86,10 +85,6 @@ taken_x o j mon setup trail g u =
     let r = rest_of (taken_by trail) (frames_to mon j) u.joined.down in
     let parts : taken_by trail ≡ taken_by u.x ++ taken_by (Sent g ∷ u.y) = ap taken_by u.is ∙ filter_map-append taken_in u.x (Sent g ∷ u.y) in
     record { rest = taken_by (Sent g ∷ u.y) ++ r.rest; is = r.is ∙ ap (λ xs. xs ++ r.rest) parts ∙ append_assoc (taken_by u.x) (taken_by (Sent g ∷ u.y)) r.rest }
-
-nothing_left : (xs rest : List Assign) → length (xs ++ rest) ≡ length xs → rest ≡ []
-nothing_left xs [] e = refl
-nothing_left xs (x ∷ rest) e = absurd (let l = length-append xs (x ∷ rest) in omega (arith, l, e))
 
 pub front_same : (xs ys rest : List Assign) → ys ≡ xs ++ rest → length ys ≡ length xs → xs ≡ ys
 front_same xs ys rest is same =

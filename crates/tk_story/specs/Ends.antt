@@ -53,10 +53,11 @@ abbrev pub odd_from : ℕ → Option (Mon × Received) → Option Received
 odd_from mon None = None
 odd_from mon (Some (from, received)) = if from.0 == mon then Some received else None
 
--- the links of a monitor: up from its trail to the journal, and down
+-- the link of a monitor up, from its trail to the journal
 abbrev pub up_link : ℕ → List Noted → Option (Mon × Received) → List Entry → KeptLink
 up_link mon journal odd trail = record { sent = sent_by trail; received = with_odd (frames_from mon journal) (odd_from mon odd) }
 
+-- the link of a monitor down, from the journal to its trail
 abbrev pub down_link : ℕ → List Noted → List Entry → Option Received → KeptLink
 down_link mon journal trail odd = record { sent = frames_to mon journal; received = with_odd (taken_by trail) odd }
 
@@ -70,6 +71,7 @@ pub record KeptEnds : Type 0 where
   pub trails : List (List Entry)
   pub odds : List (Option Received)
 
+-- the same by the end of the coordinator and the ends of the monitors, ascending
 abbrev pub kept_by : CoordEnd → List MonEnd → KeptEnds
 kept_by coordinator monitors = record {
   settings = coordinator.coordinator.settings;
@@ -79,12 +81,15 @@ kept_by coordinator monitors = record {
   odds = map (λ end. end.odd) monitors;
 }
 
+-- the trail that a monitor kept
 abbrev pub trail_at : KeptEnds → ℕ → List Entry
 trail_at ends mon = slice_index_or ends.trails (mon - 1) []
 
+-- what a monitor received next and did not take, if there was something
 abbrev pub odd_at : KeptEnds → ℕ → Option Received
 odd_at ends mon = slice_index_or ends.odds (mon - 1) None
 
+-- the link of a monitor in a direction
 abbrev pub link_at : KeptEnds → ℕ → Direction → KeptLink
 link_at ends mon UpLink = up_link mon ends.journal ends.odd (trail_at ends mon)
 link_at ends mon DownLink = down_link mon ends.journal (trail_at ends mon) (odd_at ends mon)
@@ -126,6 +131,7 @@ TellsDifference ends NoMemory = ⊤
 abbrev pub as_made : MonitorView → MonitorView
 as_made monitor = record monitor { trail = [] }
 
+-- the monitor of a number as a run makes it: with these settings, its parts and its starting places
 abbrev pub made_for : Setup → LogSet → List (List ℕ) → ℕ → MonitorView
 made_for settings logs from mon = made settings mon (parts_of logs.logs mon) (places_of from mon)
 

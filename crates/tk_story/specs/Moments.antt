@@ -29,11 +29,6 @@ pub record IsMoment (t s : StoryView) : Type 0 where
   pub answered : (mon : ℕ) → IsMonitor s.settings mon → owed_at (setup_of s mon) (trail_of t mon) ≡ None
   pub links : (mon : ℕ) → IsMonitor s.settings mon → IsOrderedLink t.journal mon (trail_of t mon)
 
--- every link is empty: each end took all that the other sent
-pub record AreLinksEmpty (s : StoryView) : Type 0 where
-  pub down : (mon : ℕ) → IsMonitor s.settings mon → taken_by (trail_of s mon) ≡ frames_to mon s.journal
-  pub up : (mon : ℕ) → IsMonitor s.settings mon → frames_from mon s.journal ≡ sent_by (trail_of s mon)
-
 -- every link is empty, no round is open, and nothing is broken at any monitor
 pub record IsQuiet (s : StoryView) : Type 0 where
   pub down : (mon : ℕ) → IsMonitor s.settings mon → taken_by (trail_of s mon) ≡ frames_to mon s.journal

@@ -11,6 +11,7 @@ use Rattle.tk_trail.specs.Setup.{MonitorSetup}
 use Rattle.tk_trail.specs.declared.entry.Entry.{Entry}
 use Rattle.tk_story.specs.Links.{IsOrderedLink}
 
+-- what the coordinator and each monitor did in one run, over its settings, its logs and its starting places
 pub record StoryView : Type 0 where
   pub settings : Setup
   pub logs : LogSet
@@ -28,7 +29,7 @@ story_over settings logs from journal monitors = record {
   trails = map (λ m. m.trail) monitors;
 }
 
--- what a monitor of the story is made of, and its trail
+-- what a monitor of the story is made of
 abbrev pub setup_of : StoryView → ℕ → MonitorSetup
 setup_of s mon = record {
   number = mon;
@@ -37,6 +38,7 @@ setup_of s mon = record {
   from = places_of s.from mon;
 }
 
+-- the trail of a monitor of the story
 abbrev pub trail_of : StoryView → ℕ → List Entry
 trail_of s mon = slice_index_or s.trails (mon - 1) []
 

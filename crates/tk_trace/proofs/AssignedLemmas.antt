@@ -89,10 +89,7 @@ are_parts P first (parts ∷ logs) facts =
     (All-map (λ p. P p.1) (λ part. (monitor first, part)) parts (All-head (λ parts. All P parts) parts logs facts))
     (are_parts P (first + 1) logs (All-tail (λ parts. All P parts) parts logs facts))
 
--- one part more of a row, and one row more
-pub under_more : (mon : ℕ) (parts : List (List (ℕ × ℤ))) (part : List (ℕ × ℤ)) → under mon (parts ++ part ∷ []) ≡ under mon parts ++ (monitor mon, part) ∷ []
-under_more mon parts part = map-append (λ part. (monitor mon, part)) parts (part ∷ [])
-
+-- one row more
 pub rows_more : (first : ℕ) (logs : List (List (List (ℕ × ℤ)))) (parts : List (List (ℕ × ℤ))) → assigned_from first (logs ++ parts ∷ []) ≡ assigned_from first logs ++ under (first + length logs) parts
 rows_more first [] parts = rw (append-nil (under first parts)) (ap (λ (n : ℕ). under n parts) (omega arith))
 rows_more first (row ∷ logs) parts =

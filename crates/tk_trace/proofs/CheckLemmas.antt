@@ -1,8 +1,8 @@
 -- What a checker found of the story that bytes tell is what is wrong with them.
-use Rattle.std.proofs.Common.{◌≡◌, ◌⊎◌, ℕ, suc, List, [], ◌∷◌, ◌++◌, length, map, true, Option, Some, None, Result, Ok, Err, IfOk, refl, sym, ap, subst, ◌∙◌, inl, inr}
+use Rattle.std.proofs.Common.{◌≡◌, ◌⊎◌, ℕ, List, [], ◌∷◌, ◌++◌, length, map, true, Option, Some, None, Result, Ok, Err, IfOk, refl, sym, ap, subst, ◌∙◌, inl, inr}
 use Rattle.std.proofs.lemmas.List.Elements.{filter_map-append}
 use Rattle.std.proofs.lemmas.List.Sums.{fold-append}
-use Rattle.std.specs.List.{AllZip}
+use Rattle.std.proofs.lemmas.Slice.Zip.{AllZip-long}
 use Rattle.tk_base.specs.History.{last_of}
 use Rattle.tk_frames.specs.declared.frame.Frame.TheVariants as g
 use Rattle.tk_input.specs.Logs.{beginnings}
@@ -28,14 +28,8 @@ use Rattle.tk_trace.proofs.TraceLemmas.{one_run}
 
 -- ---- what a checker asks of a record
 
-as_many : {A B : Type 0} (R : A → B → Type 0) (xs : List A) (ys : List B) → AllZip R xs ys → length ys ≡ length xs
-as_many R [] [] h = refl
-as_many R [] (y ∷ ys) h = absurd h
-as_many R (x ∷ xs) [] h = absurd h
-as_many R (x ∷ xs) (y ∷ ys) h = ap suc (as_many R xs ys h.1)
-
 pub a_trail_each : (r : Recorded) → IsRecorded r → length r.trails ≡ r.settings.monitors
-a_trail_each r is = as_many IsTrail r.logs.logs r.trails is.trails ∙ is.monitors
+a_trail_each r is = AllZip-long IsTrail r.logs.logs r.trails is.trails ∙ is.monitors
 
 -- the story that is told of lists that are those of a record
 pub told_is : (r : Recorded) (journal : List Noted) (trails : List (List Entry)) → journal ≡ r.journal → trails ≡ r.trails → told_by r.settings r.logs journal trails ≡ told r

@@ -2,6 +2,7 @@
 use Rattle.std.proofs.Common.{◌≡◌, ℕ, zero, suc, ◌+◌, ◌<◌, ◌≤◌, ◌^◌, Bool, true, false, cond, All, List, [], ◌∷◌, ◌++◌, length, Option, Some, None, refl, sym, ap, subst, ◌∙◌, append_assoc, inl, inr, ◌⊎◌}
 use Rattle.std.specs.List.{flat_map, AllByRecursion}
 use Rattle.std.proofs.lemmas.List.Elements.{All-from_recursion, recursion_from_All}
+use Rattle.std.proofs.lemmas.Option.{cond_some}
 use Rattle.tk_frames.specs.Reading.{Found, ◌>>=◌, as_at, bytes_at}
 use Rattle.tk_frames.proofs.BytesLemmas.{IsBytes, rest_fits}
 use Rattle.tk_frames.proofs.Steps.{bind_some, some_is}
@@ -9,11 +10,6 @@ use Rattle.tk_frames.proofs.ExactLemmas.{IsExact, exact_fact, left_fits}
 use Rattle.tk_frames.proofs.FieldLemmas.{exact_bytes}
 use Rattle.tk_trace.specs.Reading.{counted_at, if_passes, number_at, tested_at, times_at}
 use Rattle.tk_trace.specs.Spelling.{counted, number}
-
--- a test that was passed
-pub passed_with : {A : Type 0} (b : Bool) (x y : A) → cond b (Some x) None ≡ Some y → (b ≡ true) × (x ≡ y)
-passed_with true x y e = (refl, some_is x y e)
-passed_with false x y e = absurd cc
 
 -- one of two
 pub one_way : {A : Type 0} (b : Bool) (x y z : A) → cond b x y ≡ z → ((b ≡ true) × (x ≡ z)) ⊎ ((b ≡ false) × (y ≡ z))
@@ -33,7 +29,7 @@ pub exact_tested : {X : Type 0} {Fact T : X → Type 0} {spell : X → List ℕ}
 exact_tested {X = X} {Fact = Fact} {T = T} {spell = spell} {read = read} test to from exact = record {
   takes = λ bytes x rest fits e.
       let a = bind_some (read bytes) (if_passes test) (x, rest) e in
-      let p = passed_with (test a.0.0) a.0 (x, rest) a.2 in
+      let p = cond_some (test a.0.0) a.0 (x, rest) a.2 in
       let u = exact.takes bytes a.0.0 a.0.1 fits a.1 in
       subst (λ (w : X × List ℕ). (bytes ≡ spell w.0 ++ w.1) × (T w.0 × Fact w.0)) p.1 (u.0, (to a.0.0 p.0, u.1));
   again = λ x rest fact.

@@ -1,8 +1,8 @@
 -- The readers of single fields are exact.
-use Rattle.std.proofs.Common.{◌≡◌, ℕ, zero, suc, ◌+◌, ◌-◌, ◌<◌, ◌≤◌, ◌^◌, ◌&&◌, ℤ, pos, negsuc, unsigned_abs, Bool, true, false, cond, ltb, leb, List, [], ◌∷◌, ◌++◌, length, take, drop, Some, None, refl, sym, ap, subst, ◌∙◌, append_assoc, arith}
+use Rattle.std.proofs.Common.{◌≡◌, ℕ, zero, suc, ◌+◌, ◌-◌, ◌<◌, ◌≤◌, ◌^◌, ℤ, pos, negsuc, unsigned_abs, Bool, true, false, cond, ltb, leb, List, [], ◌∷◌, ◌++◌, length, take, drop, Some, None, refl, sym, ap, subst, ◌∙◌, append_assoc, arith}
 use Rattle.std.specs.Prelude.{FitsSigned, nat_le, nat_lt, ⊤}
 use Rattle.std.specs.Int.{w128}
-use Rattle.std.proofs.lemmas.Bool.{ltb-false, ltb-true, leb-true, lt-ltb, le-leb, le-ltb}
+use Rattle.std.proofs.lemmas.Bool.{ltb-false, ltb-true, leb-true, lt-ltb, le-leb, le-ltb, and_parts}
 use Rattle.std.proofs.lemmas.List.{drop_at, length-append, length-take, take-append-drop, take_at}
 use Rattle.std.proofs.lemmas.Int.{ints}
 use Rattle.tk_frames.specs.Reading.{◌>>=◌, as_at, both_at, bytes_at, counted_at as frame_counted_at, items_at, number_at as frame_number_at, object_at as frame_object_at, signed_at as frame_signed_at}
@@ -53,13 +53,9 @@ exact_flag = record {
 
 -- ---- one of so many
 
-both_true : (a b : Bool) → (a && b) ≡ true → (a ≡ true) × (b ≡ true)
-both_true true b e = (refl, e)
-both_true false b e = absurd cc
-
 pub one_of_many : (many number : ℕ) → is_one_of many number ≡ true → IsOneOf many number
 one_of_many many number e =
-    let p = both_true (nat_lt 0 number) (nat_le number many) e in
+    let p = and_parts (nat_lt 0 number) (nat_le number many) e in
     (ltb-true 0 number p.0, leb-true number many p.1)
 
 pub many_has : (many number : ℕ) → IsOneOf many number → is_one_of many number ≡ true

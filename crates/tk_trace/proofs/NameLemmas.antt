@@ -1,8 +1,8 @@
 -- The reader of the names is exact: a catalogue is of the names from which it is made.
-use Rattle.std.proofs.Common.{◌≡◌, ℕ, ◌+◌, ◌<◌, ◌≤◌, ◌^◌, Bool, true, false, not, ◌&&◌, cond, All, List, [], ◌∷◌, ◌++◌, length, Option, Some, None, Result, Ok, Err, bytes_eq, refl, sym, ap, subst, ◌∙◌, append_assoc, append-nil, arith}
+use Rattle.std.proofs.Common.{◌≡◌, ℕ, ◌+◌, ◌<◌, Bool, true, false, not, ◌&&◌, cond, All, List, [], ◌∷◌, ◌++◌, length, Option, Some, None, Result, Ok, Err, bytes_eq, refl, sym, ap, subst, ◌∙◌, append_assoc, append-nil, arith}
 use Rattle.std.specs.Prelude.{nat_le, nat_lt}
 use Rattle.std.specs.List.{flat_map, list_all, list_any}
-use Rattle.std.proofs.lemmas.Bool.{leb-true}
+use Rattle.std.proofs.lemmas.Bool.{leb-true, and_parts, not-false}
 use Rattle.std.proofs.lemmas.List.Elements.{All-cons, All-nil, All-weaker}
 use Rattle.tk_input.specs.Catalog.{catalog_from, catalog_of, is_name, name_added, next_name, only_field, some_names, with_name}
 use Rattle.tk_input.specs.Records.{and_then, records_in, through}
@@ -30,19 +30,15 @@ pub unless_true : {A E : Type 0} (b : Bool) (e : E) (r : Result A E) (x : A) →
 unless_true true e r x is = absurd cc
 unless_true false e r x is = (refl, is)
 
-pub not_not : (b : Bool) → not b ≡ false → b ≡ true
-not_not true e = refl
-not_not false e = absurd cc
-
 -- a name that was taken
 one_added : (before : List (List ℕ)) (name : List ℕ) (after : List (List ℕ)) → adds before name ≡ Ok after → (after ≡ before ++ name ∷ []) × (is_name name ≡ true)
 one_added before name after e =
     let a = unless_true (nat_le 65536 (length before)) TooMany (with_name before (Some name)) after e in
     let b = unless_true (not (is_name name)) (BadName (length before + 1)) _ after a.1 in
     let c = unless_true (list_any (λ n. bytes_eq name n) before) (Repeated (length before + 1)) (Ok (before ++ name ∷ [])) after b.1 in
-    (sym (ok_is (before ++ name ∷ []) after c.1), not_not (is_name name) b.0)
+    (sym (ok_is (before ++ name ∷ []) after c.1), not-false (is_name name) b.0)
 
-then_is : {A B E : Type 0} (further : A → Result B E) (r : Result A E) (y : B) → and_then further r ≡ Ok y → (x : A) × (r ≡ Ok x) × (further x ≡ Ok y)
+pub then_is : {A B E : Type 0} (further : A → Result B E) (r : Result A E) (y : B) → and_then further r ≡ Ok y → (x : A) × (r ≡ Ok x) × (further x ≡ Ok y)
 then_is further (Ok x) y e = (x, refl, e)
 then_is further (Err e) y is = absurd cc
 
@@ -67,15 +63,11 @@ catalogue_is names all e =
     let b = all_added [] names a.0 a.1 in
     (sym b.0 ∙ some_is_all a.0 all a.2, b.1)
 
-pub and_true : (a b : Bool) → (a && b) ≡ true → (a ≡ true) × (b ≡ true)
-and_true true b e = (refl, e)
-and_true false b e = absurd cc
-
 -- a name fits behind a length of one byte
 name_fits : (bytes : List ℕ) → is_name bytes ≡ true → length bytes < 256
 name_fits bytes is =
-    let a = and_true (nat_lt 0 (length bytes) && nat_le (length bytes) 255) (list_all (λ b. nat_le 0x21 b && nat_le b 0x7e) bytes) is in
-    let b = and_true (nat_lt 0 (length bytes)) (nat_le (length bytes) 255) a.0 in
+    let a = and_parts (nat_lt 0 (length bytes) && nat_le (length bytes) 255) (list_all (λ b. nat_le 0x21 b && nat_le b 0x7e) bytes) is in
+    let b = and_parts (nat_lt 0 (length bytes)) (nat_le (length bytes) 255) a.0 in
     omega (arith, leb-true (length bytes) 255 b.1)
 
 pub made_ok : {A E : Type 0} (r : Result A E) (x : A) → if_ok r ≡ Some x → r ≡ Ok x

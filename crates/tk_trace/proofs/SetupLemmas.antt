@@ -1,7 +1,7 @@
 -- The reader of settings is exact.
 use Rattle.std.proofs.Common.{◌≡◌, ℕ, ◌*◌, ◌<◌, ◌≤◌, ◌^◌, ◌≤ℤ◌, ℤ, pos, negsuc, unsigned_abs, Bool, true, false, not, ◌&&◌, cond, List, ◌++◌, Option, Some, None, Result, Ok, Err, refl, sym, ap, subst, ◌∙◌, append_assoc, arith}
 use Rattle.std.specs.Prelude.{nat_le, nat_lt}
-use Rattle.std.proofs.lemmas.Bool.{leb-true, le-leb, lt-ltb, ltb-true}
+use Rattle.std.proofs.lemmas.Bool.{leb-true, le-leb, lt-ltb, ltb-true, and_parts, not-false}
 use Rattle.std.proofs.lemmas.Int.{ints}
 use Rattle.tk_base.specs.Settings.{IsWithinLimits, Setup, are_counts, is_k, settings_of}
 use Rattle.tk_base.specs.declared.settings.SettingFault.TheVariants.{BadCount, BadEpsilon, BadK, BadWeight}
@@ -11,7 +11,7 @@ use Rattle.tk_frames.proofs.Steps.{bind_some, some_is}
 use Rattle.tk_trace.specs.Reading.{if_ok, number_at, setup_at}
 use Rattle.tk_trace.specs.Spelling.{number, setup}
 use Rattle.tk_trace.proofs.ExactLemmas.{exact_number}
-use Rattle.tk_trace.proofs.NameLemmas.{and_true, made_ok, not_not, ok_is, unless_true}
+use Rattle.tk_trace.proofs.NameLemmas.{made_ok, ok_is, unless_true}
 
 -- settings that were made are of these numbers, which are within the limits
 made : (k epsilon own objects monitors : ℕ) (s : Setup) → settings_of k epsilon own objects monitors ≡ Ok s
@@ -22,15 +22,15 @@ made k epsilon own objects monitors s e =
     let c = unless_true (not (nat_le epsilon (2 ^ 100))) BadEpsilon _ s b.1 in
     let d = unless_true (not (nat_le own 1000)) BadWeight _ s c.1 in
     let is = sym (ok_is _ s d.1) in
-    let counts = not_not (are_counts objects monitors) a.0 in
-    let c4 = and_true (nat_lt 0 objects && nat_le objects 65536 && nat_lt 0 monitors && nat_le monitors 64) (nat_le (objects * monitors) 1048576) counts in
-    let c3 = and_true (nat_lt 0 objects && nat_le objects 65536 && nat_lt 0 monitors) (nat_le monitors 64) c4.0 in
-    let c2 = and_true (nat_lt 0 objects && nat_le objects 65536) (nat_lt 0 monitors) c3.0 in
-    let c1 = and_true (nat_lt 0 objects) (nat_le objects 65536) c2.0 in
-    let members = not_not (is_k k objects) b.0 in
-    let k2 = and_true (nat_lt 0 k && nat_le k 1024) (nat_le k objects) members in
-    let k1 = and_true (nat_lt 0 k) (nat_le k 1024) k2.0 in
-    let small : epsilon ≤ 2 ^ 100 = leb-true epsilon (2 ^ 100) (not_not (nat_le epsilon (2 ^ 100)) c.0) in (
+    let counts = not-false (are_counts objects monitors) a.0 in
+    let c4 = and_parts (nat_lt 0 objects && nat_le objects 65536 && nat_lt 0 monitors && nat_le monitors 64) (nat_le (objects * monitors) 1048576) counts in
+    let c3 = and_parts (nat_lt 0 objects && nat_le objects 65536 && nat_lt 0 monitors) (nat_le monitors 64) c4.0 in
+    let c2 = and_parts (nat_lt 0 objects && nat_le objects 65536) (nat_lt 0 monitors) c3.0 in
+    let c1 = and_parts (nat_lt 0 objects) (nat_le objects 65536) c2.0 in
+    let members = not-false (is_k k objects) b.0 in
+    let k2 = and_parts (nat_lt 0 k && nat_le k 1024) (nat_le k objects) members in
+    let k1 = and_parts (nat_lt 0 k) (nat_le k 1024) k2.0 in
+    let small : epsilon ≤ 2 ^ 100 = leb-true epsilon (2 ^ 100) (not-false (nat_le epsilon (2 ^ 100)) c.0) in (
       is,
       subst IsWithinLimits (sym is) (record {
         some_object = ltb-true 0 objects c1.0;
@@ -43,7 +43,7 @@ made k epsilon own objects monitors s e =
         members = leb-true k objects k2.1;
         no_debt = omega (arith, ints);
         epsilon = omega (arith, ints, small);
-        own_weight = leb-true own 1000 (not_not (nat_le own 1000) d.0);
+        own_weight = leb-true own 1000 (not-false (nat_le own 1000) d.0);
       }),
     )
 

@@ -60,8 +60,7 @@ use Rattle.tk_story.specs.Story.{IsStory, StoryView, setup_of, trail_of}
 use Rattle.tk_story.proofs.PublishedLemmas.{published_holds}
 use Rattle.tk_story.proofs.QuietLemmas.{setup_is}
 use Rattle.tk_trace.specs.Writing.{CanBeEntered, CanBeNoted, CanBePublished, CanBeSpelled}
-use Rattle.std.proofs.lemmas.Option.{get_or_from_slice_get}
-use Rattle.tk_trace.proofs.ExactLemmas.{passed_with}
+use Rattle.std.proofs.lemmas.Option.{get_or_from_slice_get, cond_some}
 use Rattle.tk_trace.specs.Spelling.{IsOneOf}
 
 -- ---- each monitor that a legal journal names is there
@@ -232,7 +231,7 @@ all_sent_well s before (n.Tuned k epsilon ∷ j) said short = All-cons IsSentWel
 
 down_of : (mon : ℕ) (e : Noted) (frame : Frame) → IsSentWell e → sent_to mon e ≡ Some frame → CanBeSpelled frame
 down_of mon (n.Got from g) frame well is = absurd cc
-down_of mon (n.Sent to g) frame well is = subst CanBeSpelled (passed_with (to.0 == mon) g frame is).1 well
+down_of mon (n.Sent to g) frame well is = subst CanBeSpelled (cond_some (to.0 == mon) g frame is).1 well
 down_of mon (n.Published p) frame well is = absurd cc
 down_of mon (n.Tuned k epsilon) frame well is = absurd cc
 

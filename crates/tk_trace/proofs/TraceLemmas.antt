@@ -5,6 +5,7 @@ use Rattle.std.specs.Cmp.Lexicographic.{pointwise, same_text}
 use Rattle.std.specs.List.{AllZip, flat_map}
 use Rattle.std.proofs.lemmas.List.{drop_at, take-append-drop, take_at}
 use Rattle.std.proofs.lemmas.List.Elements.{All-weaker, length_all_zip}
+use Rattle.std.proofs.lemmas.Option.{cond_some}
 use Rattle.tk_base.specs.Settings.{Setup}
 use Rattle.tk_input.specs.Logs.{AreParts, LogSet}
 use Rattle.tk_journal.specs.declared.noted.Noted.{Noted}
@@ -18,7 +19,6 @@ use Rattle.tk_trace.specs.Recorded.{Recorded}
 use Rattle.tk_trace.specs.Spelling.{IsRecorded, IsTrace, journal, mark, name, row, setup, trace, trail}
 use Rattle.tk_trace.specs.declared.fault.ParseFault.{ParseFault}
 use Rattle.tk_trace.specs.declared.fault.ParseFault.TheVariants as fault
-use Rattle.tk_trace.proofs.ExactLemmas.{passed_with}
 use Rattle.tk_trace.proofs.HistoryLemmas.{exact_journal, exact_trails}
 use Rattle.tk_trace.proofs.LogLemmas.{exact_logs}
 use Rattle.tk_trace.proofs.NameLemmas.{exact_names}
@@ -28,7 +28,7 @@ use Rattle.tk_trace.proofs.SetupLemmas.{exact_setup}
 
 marked : (bytes rest : List ℕ) → behind_mark bytes ≡ Some rest → bytes ≡ mark ++ rest
 marked bytes rest e =
-    let a = passed_with (pointwise nat_eq (take 8 bytes) mark) (drop 8 bytes) rest e in
+    let a = cond_some (pointwise nat_eq (take 8 bytes) mark) (drop 8 bytes) rest e in
     sym (take-append-drop 8 bytes)
     ∙ ap (λ (front : List ℕ). front ++ drop 8 bytes) (same_text (take 8 bytes) mark (sym a.0))
     ∙ ap (λ (back : List ℕ). mark ++ back) a.1

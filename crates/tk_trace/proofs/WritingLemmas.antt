@@ -1,6 +1,6 @@
 -- Writing one after the other, as a loop does, and the forms that frames give to sets and places.
 use Rattle.std.proofs.Common.{◌≡◌, ℕ, zero, suc, ◌+◌, ◌-◌, ◌<◌, ◌≤◌, ◌^◌, ℤ, All, List, [], ◌∷◌, ◌++◌, length, get_or, take, Some, refl, sym, ap, subst, ◌∙◌, append_assoc, arith}
-use Rattle.std.specs.Prelude.{FitsSigned, OnOk, Result, Ok, Err, slice_get}
+use Rattle.std.specs.Prelude.{FitsSigned, slice_get}
 use Rattle.std.specs.Int.{w128, cast_unsigned}
 use Rattle.std.specs.List.{AllZip, flat_map}
 use Rattle.std.proofs.lemmas.List.{flat_map_more, get_or_default, take_more}
@@ -35,10 +35,6 @@ got_at xs i k x same is = sym (get_or_from_slice_get xs i x x (ap (slice_get xs)
 
 pub number_at_place : (xs : List ℕ) (i n : ℕ) → i < length xs → n ≡ get_or xs i 0 → n ≡ get_or xs i n
 number_at_place xs i n within is = is ∙ get_or_default xs i 0 n within
-
-pub on_ok : {T E : Type 0} {P Q : Type 0} (result : Result T E) → (P → Q) → OnOk result P → OnOk result Q
-on_ok (Ok done) holds facts = holds facts
-on_ok (Err fault) holds facts = tt
 
 -- ---- the forms of frames
 

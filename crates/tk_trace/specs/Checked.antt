@@ -42,11 +42,12 @@ abbrev pub Refuses : {T : Type 0} → TraceFault → Result T TraceFault → Typ
 Refuses fault (Ok trace) = ⊥
 Refuses fault (Err other) = (other ≡ fault) ⊎ (other ≡ t.NoMemory)
 
--- a fault of reading, and what is found of a story, as faults of a trace
+-- a fault of reading, as one of a trace
 abbrev pub as_unread : ParseFault → TraceFault
 as_unread p.NotATrace = t.NotATrace
 as_unread p.NoMemory = t.NoMemory
 
+-- what is found of a story, as a fault of its trace
 abbrev pub as_found : Finding → TraceFault
 as_found (f.NotLegal part place) = t.NotLegal part place
 as_found (f.Links mon direction place) = t.Links mon direction place

@@ -24,11 +24,12 @@ use Rattle.tk_trace.specs.declared.fault.ParseFault.TheVariants as fault
 
 -- ---- what a reader gives
 
--- what a function returned, seen by view, is what reading finds, unless memory ran out
+-- reading finds nothing, unless the fault is want of memory
 abbrev pub Fails : {Y : Type 0} → ParseFault → Option Y → Type 0
 Fails fault.NoMemory read = ⊤
 Fails fault.NotATrace read = read ≡ None
 
+-- what a function returned, seen by view, is what reading finds, unless memory ran out
 abbrev pub Gives : {X Y : Type 0} → (X → Y) → Result X ParseFault → Option Y → Type 0
 Gives view (Ok x) read = read ≡ Some (view x)
 Gives view (Err e) read = Fails e read
@@ -38,10 +39,11 @@ abbrev pub if_ok : {A E : Type 0} → Result A E → Option A
 if_ok (Ok x) = Some x
 if_ok (Err e) = None
 
--- what is read, where it passes a test
+-- a value and the bytes after it, where it passes a test
 abbrev pub if_passes : {X : Type 0} → (X → Bool) → X × List ℕ → Found X
 if_passes test x = if test x.0 then Some x else None
 
+-- what is read, where it passes a test
 abbrev pub tested_at : {X : Type 0} → (X → Bool) → (List ℕ → Found X) → List ℕ → Found X
 tested_at test read bytes = read bytes >>= if_passes test
 
@@ -63,9 +65,11 @@ counted_at size few read bytes = tested_at few (number_at size) bytes >>= λ cou
 
 -- ---- single fields
 
+-- a signed number in 16 bytes, in two's complement
 unfoldable pub signed_at : List ℕ → Found ℤ
 signed_at bytes = as_at (cast_signed w128) (number_at 16) bytes
 
+-- yes or no: a byte of 1 or of 0
 unfoldable pub flag_at : List ℕ → Found Bool
 flag_at [] = None
 flag_at (zero ∷ rest) = Some (false, rest)
@@ -76,12 +80,15 @@ flag_at (suc (suc b) ∷ rest) = None
 unfoldable pub object_at : ℕ → List ℕ → Found ℕ
 object_at before bytes = number_at 4 bytes >>= λ n. object_if before n.0 n.1
 
+-- an ascending set of objects, behind how many they are
 unfoldable pub set_at : List ℕ → Found (List ℕ)
 set_at bytes = number_at 4 bytes >>= λ count. items_at object_itself object_at 0 count.0 count.1
 
+-- the place of a feeder, whatever the one before is
 abbrev pub place_at : ℕ → List ℕ → Found ℕ
 place_at before bytes = number_at 4 bytes
 
+-- the places of the feeders of one monitor, behind how many they are
 unfoldable pub places_at : List ℕ → Found (List ℕ)
 places_at bytes = number_at 4 bytes >>= λ count. items_at no_object place_at 0 count.0 count.1
 
@@ -91,24 +98,30 @@ places_at bytes = number_at 4 bytes >>= λ count. items_at no_object place_at 0 
 abbrev pub is_one_of : ℕ → ℕ → Bool
 is_one_of many number = nat_lt 0 number && nat_le number many
 
+-- whether a number is within the type of an epsilon
 abbrev pub is_epsilon : ℕ → Bool
 is_epsilon n = nat_lt n (2 ^ 127)
 
+-- an epsilon, which is not negative
 unfoldable pub epsilon_at : List ℕ → Found ℤ
 epsilon_at bytes = as_at pos (tested_at is_epsilon (number_at 16)) bytes
 
+-- what a run is set up with, within the limits
 unfoldable pub setup_at : List ℕ → Found Setup
 setup_at bytes = do
   x ← both_at (both_at (number_at 4) (number_at 16)) (both_at (number_at 4) (both_at (number_at 4) (number_at 4))) bytes
   s ← if_ok (settings_of x.0.0.0 x.0.0.1 x.0.1.0 x.0.1.1.0 x.0.1.1.1)
   Some (s, x.1)
 
+-- the text of a name, of so many bytes
 abbrev pub text_at : ℕ → List ℕ → Found (List ℕ)
 text_at size bytes = if nat_lt (length bytes) size then None else Some (take size bytes, drop size bytes)
 
+-- a name behind its length
 unfoldable pub name_at : List ℕ → Found (List ℕ)
 name_at bytes = number_at 1 bytes >>= λ size. text_at size.0 size.1
 
+-- the names of so many objects, within the rules of a catalogue
 unfoldable pub names_at : ℕ → List ℕ → Found (List (List ℕ))
 names_at objects bytes = do
   x ← times_at name_at objects bytes
@@ -117,18 +130,23 @@ names_at objects bytes = do
 
 -- ---- logs
 
+-- a change: one of so many objects, and by how much
 unfoldable pub change_at : ℕ → List ℕ → Found (ℕ × ℤ)
 change_at objects bytes = both_at (tested_at (is_one_of objects) (number_at 4)) signed_at bytes
 
+-- the changes of a part, at most 1,000,000, behind how many they are
 unfoldable pub part_at : ℕ → List ℕ → Found (List (ℕ × ℤ))
 part_at objects bytes = counted_at 4 (λ count. nat_le count 1000000) (change_at objects) bytes
 
+-- the parts of a monitor, 1 to 8, behind how many they are
 unfoldable pub row_at : ℕ → List ℕ → Found (List (List (ℕ × ℤ)))
 row_at objects bytes = counted_at 1 (is_one_of 8) (part_at objects) bytes
 
+-- the parts of all monitors as logs over so many objects
 abbrev pub log_set : ℕ → List (List (List (ℕ × ℤ))) → LogSet
 log_set objects logs = record { logs = logs; objects = objects }
 
+-- the logs of so many monitors, within the rules of logs
 unfoldable pub logs_at : ℕ → ℕ → List ℕ → Found LogSet
 logs_at objects monitors bytes = do
   x ← times_at (row_at objects) monitors bytes
@@ -143,12 +161,15 @@ frame_in bytes (Whole frame size) = Some (frame, drop size bytes)
 frame_in bytes Part = None
 frame_in bytes (Bad why) = None
 
+-- a frame, as version 1 spells it
 unfoldable pub frame_at : List ℕ → Found Frame
 frame_at bytes = frame_in bytes (next_of 1 bytes)
 
+-- one of so many monitors, and a frame that passed on its links
 unfoldable pub link_at : ℕ → List ℕ → Found (ℕ × Frame)
 link_at monitors bytes = both_at (tested_at (is_one_of monitors) (number_at 4)) frame_at bytes
 
+-- k and epsilon
 unfoldable pub bounds_at : List ℕ → Found (ℕ × ℤ)
 bounds_at bytes = both_at (number_at 4) epsilon_at bytes
 
@@ -163,22 +184,27 @@ published x = record {
   cut = x.1.1.1.1;
 }
 
+-- a publication with the places of each of so many monitors
 unfoldable pub publication_at : ℕ → List ℕ → Found Publication
 publication_at monitors bytes = as_at published (both_at (number_at 8) (both_at flag_at (both_at bounds_at (both_at set_at (times_at places_at monitors))))) bytes
 
+-- the entry of a frame got from a monitor
 abbrev pub got : ℕ × Frame → Noted
 got x = n.Got (record { 0 = x.0 }) x.1
 
+-- the entry of a frame sent to a monitor
 abbrev pub sent : ℕ × Frame → Noted
 sent x = n.Sent (record { 0 = x.0 }) x.1
 
+-- the entry of a retune to this k and epsilon
 abbrev pub tuned : ℕ × ℤ → Noted
 tuned x = n.Tuned x.0 x.1
 
+-- the entry of a publication
 abbrev pub told : Publication → Noted
 told p = n.Published p
 
--- an entry by the byte of its kind
+-- an entry of the journal by the byte of its kind
 unfoldable pub noted_at : ℕ → List ℕ → Found Noted
 noted_at monitors [] = None
 noted_at monitors (kind ∷ bytes) =
@@ -188,15 +214,19 @@ noted_at monitors (kind ∷ bytes) =
     else (if kind == 4 then as_at tuned bounds_at bytes
     else None)))
 
+-- the entry of a raised change of a feeder
 abbrev pub raised : ℕ → Entry
 raised feeder = e.Raised (record { 0 = feeder })
 
+-- the entry of a frame that a monitor took
 abbrev pub took : Frame → Entry
 took frame = e.Took frame
 
+-- the entry of a frame that a monitor sent
 abbrev pub said : Frame → Entry
 said frame = e.Sent frame
 
+-- an entry of a trail by the byte of its kind, where there are so many feeders
 unfoldable pub entry_at : ℕ → List ℕ → Found Entry
 entry_at feeders [] = None
 entry_at feeders (kind ∷ bytes) =
@@ -205,9 +235,11 @@ entry_at feeders (kind ∷ bytes) =
     else (if kind == 3 then as_at said frame_at bytes
     else None))
 
+-- the entries of the journal, behind how many they are
 unfoldable pub journal_at : ℕ → List ℕ → Found (List Noted)
 journal_at monitors bytes = number_at 8 bytes >>= λ count. times_at (noted_at monitors) count.0 count.1
 
+-- the entries of a trail, behind how many they are
 unfoldable pub trail_at : ℕ → List ℕ → Found (List Entry)
 trail_at feeders bytes = number_at 8 bytes >>= λ count. times_at (entry_at feeders) count.0 count.1
 
@@ -239,5 +271,6 @@ run_at settings bytes = do
   trails ← trails_at logs.0.logs journal.1
   at_the_end (record { names = names.0; settings = settings; logs = logs.0; journal = journal.0; trails = trails.0 }) trails.1
 
+-- what was recorded in a whole trace: the settings behind the mark, and the rest behind them
 unfoldable pub trace_at : List ℕ → Option Recorded
 trace_at bytes = behind_mark bytes >>= λ front. setup_at front >>= λ settings. run_at settings.0 settings.1

@@ -42,13 +42,15 @@ setup s = bounds s.k s.epsilon ++ (number 4 s.own_weight ++ (number 4 s.objects 
 abbrev pub name : List ℕ → List ℕ
 name bytes = number 1 (length bytes) ++ bytes
 
--- the parts of a monitor, and in each its changes: an object and by how much
+-- a change: an object and by how much
 abbrev pub change : ℕ × ℤ → List ℕ
 change c = number 4 c.0 ++ signed 1 c.1
 
+-- the changes of a part behind how many they are
 abbrev pub part : List (ℕ × ℤ) → List ℕ
 part changes = counted 4 change changes
 
+-- the parts of a monitor behind how many they are
 abbrev pub row : List (List (ℕ × ℤ)) → List ℕ
 row parts = counted 1 part parts
 
@@ -69,9 +71,11 @@ entry (e.Raised feeder) = 1 ∷ number 1 feeder.0
 entry (e.Took frame) = 2 ∷ spelling 1 frame
 entry (e.Sent frame) = 3 ∷ spelling 1 frame
 
+-- the entries of the journal behind how many they are
 abbrev pub journal : List Noted → List ℕ
 journal entries = counted 8 noted entries
 
+-- the entries of a trail behind how many they are
 abbrev pub trail : List Entry → List ℕ
 trail entries = counted 8 entry entries
 

@@ -3,7 +3,7 @@ use Rattle.std.proofs.Common.{◌≡◌, ℕ, suc, zero, ◌≤◌, ◌==◌, �
 use Rattle.std.specs.Prelude.{neg_ℤ, nat_le, leb, ltb, find, unsigned_abs, unwrap_or, if◌then◌else◌}
 use Rattle.std.specs.List.{list_all}
 use Rattle.std.specs.Option.{option_map}
-use Rattle.std.proofs.lemmas.Bool.{leb-true, ltb-true}
+use Rattle.std.proofs.lemmas.Bool.{leb-true, ltb-true, and_parts, not-false}
 use Rattle.std.proofs.lemmas.Int.{ints, clamps}
 use Rattle.tk_base.specs.Ascending.{ascends}
 use Rattle.tk_base.specs.History.{EachFrom}
@@ -25,7 +25,7 @@ use Rattle.tk_trail.specs.declared.entry.Entry.{Entry}
 use Rattle.tk_trail.specs.declared.entry.Entry.TheVariants.{Raised, Sent, Took}
 use Rattle.tk_trail.specs.declared.refusal.MonitorRefusal.TheVariants.{BadChange, BadMembers, WrongSequence}
 use Rattle.tk_trail.proofs.BoundLemmas.{good_changes, passes_rise, small_values}
-use Rattle.tk_trail.proofs.LegalLemmas.{and_both, if_none, not_refused, not_false}
+use Rattle.tk_trail.proofs.LegalLemmas.{if_none, not_refused}
 use Rattle.tk_trail.proofs.LevelsLemmas.{length-levels_of, level_at-levels_of, members_of-push, row-push}
 use Rattle.tk_trail.proofs.MemberLemmas.{contained_is_in}
 use Rattle.tk_trail.proofs.ReadingsLemmas.{assigns_of-assign, assigns_of-other, assigns_of-raised, assigns_of-sent}
@@ -47,14 +47,14 @@ none_taken n = record {
 
 held : (p : ℕ → Bool) (xs : List ℕ) → list_all p xs ≡ true → (x : ℕ) → Contains xs x → p x ≡ true
 held p [] all x (k, below, is) = absurd (omega (arith, below))
-held p (y ∷ xs) all x (zero, below, is) = ap p (sym is) ∙ (and_both (p y) (list_all p xs) all).0
-held p (y ∷ xs) all x (suc k, below, is) = held p xs (and_both (p y) (list_all p xs) all).1 x (k, omega (arith, below), is)
+held p (y ∷ xs) all x (zero, below, is) = ap p (sym is) ∙ (and_parts (p y) (list_all p xs) all).0
+held p (y ∷ xs) all x (suc k, below, is) = held p xs (and_parts (p y) (list_all p xs) all).1 x (k, omega (arith, below), is)
 
 named_within : (n : ℕ) (members : List ℕ) → are_members n members ≡ true → (t : ℕ) → Contains members t → (1 ≤ t) × (t ≤ n)
 named_within n members is t in' =
-    let some = (and_both (are_some_of n members) (nat_le (length members) 1024) is).0 in
-    let both = and_both _ (list_all (λ o. nat_le o n) members) some in
-    let up = (and_both _ (ascends members) both.0).1 in
+    let some = (and_parts (are_some_of n members) (nat_le (length members) 1024) is).0 in
+    let both = and_parts _ (list_all (λ o. nat_le o n) members) some in
+    let up = (and_parts _ (ascends members) both.0).1 in
     (is_in-positive members t (passes_rise 0 members up) (contained_is_in members t in'), leb-true t n (held (λ o. nat_le o n) members both.1 t in'))
 
 -- what a list of small changes gives is small
@@ -79,7 +79,7 @@ took_well setup trail (f.Assign seq members changes) none well =
     let passes = if_none (not (are_members setup.objects members)) BadMembers (option_map (λ (change : ℕ × ℤ). BadChange (record { 0 = change.0 })) (find (is_bad_change setup.objects) changes))
     (if_none (not (seq == seq_of trail + 1)) (WrongSequence (seq_of trail) seq) _ (not_refused setup trail (f.Assign seq members changes) none).1).1 in
     subst (AreTakenWell setup.objects) (sym (assigns_of-assign trail seq members changes))
-    (one_more setup.objects (assigns_of trail) (record { members = members; changes = changes }) (not_false (are_members setup.objects members) passes.0) (λ c in'. (good_changes setup changes passes.1 c in').1) well)
+    (one_more setup.objects (assigns_of trail) (record { members = members; changes = changes }) (not-false (are_members setup.objects members) passes.0) (λ c in'. (good_changes setup changes passes.1 c in').1) well)
 took_well setup trail (f.Collect round asked) none well = subst (AreTakenWell setup.objects) (sym (assigns_of-other trail (f.Collect round asked) refl)) well
 took_well setup trail f.Stop none well = subst (AreTakenWell setup.objects) (sym (assigns_of-other trail f.Stop refl)) well
 took_well setup trail (f.Hello run version mon) none well = subst (AreTakenWell setup.objects) (sym (assigns_of-other trail (f.Hello run version mon) refl)) well
@@ -112,8 +112,8 @@ level_low setup x o limits well low high = subst Low (sym (level_at-levels_of se
 
 in_catalogue : (n : ℕ) (set : List ℕ) (o : ℕ) → Contains (outside n set) o → (1 ≤ o) × (o ≤ n)
 in_catalogue n set o in' =
-    let both = and_both (is_in (objects n) o) (not (is_in set o)) (sym (is_in-filter (λ q. not (is_in set q)) (objects n) o) ∙ contained_is_in (outside n set) o in') in
-    let range = and_both (ltb 0 o) (leb o n) (sym (is_in-objects n o) ∙ both.0) in
+    let both = and_parts (is_in (objects n) o) (not (is_in set o)) (sym (is_in-filter (λ q. not (is_in set q)) (objects n) o) ∙ contained_is_in (outside n set) o in') in
+    let range = and_parts (ltb 0 o) (leb o n) (sym (is_in-objects n o) ∙ both.0) in
     (ltb-true 0 o range.0, leb-true o n range.1)
 
 -- ---- the border

@@ -3,7 +3,7 @@ use Rattle.std.proofs.Common.{◌≡◌, ◌==◌, ℕ, suc, zero, ◌+◌, ◌�
 use Rattle.std.specs.Prelude.{All, cond, filter, find, get_or, if◌then◌else◌, nat_le, nat_lt, unsigned_abs}
 use Rattle.std.specs.List.{list_all, zip}
 use Rattle.std.specs.Option.{option_map}
-use Rattle.std.proofs.lemmas.Bool.{false≢true, leb-true, ltb-false, ltb-true}
+use Rattle.std.proofs.lemmas.Bool.{false≢true, leb-true, ltb-false, ltb-true, and_parts, or_parts}
 use Rattle.std.proofs.lemmas.List.{length-map}
 use Rattle.std.proofs.lemmas.List.Elements.{All-cons, All-head, All-nil, All-tail}
 use Rattle.std.proofs.lemmas.List.FromFn.{length-range_with_len}
@@ -25,7 +25,7 @@ use Rattle.tk_trail.specs.declared.entry.Entry.{Entry}
 use Rattle.tk_trail.specs.declared.entry.Entry.TheVariants.{Sent, Took}
 use Rattle.tk_trail.specs.declared.refusal.MonitorRefusal.TheVariants.{BadChange, BadMembers, BadCollect, WrongSequence}
 use Rattle.tk_trail.proofs.LawLemmas.{allowed_at}
-use Rattle.tk_trail.proofs.LegalLemmas.{and_both, if_none, legal_places, not_refused}
+use Rattle.tk_trail.proofs.LegalLemmas.{if_none, legal_places, not_refused}
 use Rattle.tk_trail.proofs.LevelsLemmas.{length-levels_of, value-small}
 use Rattle.tk_trail.proofs.MemberLemmas.{contained_is_in}
 use Rattle.tk_trail.proofs.SaysLemmas.{law_report, law_settled}
@@ -53,15 +53,11 @@ none_bad p [] none c (k, below, is) = absurd (omega (arith, below))
 none_bad p (x ∷ xs) none c (zero, below, is) = ap p (sym is) ∙ (first_or (p x) x (find p xs) none).0
 none_bad p (x ∷ xs) none c (suc k, below, is) = none_bad p xs (first_or (p x) x (find p xs) none).1 c (k, omega (arith, below), is)
 
-neither : (a b : Bool) → (a || b) ≡ false → (a ≡ false) × (b ≡ false)
-neither true b e = cc
-neither false b e = (refl, e)
-
 -- changes of which none is bad
 pub good_changes : (setup : MonitorSetup) (changes : List (ℕ × ℤ)) → option_map (λ (change : ℕ × ℤ). BadChange (record { 0 = change.0 })) (find (is_bad_change setup.objects) changes) ≡ None → AreWithinLimits setup changes
 good_changes setup changes none c in' =
     let good = none_bad (is_bad_change setup.objects) changes (mapped_none (λ (change : ℕ × ℤ). BadChange (record { 0 = change.0 })) (find (is_bad_change setup.objects) changes) none) c in' in
-    let both = neither (nat_lt setup.objects c.0) (nat_lt (2 ^ 112) (unsigned_abs c.1)) good in
+    let both = or_parts (nat_lt setup.objects c.0) (nat_lt (2 ^ 112) (unsigned_abs c.1)) good in
     (ltb-false setup.objects c.0 both.0, ltb-false (2 ^ 112) (unsigned_abs c.1) both.1)
 
 pub taken_within : (setup : MonitorSetup) (before after : List Entry) (seq : ℕ) (members : List ℕ) (changes : List (ℕ × ℤ)) → IsLegal setup (before ++ Took (f.Assign seq members changes) ∷ after) → AreWithinLimits setup changes
@@ -94,7 +90,7 @@ places_within setup before after seq last places h legal =
 -- ---- objects
 
 passed_here : (b x : ℕ) (xs : List ℕ) → list_all (λ (p : ℕ × ℕ). nat_lt p.0 p.1) (zip (b ∷ x ∷ xs) (x ∷ xs)) ≡ true → (b < x) × (list_all (λ (p : ℕ × ℕ). nat_lt p.0 p.1) (zip (x ∷ xs) xs) ≡ true)
-passed_here b x xs e = let both = and_both (nat_lt b x) (list_all (λ (p : ℕ × ℕ). nat_lt p.0 p.1) (zip (x ∷ xs) xs)) e in (ltb-true b x both.0, both.1)
+passed_here b x xs e = let both = and_parts (nat_lt b x) (list_all (λ (p : ℕ × ℕ). nat_lt p.0 p.1) (zip (x ∷ xs) xs)) e in (ltb-true b x both.0, both.1)
 
 pub passes_rise : (b : ℕ) (xs : List ℕ) → list_all (λ (p : ℕ × ℕ). nat_lt p.0 p.1) (zip (b ∷ xs) xs) ≡ true → Rises b xs
 passes_rise b [] e = tt
@@ -103,15 +99,15 @@ passes_rise b (x ∷ xs) e = let h = passed_here b x xs e in (h.0, passes_rise x
 few_rising : (b n : ℕ) (xs : List ℕ) → b ≤ n → Rises b xs → list_all (λ o. nat_le o n) xs ≡ true → b + length xs ≤ n
 few_rising b n [] low up within = omega (arith, low)
 few_rising b n (x ∷ xs) low up within =
-    let both = and_both (nat_le x n) (list_all (λ o. nat_le o n) xs) within in
+    let both = and_parts (nat_le x n) (list_all (λ o. nat_le o n) xs) within in
     let rest = few_rising x n xs (leb-true x n both.0) up.1 both.1 in
     let here = up.0 in
     omega (arith, rest, here)
 
 few_of : (n : ℕ) (list : List ℕ) → are_some_of n list ≡ true → length list ≤ n
 few_of n list some =
-    let both = and_both (nat_lt 0 (length list) && ascends list) (list_all (λ o. nat_le o n) list) some in
-    let up = (and_both (nat_lt 0 (length list)) (ascends list) both.0).1 in
+    let both = and_parts (nat_lt 0 (length list) && ascends list) (list_all (λ o. nat_le o n) list) some in
+    let up = (and_parts (nat_lt 0 (length list)) (ascends list) both.0).1 in
     let h = few_rising 0 n list (omega arith) (passes_rise 0 list up) both.1 in
     omega (arith, h)
 
@@ -159,12 +155,12 @@ named_outsiders setup before after seq border failed values legal =
     let members = members_at before in
     let n = length-levels_of setup before in
     let inside = λ (o : ℕ) (in' : Contains (broken_at setup before) o).
-    and_both (is_in (outside (length levels) members) o) (is_above (least_member levels members) (level_at levels o))
+    and_parts (is_in (outside (length levels) members) o) (is_above (least_member levels members) (level_at levels o))
     (sym (is_in-filter (λ q. is_above (least_member levels members) (level_at levels q)) (outside (length levels) members) o) ∙ contained_is_in (broken levels members) o in') in
     let both = λ (o : ℕ) (in' : Contains (broken_at setup before) o).
-    and_both (is_in (objects (length levels)) o) (not (is_in members o)) (sym (is_in-filter (λ q. not (is_in members q)) (objects (length levels)) o) ∙ (inside o in').0) in
+    and_parts (is_in (objects (length levels)) o) (not (is_in members o)) (sym (is_in-filter (λ q. not (is_in members q)) (objects (length levels)) o) ∙ (inside o in').0) in
     let ranged = λ (o : ℕ) (in' : Contains (broken_at setup before) o).
-    and_both (Rattle.std.specs.Prelude.ltb 0 o) (Rattle.std.specs.Prelude.leb o (length levels)) (sym (is_in-objects (length levels) o) ∙ (both o in').0) in
+    and_parts (Rattle.std.specs.Prelude.ltb 0 o) (Rattle.std.specs.Prelude.leb o (length levels)) (sym (is_in-objects (length levels) o) ∙ (both o in').0) in
     subst (AreSomeOutsiders setup before) (sym says.failed_is) (record {
       some = ltb-true 0 (length (broken_at setup before)) says.broken;
       positive = λ o in'. ltb-true 0 o (ranged o in').0;
@@ -205,8 +201,8 @@ answer_short setup x h few false = settled_short setup x few
 asked_passed : (setup : MonitorSetup) (x : List Entry) (round : ℕ) (asked : List ℕ) → refusal_of setup x (f.Collect round asked) ≡ None → length asked ≤ setup.objects
 asked_passed setup x round asked none =
     let passes = collect_passes (is_collect (shown_by setup x) asked) (not_refused setup x (f.Collect round asked) none).1 in
-    let front = (and_both (nat_lt 0 (seq_of x) && are_some_of setup.objects asked) (list_all (is_in asked) (members_at x)) passes).0 in
-    few_of setup.objects asked (and_both (nat_lt 0 (seq_of x)) (are_some_of setup.objects asked) front).1
+    let front = (and_parts (nat_lt 0 (seq_of x) && are_some_of setup.objects asked) (list_all (is_in asked) (members_at x)) passes).0 in
+    few_of setup.objects asked (and_parts (nat_lt 0 (seq_of x)) (are_some_of setup.objects asked) front).1
 
 allowed_in : (setup : MonitorSetup) (x : List Entry) (e : Entry) → EachFrom (Allowed setup) [] (x ++ e ∷ []) → Allowed setup x e
 allowed_in setup x e each = each_at (Allowed setup) [] x e [] each

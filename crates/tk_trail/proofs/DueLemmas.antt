@@ -2,13 +2,13 @@
 use Rattle.tk_frames.specs.declared.frame.Frame.TheVariants as f
 use Rattle.std.proofs.Common.{◌≡◌, ℕ, ◌&&◌, ◌||◌, Bool, true, false, not, List, [], ◌∷◌, ◌++◌, Some, None, refl, sym, ap, ◌∙◌, subst}
 use Rattle.std.specs.Prelude.{is_some, nat_lt, if◌then◌else◌}
+use Rattle.std.proofs.lemmas.Bool.{or_right, and_parts, not-true}
 use Rattle.tk_frames.specs.declared.frame.Frame.{Frame}
 use Rattle.tk_trail.specs.Setup.{MonitorSetup}
 use Rattle.tk_trail.specs.Readings.{seq_of, at_ends, is_broken, is_reported, is_end_told, is_report, is_end}
 use Rattle.tk_trail.specs.Frames.{answer_at, report_at, settled_at, values_at, due_at, report_is_due, end_is_due}
 use Rattle.tk_trail.specs.declared.entry.Entry.{Entry}
 use Rattle.tk_trail.specs.declared.entry.Entry.TheVariants.{Took, Sent}
-use Rattle.tk_trail.proofs.LegalLemmas.{and_both, not_true}
 use Rattle.tk_trail.proofs.LevelsLemmas.{Same, same-sent, same-took, is_broken-same, ends-same}
 use Rattle.tk_trail.proofs.ReadingsLemmas.{assigns_of-other, seq_of-sent, seq_of-other, reported-sent, reported-collect, reported-stop, told-sent, told-collect, told-stop}
 
@@ -41,15 +41,11 @@ on_the_way true true told = refl
 on_the_way true false told = refl
 on_the_way false reported told = refl
 
-or_right : (a b : Bool) → b ≡ true → (a || b) ≡ true
-or_right true b e = refl
-or_right false b e = e
-
-report_there : (setup : MonitorSetup) (t : List Entry) → is_report (Sent (report_at setup t)) ≡ true
+pub report_there : (setup : MonitorSetup) (t : List Entry) → is_report (Sent (report_at setup t)) ≡ true
 unfolding report_at
 report_there setup t = refl
 
-end_there : (setup : MonitorSetup) (t : List Entry) → is_end (Sent (settled_at setup t)) ≡ at_ends setup t
+pub end_there : (setup : MonitorSetup) (t : List Entry) → is_end (Sent (settled_at setup t)) ≡ at_ends setup t
 unfolding settled_at
 end_there setup t = refl
 
@@ -90,7 +86,7 @@ unfolding end_is_due
 checked_by setup t sent true e p q is = let same : report_at setup t ≡ sent = cc in subst (λ (x : Frame). is_some (due_at setup (t ++ Sent x ∷ [])) ≡ false) same (after_report setup t)
 checked_by setup t sent false true p q is =
     let same : settled_at setup t ≡ sent = cc in
-    let calm = not_true (is_broken setup t) (and_both _ _ (and_both _ _ (and_both _ _ q).0).0).1 in
+    let calm = not-true (is_broken setup t) (and_parts _ _ (and_parts _ _ (and_parts _ _ q).0).0).1 in
     subst (λ (x : Frame). is_some (due_at setup (t ++ Sent x ∷ [])) ≡ false) same (after_settled setup t calm)
 checked_by setup t sent false false p q is = absurd (cc)
 

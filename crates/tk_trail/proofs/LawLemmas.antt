@@ -4,6 +4,7 @@ use Rattle.std.specs.Prelude.{ℤ, fold, nat_lt, IfSome, filter_map, if◌then�
 use Rattle.std.proofs.lemmas.Map.Views.{exact_unsigned_eq}
 use Rattle.std.proofs.lemmas.List.{length-append}
 use Rattle.std.proofs.lemmas.List.Elements.{filter_map-append}
+use Rattle.std.proofs.lemmas.Bool.{and_parts, not-true, not-false}
 use Rattle.tk_frames.specs.Frame.{kind_of}
 use Rattle.tk_frames.specs.declared.frame.Frame.{Frame}
 use Rattle.tk_frames.specs.declared.frame.Frame.TheVariants as f
@@ -20,7 +21,7 @@ use Rattle.tk_trail.specs.declared.entry.Entry.TheVariants.{Raised, Took, Sent}
 use Rattle.tk_trail.specs.declared.refusal.MonitorRefusal.TheVariants.{WrongSequence}
 use Rattle.tk_base.proofs.HistoryLemmas.{each_front, each_at}
 use Rattle.tk_trail.proofs.BrokenLemmas.{is_broken-slack}
-use Rattle.tk_trail.proofs.LegalLemmas.{and_both, not_true, not_refused, if_none, IsAtRest, legal_told}
+use Rattle.tk_trail.proofs.LegalLemmas.{not_refused, if_none, IsAtRest, legal_told}
 use Rattle.tk_trail.proofs.ReadingsLemmas.{stopped-stop, reported-assign, owed-push}
 use Rattle.tk_trail.proofs.SlackLemmas.{calm_within, places_rise}
 
@@ -80,14 +81,10 @@ pub frames_carry : (setup : MonitorSetup) (before after : List Entry) (frame : F
 frames_carry setup before after frame legal = sent_carries setup before (owed_at setup before) frame refl (allowed_at setup before after (Sent frame) legal).1
 
 -- Assigns are numbered
-not_false : (b : Bool) → not b ≡ false → b ≡ true
-not_false true is = refl
-not_false false is = cc
-
 pub assigns_numbered : (setup : MonitorSetup) (before after : List Entry) (seq : ℕ) (members : List ℕ) (changes : List (ℕ × ℤ)) → IsLegal setup (before ++ Took (f.Assign seq members changes) ∷ after) → seq ≡ seq_of before + 1
 assigns_numbered setup before after seq members changes legal =
     let kind = not_refused setup before (f.Assign seq members changes) (allowed_at setup before after (Took (f.Assign seq members changes)) legal).1 in
-    exact_unsigned_eq seq (seq_of before + 1) (not_false (seq == seq_of before + 1) (if_none (not (seq == seq_of before + 1)) (WrongSequence (seq_of before) seq) _ kind.1).0)
+    exact_unsigned_eq seq (seq_of before + 1) (not-false (seq == seq_of before + 1) (if_none (not (seq == seq_of before + 1)) (WrongSequence (seq_of before) seq) _ kind.1).0)
 
 -- nothing follows Stop
 stopped_allows : (setup : MonitorSetup) (trail : List Entry) (e : Entry) → is_stopped trail ≡ true → Allowed setup trail e → ⊥
@@ -132,7 +129,7 @@ broken_owed setup trail (Some (Sent frame)) sent is report = absurd (cc)
 
 broken_due : (setup : MonitorSetup) (trail : List Entry) (due end : Bool) (sent : Frame) → report_is_due setup trail ≡ due → (if due then Some (report_at setup trail) else (if end then Some (settled_at setup trail) else None)) ≡ Some sent → kind_of sent ≡ k.Report → is_broken setup trail ≡ true
 unfolding settled_at report_is_due
-broken_due setup trail true end sent due is report = (and_both (may_report trail) (is_broken setup trail) due).1
+broken_due setup trail true end sent due is report = (and_parts (may_report trail) (is_broken setup trail) due).1
 broken_due setup trail false true sent due is report = absurd (cc)
 broken_due setup trail false false sent due is report = absurd (cc)
 
@@ -153,11 +150,11 @@ pub no_report : (setup : MonitorSetup) (before since after : List Entry) (seq : 
 no_report setup before since after seq members changes frame = no_report_later setup (before ++ Took (f.Assign seq members changes) ∷ []) since after frame
 
 -- the entry at the end of a trail
-record EndsIn (trail : List Entry) (e : Entry) : Type 0 where
+pub record EndsIn (trail : List Entry) (e : Entry) : Type 0 where
   pub front : List Entry
   pub is : trail ≡ front ++ e ∷ []
 
-ends_from : (x : Entry) (xs : List Entry) (e : Entry) → fold (λ (_ : Option Entry) (y : Entry). Some y) (Some x) xs ≡ Some e → EndsIn (x ∷ xs) e
+pub ends_from : (x : Entry) (xs : List Entry) (e : Entry) → fold (λ (_ : Option Entry) (y : Entry). Some y) (Some x) xs ≡ Some e → EndsIn (x ∷ xs) e
 ends_from x [] e is = record { front = []; is = let same : x ≡ e = cc in ap (λ (y : Entry). y ∷ []) same }
 ends_from x (y ∷ ys) e is = let at = ends_from y ys e is in record { front = x ∷ at.front; is = ap (λ (rest : List Entry). x ∷ rest) at.is }
 
@@ -185,7 +182,7 @@ first_owed setup trail (Some (Sent frame)) sent ends is report = absurd (cc)
 first_due : (setup : MonitorSetup) (trail : List Entry) (due end : Bool) (sent : Frame) → report_is_due setup trail ≡ due → (if due then Some (report_at setup trail) else (if end then Some (settled_at setup trail) else None)) ≡ Some sent → kind_of sent ≡ k.Report → is_reported trail ≡ false
 unfolding settled_at report_is_due
 first_due setup trail true end sent due is report =
-    not_true (is_reported trail) (and_both (nat_lt 0 (seq_of trail)) (not (is_reported trail)) (and_both (may_report trail) (is_broken setup trail) due).0).1
+    not-true (is_reported trail) (and_parts (nat_lt 0 (seq_of trail)) (not (is_reported trail)) (and_parts (may_report trail) (is_broken setup trail) due).0).1
 first_due setup trail false true sent due is report = absurd (cc)
 first_due setup trail false false sent due is report = absurd (cc)
 

@@ -4,7 +4,7 @@ use Rattle.std.specs.Prelude.{ℤ, fold, find, nat_lt, nat_le, if◌then◌else�
 use Rattle.std.specs.Option.{option_map}
 use Rattle.std.specs.List.{list_all, zip}
 use Rattle.std.proofs.lemmas.Map.Views.{exact_unsigned_eq}
-use Rattle.std.proofs.lemmas.Bool.{cases_eq, cases_lt, ltb-true}
+use Rattle.std.proofs.lemmas.Bool.{cases_eq, cases_lt, ltb-true, and_parts, not-true, not-false}
 use Rattle.std.proofs.lemmas.List.{length-set, get_or-set_same, get_or-set_other}
 use Rattle.tk_base.specs.Ascending.{ascends}
 use Rattle.tk_base.specs.declared.ids.Feeder.{Feeder}
@@ -40,15 +40,6 @@ stop_told : (told : Bool) → (if told then None else Some EarlyStop) ≡ None �
 stop_told true none = refl
 stop_told false none = cc
 
--- both parts of a test that holds
-pub and_both : (a b : Bool) → (a && b) ≡ true → (a ≡ true) × (b ≡ true)
-and_both true b holds = (refl, holds)
-and_both false b holds = cc
-
-pub not_true : (b : Bool) → not b ≡ true → b ≡ false
-not_true true holds = cc
-not_true false holds = refl
-
 or_either : (a b : Bool) (P : Type 0) → (a || b) ≡ true → (a ≡ true → P) → (b ≡ true → P) → P
 or_either true b P holds left right = left refl
 or_either false b P holds left right = right holds
@@ -65,11 +56,11 @@ rest-same setup a b same rest = record {
 }
 
 -- at the ends no part goes on
-ends_at : (parts : List (List (ℕ × ℤ))) (places : List ℕ) (i : ℕ) → list_all (λ (p : List (ℕ × ℤ) × ℕ). p.1 == length p.0) (zip parts places) ≡ true → i < length parts → i < length places → get_or places i 0 ≡ length (get_or parts i [])
+pub ends_at : (parts : List (List (ℕ × ℤ))) (places : List ℕ) (i : ℕ) → list_all (λ (p : List (ℕ × ℤ) × ℕ). p.1 == length p.0) (zip parts places) ≡ true → i < length parts → i < length places → get_or places i 0 ≡ length (get_or parts i [])
 ends_at [] places i all within inside = absurd (omega arith)
 ends_at (part ∷ parts) [] i all within inside = absurd (omega arith)
-ends_at (part ∷ parts) (place ∷ places) zero all within inside = exact_unsigned_eq place (length part) (and_both (place == length part) _ all).0
-ends_at (part ∷ parts) (place ∷ places) (suc i) all within inside = ends_at parts places i (and_both (place == length part) _ all).1 (omega arith) (omega arith)
+ends_at (part ∷ parts) (place ∷ places) zero all within inside = exact_unsigned_eq place (length part) (and_parts (place == length part) _ all).0
+ends_at (part ∷ parts) (place ∷ places) (suc i) all within inside = ends_at parts places i (and_parts (place == length part) _ all).1 (omega arith) (omega arith)
 
 -- a part that goes on is not at its end
 get_past : (places : List ℕ) (i : ℕ) → length places ≤ i → get_or places i 0 ≡ 0
@@ -109,9 +100,9 @@ due_end : (setup : MonitorSetup) (trail : List Entry) (report end : Bool) (sent 
 unfolding report_at end_is_due
 due_end setup trail true end sent due is told = absurd (cc)
 due_end setup trail false true sent due is told =
-    let all = and_both _ _ due in
-    let rest = and_both _ _ all.0 in
-    record { ends = rest.1; calm = not_true (is_broken setup trail) (and_both _ _ rest.0).1 }
+    let all = and_parts _ _ due in
+    let rest = and_parts _ _ all.0 in
+    record { ends = rest.1; calm = not-true (is_broken setup trail) (and_parts _ _ rest.0).1 }
 due_end setup trail false false sent due is told = absurd (cc)
 
 to_send_end : (setup : MonitorSetup) (trail : List Entry) (owed : Option Frame) (sent : Frame) → owed_at setup trail ≡ owed → to_send setup trail owed ≡ Some sent → is_end (Sent sent) ≡ true → IsAtRest setup trail
@@ -182,8 +173,8 @@ legal_raised setup shape trail feeder legal next =
 -- what is due may be sent
 due_not_told : (setup : MonitorSetup) (trail : List Entry) (report end : Bool) (sent : Frame) → report_is_due setup trail ≡ report → end_is_due setup trail ≡ end → (if report then Some (report_at setup trail) else (if end then Some (settled_at setup trail) else None)) ≡ Some sent → (is_end_told trail ≡ true → is_broken setup trail ≡ false) → is_end_told trail ≡ true → ⊥
 unfolding report_is_due end_is_due
-due_not_told setup trail true end sent due due' is calm told = let broken : is_broken setup trail ≡ true = (and_both (may_report trail) (is_broken setup trail) due).1 in let quiet = calm told in cc
-due_not_told setup trail false true sent due due' is calm told = let fresh : is_end_told trail ≡ false = not_true (is_end_told trail) (and_both (may_report trail && not (is_broken setup trail) && at_ends setup trail) (not (is_end_told trail)) due').1 in cc
+due_not_told setup trail true end sent due due' is calm told = let broken : is_broken setup trail ≡ true = (and_parts (may_report trail) (is_broken setup trail) due).1 in let quiet = calm told in cc
+due_not_told setup trail false true sent due due' is calm told = let fresh : is_end_told trail ≡ false = not-true (is_end_told trail) (and_parts (may_report trail && not (is_broken setup trail) && at_ends setup trail) (not (is_end_told trail)) due').1 in cc
 due_not_told setup trail false false sent due due' is calm told = cc
 
 pub due_running : (setup : MonitorSetup) → length setup.from ≡ length setup.parts → (trail : List Entry) (sent : Frame) → IsLegal setup trail → due_at setup trail ≡ Some sent → is_stopped trail ≡ false
@@ -256,15 +247,11 @@ legal_places setup start trail each =
     each_carries (Allowed setup) (λ front. ArePlaces setup.parts (places_at setup front)) (λ front e. places_goes setup front e) [] trail
     (subst (ArePlaces setup.parts) (sym (places_at-start setup)) start) each
 
-pub not_false : (b : Bool) → not b ≡ false → b ≡ true
-not_false true is = refl
-not_false false is = cc
-
 first_of_members : (n : ℕ) (members : List ℕ) → not (are_members n members) ≡ false → 0 < length members
 first_of_members n members is =
-    ltb-true 0 (length members) (and_both (nat_lt 0 (length members)) (ascends members)
-    (and_both (nat_lt 0 (length members) && ascends members) (list_all (λ o. nat_le o n) members)
-    (and_both (are_some_of n members) (nat_le (length members) 1024) (not_false (are_members n members) is)).0).0).0
+    ltb-true 0 (length members) (and_parts (nat_lt 0 (length members)) (ascends members)
+    (and_parts (nat_lt 0 (length members) && ascends members) (list_all (λ o. nat_le o n) members)
+    (and_parts (are_some_of n members) (nat_le (length members) 1024) (not-false (are_members n members) is)).0).0).0
 
 same_members : (a b : List Assign) → a ≡ b → (0 < length b → 0 < length (members_of b)) → 0 < length a → 0 < length (members_of a)
 same_members a b same had some = subst (λ (assigns : List Assign). 0 < length (members_of assigns)) (sym same) (had (subst (λ (assigns : List Assign). 0 < length assigns) same some))

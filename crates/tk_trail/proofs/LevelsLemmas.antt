@@ -22,7 +22,8 @@ use Rattle.tk_trail.specs.declared.entry.Entry.TheVariants.{Raised, Took, Sent}
 use Rattle.tk_trail.proofs.MappedLemmas.{mapped_one, mapped_same}
 use Rattle.tk_trail.proofs.PlacesLemmas.{places_at-raised, places_at-took, places_at-sent, length-places_at}
 use Rattle.tk_trail.proofs.ReadingsLemmas.{assigns_of-raised, assigns_of-sent, assigns_of-assign}
-use Rattle.tk_trail.proofs.ValuesLemmas.{value_of-set, value_of-small, share_of}
+use Rattle.tk_trail.proofs.ValuesLemmas.{value_of-set, share_of}
+use Rattle.tk_input.proofs.SumLemmas.{value_of-size as value_of-small}
 
 -- two trails with the same places and the same Assigns
 pub record Same (setup : MonitorSetup) (a b : List Entry) : Type 0 where
@@ -77,10 +78,6 @@ same-sent setup trail frame = record { places = places_at-sent setup trail frame
 pub length-levels_of : (setup : MonitorSetup) (trail : List Entry) → length (levels_of setup trail) ≡ setup.objects
 unfolding levels_of objects
 length-levels_of setup trail = length-map-range_with_len (level_of setup trail) 1 setup.objects
-
-pub length-values_of : (setup : MonitorSetup) (trail : List Entry) → length (values_of setup trail) ≡ setup.objects
-unfolding values_of objects
-length-values_of setup trail = length-map-range_with_len (value_of_object setup trail) 1 setup.objects
 
 pub level_at-levels_of : (setup : MonitorSetup) (trail : List Entry) (o : ℕ) → 1 ≤ o → o ≤ setup.objects → level_at (levels_of setup trail) o ≡ level_of setup trail o
 unfolding levels_of objects

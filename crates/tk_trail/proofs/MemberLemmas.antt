@@ -1,6 +1,5 @@
 -- Membership as a test.
-use Rattle.std.proofs.Common.{◌≡◌, ℕ, suc, zero, List, [], ◌∷◌, Contains, Bool, true, false, ◌||◌, refl, sym, ap, ◌∙◌, arith, eq-eqb, ne_eqb, inl, inr}
-use Rattle.std.specs.Prelude.{◌↔◌, IsTrue}
+use Rattle.std.proofs.Common.{◌≡◌, ℕ, suc, zero, List, [], ◌∷◌, Contains, true, false, ◌||◌, sym, ap, ◌∙◌, arith, eq-eqb, ne_eqb, inl, inr}
 use Rattle.std.proofs.lemmas.Bool.{cases_eq, false_from_ne_true, true≢false}
 use Rattle.tk_base.specs.Objects.{is_in}
 
@@ -20,11 +19,6 @@ is_in_contained (x ∷ xs) o e = elim (cases_eq x o) [
       let rest = is_in_contained xs o (sym (ap (λ b. b || is_in xs o) (ne_eqb x o other)) ∙ e) in
       (suc rest.0, omega (arith, rest.1), rest.2)
 ]
-
--- a test that says whether an object is contained
-pub is_in_from : (xs : List ℕ) (o : ℕ) (b : Bool) → IsTrue b ↔ Contains xs o → b ≡ is_in xs o
-is_in_from xs o true h = sym (contained_is_in xs o (h.0 refl))
-is_in_from xs o false h = sym (false_from_ne_true (is_in xs o) (λ e. true≢false (sym (h.1 (is_in_contained xs o e)))))
 
 pub outside_is_not_in : (xs : List ℕ) (o : ℕ) → (Contains xs o → ⊥) → is_in xs o ≡ false
 outside_is_not_in xs o none = false_from_ne_true (is_in xs o) (λ e. none (is_in_contained xs o e))

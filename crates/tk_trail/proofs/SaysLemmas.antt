@@ -1,11 +1,12 @@
 -- What a trail's frames say of their places.
 use Rattle.tk_frames.specs.declared.frame.Frame.TheVariants as f
-use Rattle.std.proofs.Common.{◌≡◌, ℕ, suc, zero, ◌<◌, ◌||◌, ◌==◌, ℤ, Bool, true, false, List, [], ◌∷◌, ◌++◌, length, map, get_or, Option, Some, refl, sym, ap, ◌∙◌, subst, arith, inl, inr}
-use Rattle.std.specs.Prelude.{fold, if◌then◌else◌}
+use Rattle.std.proofs.Common.{◌≡◌, ℕ, suc, zero, ◌<◌, ◌||◌, ◌==◌, ℤ, Bool, true, false, List, [], ◌∷◌, ◌++◌, length, map, get_or, Some, refl, sym, ap, ◌∙◌, subst, arith, inl, inr}
+use Rattle.std.specs.Prelude.{if◌then◌else◌}
 use Rattle.std.specs.List.{list_all, list_any, zip}
-use Rattle.std.proofs.lemmas.Bool.{and_parts, cases_Bool, eqb-true, false≢true, true≢false}
+use Rattle.std.proofs.lemmas.Bool.{cases_Bool, false≢true, true≢false}
 use Rattle.std.proofs.lemmas.List.{length-append, length-map}
 use Rattle.std.proofs.lemmas.List.Folds.{list_any-append}
+use Rattle.std.proofs.lemmas.Grind.{same_number_lists}
 use Rattle.tk_base.specs.History.{EachFrom}
 use Rattle.tk_base.proofs.HistoryLemmas.{each_front}
 use Rattle.tk_frames.specs.declared.frame.Frame.{Frame}
@@ -16,8 +17,8 @@ use Rattle.tk_trail.specs.Legal.{Allowed, IsLegal}
 use Rattle.tk_trail.specs.Readings.{assigns_of, at_ends, is_broken, is_end, is_end_told, is_report, is_reported, places_at, seq_of, since_assign}
 use Rattle.tk_trail.specs.declared.entry.Entry.{Entry}
 use Rattle.tk_trail.specs.declared.entry.Entry.TheVariants.{Took, Sent}
-use Rattle.tk_trail.proofs.LawLemmas.{allowed_at, assigns_of-append}
-use Rattle.tk_trail.proofs.LegalLemmas.{legal_places, legal_told}
+use Rattle.tk_trail.proofs.LawLemmas.{EndsIn, allowed_at, assigns_of-append, ends_from}
+use Rattle.tk_trail.proofs.LegalLemmas.{legal_places, legal_told, ends_at}
 use Rattle.tk_trail.proofs.PlacesLemmas.{length-places_at}
 use Rattle.tk_trail.proofs.ReadingsLemmas.{since-assign}
 use Rattle.tk_trail.proofs.SlackLemmas.{places_rise}
@@ -27,14 +28,6 @@ use Rattle.tk_frames.specs.Carried.{is_values}
 use Rattle.tk_trail.specs.Says.{SaysReport, SaysSettled, SaysValues}
 
 -- ---- the last entry
-
-pub record EndsIn (trail : List Entry) (e : Entry) : Type 0 where
-  pub front : List Entry
-  pub is : trail ≡ front ++ e ∷ []
-
-ends_from : (x : Entry) (xs : List Entry) (e : Entry) → fold (λ (_ : Option Entry) (y : Entry). Some y) (Some x) xs ≡ Some e → EndsIn (x ∷ xs) e
-ends_from x [] e is = record { front = []; is = let same : x ≡ e = cc in ap (λ (y : Entry). y ∷ []) same }
-ends_from x (y ∷ ys) e is = let at = ends_from y ys e is in record { front = x ∷ at.front; is = ap (λ (rest : List Entry). x ∷ rest) at.is }
 
 pub ends_in : (trail : List Entry) (e : Entry) → last_entry trail ≡ Some e → EndsIn trail e
 ends_in [] e is = absurd (cc)
@@ -189,18 +182,6 @@ told_since x y g same is = any_since is_end x y g same is
 
 -- ---- places
 
-pub same_numbers : (xs ys : List ℕ) → length xs ≡ length ys → ((i : ℕ) → i < length xs → get_or xs i 0 ≡ get_or ys i 0) → xs ≡ ys
-same_numbers [] [] long each = refl
-same_numbers [] (y ∷ ys) long each = absurd (omega (arith, long))
-same_numbers (x ∷ xs) [] long each = absurd (omega (arith, long))
-same_numbers (x ∷ xs) (y ∷ ys) long each = ap (λ z. z ∷ xs) (each 0 (omega arith)) ∙ ap (λ zs. y ∷ zs) (same_numbers xs ys (omega (arith, long)) (λ i below. each (suc i) (omega (arith, below))))
-
-ends_at : (parts : List (List (ℕ × ℤ))) (places : List ℕ) (i : ℕ) → list_all (λ (p : List (ℕ × ℤ) × ℕ). p.1 == length p.0) (zip parts places) ≡ true → i < length parts → i < length places → get_or places i 0 ≡ length (get_or parts i [])
-ends_at [] places i all within inside = absurd (omega (arith, within))
-ends_at (part ∷ parts) [] i all within inside = absurd (omega (arith, inside))
-ends_at (part ∷ parts) (place ∷ places) zero all within inside = eqb-true place (length part) (and_parts (place == length part) _ all).0
-ends_at (part ∷ parts) (place ∷ places) (suc i) all within inside = ends_at parts places i (and_parts (place == length part) _ all).1 (omega (arith, within)) (omega (arith, inside))
-
 lengths_at : (parts : List (List (ℕ × ℤ))) (i : ℕ) → i < length parts → get_or (map length parts) i 0 ≡ length (get_or parts i [])
 lengths_at [] i within = absurd (omega (arith, within))
 lengths_at (part ∷ parts) zero within = refl
@@ -211,7 +192,7 @@ pub ends_are : (setup : MonitorSetup) (x : List Entry) → length setup.from ≡
 unfolding at_ends
 ends_are setup x shape ends =
     let long = length-places_at setup x ∙ shape in
-    same_numbers (places_at setup x) (map length setup.parts) (long ∙ sym (length-map setup.parts length)) (λ i below.
+    same_number_lists (places_at setup x) (map length setup.parts) (long ∙ sym (length-map setup.parts length)) (λ i below.
     ends_at setup.parts (places_at setup x) i ends (omega (arith, below, long)) below ∙ sym (lengths_at setup.parts i (omega (arith, below, long))))
 
 -- from the ends no place goes on
@@ -221,7 +202,7 @@ stays_at_ends setup x more starts each ends =
     let rise = places_rise setup x more in
     let most = (legal_places setup starts (x ++ more) each).within in
     let long = length-places_at setup (x ++ more) ∙ starts.shape in
-    same_numbers (places_at setup (x ++ more)) (places_at setup x) (sym rise.shape) (λ i below.
+    same_number_lists (places_at setup (x ++ more)) (places_at setup x) (sym rise.shape) (λ i below.
     let low = rise.each i in
     let high = most i in
     let here : get_or (places_at setup x) i 0 ≡ length (get_or setup.parts i []) = ap (λ xs. get_or xs i 0) is ∙ lengths_at setup.parts i (omega (arith, below, long)) in

@@ -3,7 +3,7 @@ use Rattle.tk_frames.specs.declared.frame.Frame.TheVariants as f
 use Rattle.std.proofs.Common.{◌≡◌, ℕ, ◌+◌, ◌<◌, ◌≤◌, ◌||◌, ◌==◌, Bool, true, false, not, cond, List, [], ◌∷◌, ◌++◌, length, Option, Some, None, refl, sym, ap, ◌∙◌, arith, inl, inr, append_assoc, append-nil}
 use Rattle.std.specs.Prelude.{ℤ, fold, count_by, nat_lt, if◌then◌else◌}
 use Rattle.std.specs.List.{list_any}
-use Rattle.std.proofs.lemmas.Bool.{cases_Bool, cases_eq, cases_lt, ne_eqb, true≢false, false≢true}
+use Rattle.std.proofs.lemmas.Bool.{cases_Bool, cases_eq, cases_lt, ne_eqb, true≢false, false≢true, or_right as or_true, and_parts, not-true}
 use Rattle.std.proofs.lemmas.List.Sums.{fold_push, fold-append, sum_by_push}
 use Rattle.std.proofs.lemmas.List.{length-append}
 use Rattle.std.proofs.lemmas.List.Folds.{list_any-append}
@@ -18,12 +18,13 @@ use Rattle.tk_trail.specs.declared.entry.Entry.{Entry}
 use Rattle.tk_trail.specs.declared.entry.Entry.TheVariants.{Raised, Took, Sent}
 use Rattle.std.proofs.Math.Bool.{or-false}
 use Rattle.tk_trail.specs.Refusal.{refusal_of}
-use Rattle.tk_trail.proofs.LegalLemmas.{IsTold, and_both, not_true, told_goes, not_refused}
+use Rattle.tk_trail.proofs.LegalLemmas.{IsTold, told_goes, not_refused}
 use Rattle.tk_trail.proofs.LawLemmas.{assigns_of-append}
 use Rattle.tk_trail.proofs.PlacesLemmas.{places_at-took, places_at-sent}
 use Rattle.tk_trail.proofs.ReadingsLemmas.{sent_by-raised, sent_by-took, sent_by-sent, seq_of-raised, seq_of-sent, seq_of-other, seq_of-assign, reported-raised, reported-sent, reported-collect, reported-stop, told-raised, told-sent, told-collect, told-stop}
 use Rattle.tk_trail.specs.Still.{Same, is_raise, is_still, answers_under}
 use Rattle.tk_frames.specs.Carried.{is_numbered}
+use Rattle.tk_trail.proofs.DueLemmas.{report_there, end_there}
 
 -- ---- a frame under the last number speaks of the end of the trail
 
@@ -62,7 +63,7 @@ speaks_now setup x z same still =
     let parts = assigns_of-append x z in
     let none : assigns_of z ≡ [] = nothing (assigns_of z) (let a = ap (λ (xs : List Assign). length xs) parts in let b = length-append (assigns_of x) (assigns_of z) in omega (arith, a, b, same)) in
     let quiet : list_any is_raise z ≡ false =
-    or_right (list_any is_raise (since_assign x)) (list_any is_raise z) (sym (list_any-append is_raise (since_assign x) z) ∙ ap (list_any is_raise) (sym (since-more x z none)) ∙ not_true (list_any is_raise (since_assign (x ++ z))) still) in
+    or_right (list_any is_raise (since_assign x)) (list_any is_raise z) (sym (list_any-append is_raise (since_assign x) z) ∙ ap (list_any is_raise) (sym (since-more x z none)) ∙ not-true (list_any is_raise (since_assign (x ++ z))) still) in
     record {
       places = sym (places_stay setup x z quiet);
       assigns = sym (parts ∙ ap (λ (xs : List Assign). assigns_of x ++ xs) none ∙ append-nil (assigns_of x));
@@ -101,13 +102,13 @@ due_sends : (setup : MonitorSetup) (trail : List Entry) (report end : Bool) (sen
     → (if report then Some (report_at setup trail) else (if end then Some (settled_at setup trail) else None)) ≡ Some sent → Sends setup trail sent
 unfolding report_is_due end_is_due
 due_sends setup trail true end sent none r e is =
-    let both = and_both (may_report trail) (is_broken setup trail) r in
-    Reported none (not_true (is_reported trail) (and_both (nat_lt 0 (seq_of trail)) (not (is_reported trail)) both.0).1) both.1 (cc)
+    let both = and_parts (may_report trail) (is_broken setup trail) r in
+    Reported none (not-true (is_reported trail) (and_parts (nat_lt 0 (seq_of trail)) (not (is_reported trail)) both.0).1) both.1 (cc)
 due_sends setup trail false true sent none r e is =
-    let all = and_both _ _ e in
-    let rest = and_both _ _ all.0 in
-    let calm = and_both _ _ rest.0 in
-    Ended none (not_true (is_reported trail) (and_both (nat_lt 0 (seq_of trail)) (not (is_reported trail)) calm.0).1) (not_true (is_broken setup trail) calm.1) rest.1 (not_true (is_end_told trail) all.1) (cc)
+    let all = and_parts _ _ e in
+    let rest = and_parts _ _ all.0 in
+    let calm = and_parts _ _ rest.0 in
+    Ended none (not-true (is_reported trail) (and_parts (nat_lt 0 (seq_of trail)) (not (is_reported trail)) calm.0).1) (not-true (is_broken setup trail) calm.1) rest.1 (not-true (is_end_told trail) all.1) (cc)
 due_sends setup trail false false sent none r e is = absurd (cc)
 
 sends_as : (setup : MonitorSetup) (trail : List Entry) (owed : Option Frame) (sent : Frame) → owed_at setup trail ≡ owed → to_send setup trail owed ≡ Some sent → Sends setup trail sent
@@ -228,18 +229,6 @@ none_told true b e g = absurd (true≢false e)
 none_told false true e g = absurd (true≢false g)
 none_told false false e g = refl
 
-is_report_at : (setup : MonitorSetup) (t : List Entry) → is_report (Sent (report_at setup t)) ≡ true
-unfolding report_at
-is_report_at setup t = refl
-
-is_end_at : (setup : MonitorSetup) (t : List Entry) → is_end (Sent (settled_at setup t)) ≡ at_ends setup t
-unfolding settled_at
-is_end_at setup t = refl
-
-or_true : (a b : Bool) → b ≡ true → (a || b) ≡ true
-or_true true b e = refl
-or_true false b e = e
-
 values_told : (setup : MonitorSetup) (t : List Entry) (round : ℕ) (asked : List ℕ) → told_or (t ++ Sent (values_at setup t round asked) ∷ []) ≡ told_or t
 unfolding told_or values_at
 values_told setup t round asked =
@@ -272,7 +261,7 @@ few_sends setup t frame told h (Reported unowed free broken is) =
     let untold : is_end_told t ≡ false = elim (cases_Bool (is_end_told t)) [ inl is' ↦ absurd (true≢false (sym broken ∙ (told.rest is').calm)) | inr not' ↦ not' ] in
     let before = none_told (is_reported t) (is_end_told t) free untold in
     let after : one (told_or (t ++ Sent frame ∷ [])) ≡ 1 =
-    ap one (told_sent t frame) ∙ or_left_one (is_reported t || is_report (Sent frame)) (is_end_told t || is_end (Sent frame)) (or_true (is_reported t) (is_report (Sent frame)) (ap (λ (g : Frame). is_report (Sent g)) is ∙ is_report_at setup t)) in
+    ap one (told_sent t frame) ∙ or_left_one (is_reported t || is_report (Sent frame)) (is_end_told t || is_end (Sent frame)) (or_true (is_reported t) (is_report (Sent frame)) (ap (λ (g : Frame). is_report (Sent g)) is ∙ report_there setup t)) in
     let most = one_most (is_numbered (seq_of t) frame) in
     let n = h.now in
     few_sent t frame (own_number t frame number) (omega (arith, n, before, after, most)) h
@@ -280,7 +269,7 @@ few_sends setup t frame told h (Ended unowed free calm ends untold is) =
     let number : (a : ℕ) → is_numbered a frame ≡ (seq_of t == a) = λ a. ap (is_numbered a) is ∙ numbered_settled setup t a in
     let before = none_told (is_reported t) (is_end_told t) free untold in
     let after : one (told_or (t ++ Sent frame ∷ [])) ≡ 1 =
-    ap one (told_sent t frame) ∙ or_one (is_reported t || is_report (Sent frame)) (is_end_told t || is_end (Sent frame)) (or_true (is_end_told t) (is_end (Sent frame)) (ap (λ (g : Frame). is_end (Sent g)) is ∙ is_end_at setup t ∙ ends)) in
+    ap one (told_sent t frame) ∙ or_one (is_reported t || is_report (Sent frame)) (is_end_told t || is_end (Sent frame)) (or_true (is_end_told t) (is_end (Sent frame)) (ap (λ (g : Frame). is_end (Sent g)) is ∙ end_there setup t ∙ ends)) in
     let most = one_most (is_numbered (seq_of t) frame) in
     let n = h.now in
     few_sent t frame (own_number t frame number) (omega (arith, n, before, after, most)) h

@@ -17,7 +17,8 @@ use Rattle.tk_trail.specs.declared.entry.Entry.{Entry}
 use Rattle.std.proofs.lemmas.List.{get_or_past}
 use Rattle.tk_trail.proofs.LevelsLemmas.{length-levels_of, level_at-levels_of}
 use Rattle.tk_trail.proofs.BrokenLemmas.{below_is, is_negative}
-use Rattle.tk_trail.proofs.ValuesLemmas.{int_sum-cons, sum_for-cons, weight_for-cons}
+use Rattle.tk_trail.proofs.ValuesLemmas.{sum_for-cons, weight_for-cons, share_small}
+use Rattle.tk_input.proofs.SumLemmas.{int_sum-cons}
 
 -- the least and the greatest of a mapped list: reached, and a bound
 pub record Reached (h : ℕ → ℤ) (os : List ℕ) (x : ℤ) : Type 0 where
@@ -122,13 +123,9 @@ sum_split o [] (suc a) (suc b) below = omega (arith, ints)
 sum_split o (x ∷ xs) (suc a) zero below = absurd (omega arith)
 sum_split o (x ∷ xs) (suc a) (suc b) below = omega (arith, ints, sum_for-cons o x (take b xs), sum_for-cons o x (take a xs), sum_split o xs a b (omega arith))
 
-share_weight : (b : Bool) (z : ℤ) → unsigned_abs (cond b z (pos 0)) ≤ cond b (unsigned_abs z) 0
-share_weight true z = omega arith
-share_weight false z = omega (arith, ints)
-
 sum_small : (o : ℕ) (xs : List (ℕ × ℤ)) → unsigned_abs (sum_for o xs) ≤ weight_for o xs
 sum_small o [] = omega (arith, ints)
-sum_small o (x ∷ xs) = omega (arith, ints, sum_for-cons o x xs, weight_for-cons o x xs, sum_small o xs, share_weight (x.0 == o) x.1)
+sum_small o (x ∷ xs) = omega (arith, ints, sum_for-cons o x xs, weight_for-cons o x xs, sum_small o xs, share_small (x.0 == o) x.1)
 
 one_of_two : (a b : Bool) (w : ℕ) → (a ≡ true → b ≡ true → ⊥) → cond a w 0 + cond b w 0 ≤ w
 one_of_two true true w apart = absurd (apart refl refl)

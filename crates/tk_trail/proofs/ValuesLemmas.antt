@@ -1,19 +1,12 @@
 -- Values of objects at places, what one more change does to them, and how great they can be.
 use Rattle.std.proofs.Common.{◌≡◌, ℕ, suc, zero, ◌<◌, ◌≤◌, ◌+◌, Bool, true, false, ◌==◌, cond, List, [], ◌∷◌, length, map, take, get_or, set, Some, subst, arith}
-use Rattle.std.specs.Prelude.{ℤ, pos, ◌+ℤ◌, unsigned_abs, fold, filter, slice_get, sum_by}
+use Rattle.std.specs.Prelude.{ℤ, pos, ◌+ℤ◌, unsigned_abs, filter, slice_get, sum_by}
 use Rattle.std.specs.List.{zip}
 use Rattle.std.proofs.lemmas.Int.{ints}
 use Rattle.std.proofs.lemmas.List.Sums.{sum_by-cons}
 use Rattle.tk_base.specs.Sum.{int_sum}
-use Rattle.tk_input.specs.Logs.{sum_for, value_of, weight_for, weight_of}
-
--- a sum from a number on
-fold_from : (a : ℤ) (xs : List ℤ) → fold ◌+ℤ◌ a xs ≡ a +ℤ int_sum xs
-fold_from a [] = omega (arith, ints)
-fold_from a (x ∷ xs) = omega (arith, ints, fold_from (a +ℤ x) xs, fold_from (pos 0 +ℤ x) xs)
-
-pub int_sum-cons : (x : ℤ) (xs : List ℤ) → int_sum (x ∷ xs) ≡ x +ℤ int_sum xs
-int_sum-cons x xs = omega (arith, ints, fold_from (pos 0 +ℤ x) xs)
+use Rattle.tk_input.specs.Logs.{sum_for, value_of, weight_for}
+use Rattle.tk_input.proofs.SumLemmas.{int_sum-cons}
 
 -- what one change adds to the sum for an object
 abbrev pub share_of : ℕ → ℕ × ℤ → ℤ
@@ -62,27 +55,6 @@ value_of-set (part ∷ parts) (place ∷ places) (suc i) o c within inside got =
       value_of-set parts places i o c (omega arith) (omega arith) got,
     )
 
-share_small : (b : Bool) (z : ℤ) → unsigned_abs (cond b z (pos 0)) ≤ cond b (unsigned_abs z) 0
+pub share_small : (b : Bool) (z : ℤ) → unsigned_abs (cond b z (pos 0)) ≤ cond b (unsigned_abs z) 0
 share_small true z = omega arith
 share_small false z = omega (arith, ints)
-
--- a front of a part sums to no more than its sizes
-pub sum_for-small : (o : ℕ) (xs : List (ℕ × ℤ)) (p : ℕ) → unsigned_abs (sum_for o (take p xs)) ≤ weight_for o xs
-sum_for-small o xs zero = omega (arith, ints)
-sum_for-small o [] (suc p) = omega (arith, ints)
-sum_for-small o (x ∷ xs) (suc p) =
-    omega (arith, ints, sum_for-cons o x (take p xs), weight_for-cons o x xs, sum_for-small o xs p, share_small (x.0 == o) x.1)
-
--- a value is no greater than the sizes of all changes of the object
-pub value_of-small : (parts : List (List (ℕ × ℤ))) (places : List ℕ) (o : ℕ) → unsigned_abs (value_of parts places o) ≤ weight_of parts o
-value_of-small [] places o = omega (arith, ints)
-value_of-small (part ∷ parts) [] o = omega (arith, ints)
-value_of-small (part ∷ parts) (place ∷ places) o =
-    omega (
-      arith,
-      ints,
-      int_sum-cons (sum_for o (take place part)) (map (λ (p : List (ℕ × ℤ) × ℕ). sum_for o (take p.1 p.0)) (zip parts places)),
-      sum_by-cons (weight_for o) part parts,
-      value_of-small parts places o,
-      sum_for-small o part place,
-    )

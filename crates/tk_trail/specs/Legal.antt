@@ -9,10 +9,11 @@ use Rattle.tk_trail.specs.Refusal.{refusal_of}
 use Rattle.tk_trail.specs.declared.entry.Entry.{Entry}
 use Rattle.tk_trail.specs.declared.entry.Entry.TheVariants.{Raised, Took, Sent}
 
--- how many changes part f has, and how many of them are reached
+-- how many changes the part of a feeder has
 abbrev pub part_length : MonitorSetup → ℕ → ℕ
 part_length setup g = length (slice_index_or setup.parts (g - 1) [])
 
+-- how many changes of a feeder are reached at the end of a trail
 abbrev pub place_of : MonitorSetup → List Entry → ℕ → ℕ
 place_of setup trail g = slice_index (places_at setup trail) (g - 1)
 

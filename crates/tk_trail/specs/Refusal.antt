@@ -65,6 +65,7 @@ refusal_of_kind shown (f.Assign seq members changes) = refusal_of_assign shown s
 refusal_of_kind shown (f.Settled seq last places) = Some (NotForMonitor k.Settled)
 refusal_of_kind shown f.Stop = if shown.told then None else Some EarlyStop
 
+-- which refusal a frame meets by what the tests look at; after Stop every frame meets one
 abbrev pub refusal_over : Shown → Frame → Option MonitorRefusal
 refusal_over shown frame = if shown.stopped then Some AfterStop else refusal_of_kind shown frame
 

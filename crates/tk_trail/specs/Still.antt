@@ -7,6 +7,7 @@ use Rattle.tk_trail.specs.declared.entry.Entry.{Entry}
 use Rattle.tk_trail.specs.declared.entry.Entry.TheVariants.{Raised, Took, Sent}
 use Rattle.tk_frames.specs.Carried.{is_numbered}
 
+-- whether an entry raised a change
 abbrev pub is_raise : Entry → Bool
 is_raise (Raised feeder) = true
 is_raise (Took frame) = false

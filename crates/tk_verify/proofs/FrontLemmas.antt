@@ -3,13 +3,12 @@ use Rattle.std.proofs.Common.{◌≡◌, ℕ, zero, suc, ◌+◌, ◌≤◌, ◌
 use Rattle.std.specs.Prelude.{slice_get}
 use Rattle.std.proofs.lemmas.Bool.{cases_lt}
 use Rattle.std.proofs.lemmas.List.{length-append}
+use Rattle.std.proofs.lemmas.Option.{same_Some}
 use Rattle.tk_verify.specs.Driving.{GoesOn, IsDriven, Leads}
 use Rattle.tk_verify.specs.Faults.{IsFirstFault, IsFrontOf}
+use Rattle.tk_story.proofs.JoiningLemmas.{take-all}
 
 -- ---- lists
-
-some_same : {A : Type 0} (x y : A) → Some x ≡ Some y → x ≡ y
-some_same x y e = cc
 
 one_more : {A : Type 0} (xs : List A) (e : A) (rest : List A) → (xs ++ e ∷ []) ++ rest ≡ xs ++ e ∷ rest
 one_more xs e rest = append_assoc xs (e ∷ []) rest
@@ -30,7 +29,7 @@ get_within (x ∷ xs) (suc n) e at = let h = get_within xs n e at in omega (arit
 
 take_next : {A : Type 0} (xs : List A) (n : ℕ) (e : A) → slice_get xs n ≡ Some e → take (suc n) xs ≡ take n xs ++ e ∷ []
 take_next [] n e at = absurd (cc)
-take_next (x ∷ xs) zero e at = ap (λ y. y ∷ []) (some_same x e at)
+take_next (x ∷ xs) zero e at = ap (λ y. y ∷ []) (same_Some x e at)
 take_next (x ∷ xs) (suc n) e at = ap (λ ys. x ∷ ys) (take_next xs n e at)
 
 take_to : {A : Type 0} (xs : List A) (n : ℕ) (e : A) → slice_get xs n ≡ Some e → take (n + 1) xs ≡ take n xs ++ e ∷ []
@@ -41,27 +40,16 @@ length_take xs zero few = refl
 length_take [] (suc n) few = absurd (omega (arith, few))
 length_take (x ∷ xs) (suc n) few = let h = length_take xs n (omega (arith, few)) in omega (arith, h)
 
-pub take_whole : {A : Type 0} (xs : List A) → take (length xs) xs ≡ xs
-take_whole [] = refl
-take_whole (x ∷ xs) = ap (λ ys. x ∷ ys) (take_whole xs)
-
 -- what stands behind a list in a longer one
 next_in : {A : Type 0} (xs more : List A) (e : A) → slice_get (xs ++ more) (length xs) ≡ Some e → (rest : List A) × (more ≡ e ∷ rest)
 next_in [] [] e at = absurd (cc)
-next_in [] (x ∷ more) e at = (more, ap (λ y. y ∷ more) (some_same x e at))
+next_in [] (x ∷ more) e at = (more, ap (λ y. y ∷ more) (same_Some x e at))
 next_in (x ∷ xs) more e at = next_in xs more e at
 
 goes_one : {A : Type 0} (seen now : List A) (e : A) → GoesOn seen now → slice_get now (length seen) ≡ Some e → GoesOn (seen ++ e ∷ []) now
 goes_one seen now e g at =
     let n = next_in seen g.more e (ap (λ xs. slice_get xs (length seen)) (sym g.is) ∙ at) in
     record { more = n.0; is = g.is ∙ ap (λ xs. seen ++ xs) n.1 ∙ sym (one_more seen e n.0) }
-
-no_more : {A : Type 0} (front more : List A) → length more ≤ 0 → front ++ more ≡ front
-no_more front [] few = append-nil front
-no_more front (x ∷ more) few = absurd (omega (arith, few))
-
-goes_nowhere : {A : Type 0} (front whole : List A) → GoesOn front whole → length whole ≤ length front → whole ≡ front
-goes_nowhere front whole g short = g.is ∙ no_more front g.more (let l = ap (λ xs. length xs) g.is in let m = length-append front g.more in omega (arith, l, m, short))
 
 take_goes : {A : Type 0} (xs : List A) (n m : ℕ) → n ≤ m → GoesOn (take n xs) (take m xs)
 take_goes xs zero m less = record { more = take m xs; is = refl }
@@ -111,14 +99,6 @@ one_fault Legal history p q a b = elim (cases_lt p q) [
 pub driven_fresh : {A : Type 0} (Legal : List A → Type 0) (now : List A) → Legal now → ((whole : List A) → Legal whole → GoesOn now whole) → IsDriven Legal [] now
 driven_fresh Legal now legal all = record { legal = legal; ahead = record { more = now; is = refl }; forced = all }
 
--- a node that did more than was seen
-pub ahead_leads : {A : Type 0} (Legal : List A → Type 0) (seen now : List A) (e : A) → IsDriven Legal seen now → length seen < length now → Leads Legal seen e now
-ahead_leads Legal seen now e d less = record { legal = d.legal; ahead = d.ahead; moved = λ rest legal. record { longer = less; whole_is = d.forced (e ∷ rest) legal } }
-
--- a node that did no more, once it was handed the entry
-pub handed_leads : {A : Type 0} (Legal : List A → Type 0) (seen old : List A) (e : A) (new : List A) → IsDriven Legal seen old → length old ≤ length seen → Leads Legal old e new → Leads Legal seen e new
-handed_leads Legal seen old e new d short h = subst (λ xs. Leads Legal xs e new) (goes_nowhere seen old d.ahead short) h
-
 -- the node did what stands there
 pub leads_on : {A : Type 0} (Legal : List A → Type 0) (seen : List A) (e : A) (now : List A) → Leads Legal seen e now → slice_get now (length seen) ≡ Some e → IsDriven Legal (seen ++ e ∷ []) now
 leads_on Legal seen e now h at = record {
@@ -162,7 +142,7 @@ fault_here Legal history place e now h here other =
 pub fault_at_end : {A : Type 0} (Legal : List A → Type 0) (history now : List A) → IsDriven Legal history now → length history < length now → IsFirstFault Legal history (length history)
 fault_at_end Legal history now d less = record {
   within = omega arith;
-  front = subst (IsFrontOf Legal) (sym (take_whole history)) (legal_front Legal history now d.ahead d.legal);
+  front = subst (IsFrontOf Legal) (sym (take-all history)) (legal_front Legal history now d.ahead d.legal);
   further = λ past front. absurd (omega (arith, past));
   missing = λ is legal.
       let g = d.forced [] (subst Legal (sym (append-nil history)) legal) in
@@ -170,10 +150,6 @@ fault_at_end Legal history now d less = record {
       let m = length-append now g.more in
       absurd (omega (arith, l, m, less));
 }
-
--- all was seen, and the node did no more
-pub driven_whole : {A : Type 0} (Legal : List A → Type 0) (history now : List A) → IsDriven Legal history now → length now ≤ length history → now ≡ history
-driven_whole Legal history now d short = goes_nowhere history now d.ahead short
 
 -- ---- what a node does where an entry is handed in
 

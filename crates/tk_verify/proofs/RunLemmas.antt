@@ -1,5 +1,5 @@
 -- Nodes that were driven over a record, and what they join to.
-use Rattle.std.proofs.Common.{◌≡◌, ◌⊎◌, ℕ, zero, suc, ◌+◌, ◌-◌, ◌≤◌, ◌<◌, List, [], ◌∷◌, ◌++◌, length, map, take, Option, Some, None, refl, sym, ap, ◌∙◌, subst, arith, inl, inr}
+use Rattle.std.proofs.Common.{◌≡◌, ◌⊎◌, ℕ, suc, ◌+◌, ◌-◌, ◌≤◌, ◌<◌, List, [], ◌∷◌, ◌++◌, length, map, take, Option, Some, None, refl, sym, ap, ◌∙◌, subst, arith, inl, inr}
 use Rattle.std.specs.Prelude.{slice_get, slice_index_or}
 use Rattle.std.specs.Global.{Vec}
 use Rattle.std.specs.List.{range_with_len}
@@ -33,6 +33,7 @@ use Rattle.tk_verify.specs.Verifying.{AreDriven, AreLegalTrails, is_found, is_un
 use Rattle.tk_verify.specs.declared.finding.Finding.TheVariants as f
 use Rattle.tk_verify.specs.declared.halt.Halt.{Halt}
 use Rattle.tk_verify.specs.declared.halt.Halt.TheVariants as h
+use Rattle.tk_story.proofs.EndsLemmas.{one_more}
 
 -- ---- the monitors, one after the other
 
@@ -41,11 +42,6 @@ pub listed_more : {X : Type 0} (g : ℕ → X) (n : ℕ) → map g (range_with_l
 listed_more g n =
     let last : 1 + n ≡ n + 1 = omega arith in
     ap (map g) (range-append 1 n 1 ∙ ap (λ (k : ℕ). range_with_len 1 n ++ k ∷ []) last) ∙ map-append g (range_with_len 1 n) ((n + 1) ∷ [])
-
-take_next : {A : Type 0} (xs : List A) (n : ℕ) (x : A) → slice_get xs n ≡ Some x → take (suc n) xs ≡ take n xs ++ x ∷ []
-take_next [] n x at = absurd (cc)
-take_next (y ∷ ys) zero x at = let same : y ≡ x = cc in ap (λ z. z ∷ []) same
-take_next (y ∷ ys) (suc n) x at = ap (λ zs. y ∷ zs) (take_next ys n x at)
 
 -- one monitor more
 pub made_more : (settings : Setup) (logs : LogSet) (from : List (List ℕ)) (j : ℕ) (nodes : List MonitorView) (node : MonitorView) (all : List MonitorView) → all ≡ nodes ++ node ∷ [] → map as_made nodes ≡ map (made_for settings logs from) (range_with_len 1 j)
@@ -58,7 +54,7 @@ pub trails_more : (trails : List (Vec Entry)) (j : ℕ) (trail : Vec Entry) (nod
 trails_more trails j trail nodes node all is before at here =
     let one : j + 1 ≡ suc j = omega arith in
     let there : slice_get (trails_in trails) j ≡ Some trail.items = slice_get-map (λ (t : Vec Entry). t.items) trails j ∙ ap (option_map (λ (t : Vec Entry). t.items)) at in
-    ap (map (λ (m : MonitorView). m.trail)) is ∙ map-append (λ (m : MonitorView). m.trail) nodes (node ∷ []) ∙ (λ i. before i ++ here i ∷ []) ∙ sym (ap (λ k. take k (trails_in trails)) one ∙ take_next (trails_in trails) j trail.items there)
+    ap (map (λ (m : MonitorView). m.trail)) is ∙ map-append (λ (m : MonitorView). m.trail) nodes (node ∷ []) ∙ (λ i. before i ++ here i ∷ []) ∙ sym (ap (λ k. take k (trails_in trails)) one ∙ one_more (trails_in trails) j trail.items there)
 
 -- the trail of a monitor as it is recorded
 pub trail_is : (trails : List (Vec Entry)) (j : ℕ) (trail : Vec Entry) → slice_get trails j ≡ Some trail → slice_index_or (trails_in trails) (j + 1 - 1) [] ≡ trail.items
@@ -67,9 +63,6 @@ trail_is trails j trail at = at_map (λ (t : Vec Entry). t.items) trails (j + 1 
 -- the trails of the first monitors are legal
 abbrev pub AreLegalTo : ℕ → StoryView → Type 0
 AreLegalTo n s = (mon : ℕ) → 1 ≤ mon → mon ≤ n → IsLegalTrail (setup_of s mon) (trail_of s mon)
-
-pub legal_none : (s : StoryView) → AreLegalTo 0 s
-legal_none s = λ mon low high. absurd (omega (arith, low, high))
 
 pub legal_more : (s : StoryView) (n : ℕ) → AreLegalTo n s → IsLegalTrail (setup_of s (n + 1)) (trail_of s (n + 1)) → AreLegalTo (n + 1) s
 legal_more s n before here = λ mon low high. elim (cases_lt mon (n + 1)) [

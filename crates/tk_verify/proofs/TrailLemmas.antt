@@ -1,15 +1,12 @@
 -- What a monitor does where an entry of a trail is handed in.
-use Rattle.std.proofs.Common.{◌≡◌, ℕ, ◌-◌, ◌<◌, List, [], ◌∷◌, ◌++◌, length, take, Option, Some, None, Result, Ok, Err, refl, sym, ap, ◌∙◌, subst, arith, append_assoc}
-use Rattle.std.specs.Prelude.{ℤ, OnOk, slice_get}
-use Rattle.std.proofs.lemmas.Option.{get_or_from_slice_get}
-use Rattle.tk_base.specs.Settings.{Setup}
-use Rattle.tk_input.specs.Logs.{LogSet, parts_of}
+use Rattle.std.proofs.Common.{◌≡◌, ℕ, ◌<◌, List, [], ◌∷◌, ◌++◌, length, take, Option, Some, None, Result, Ok, Err, refl, sym, ap, ◌∙◌, subst, arith, append_assoc}
+use Rattle.std.specs.Prelude.{OnOk}
 use Rattle.tk_base.specs.declared.ids.Feeder.{Feeder}
 use Rattle.tk_frames.specs.declared.frame.Frame.{Frame}
 use Rattle.tk_monitor.specs.Monitored.{AnswersTake, MonitorView, Raises}
 use Rattle.tk_monitor.specs.declared.outcome.Raised.{Raised}
 use Rattle.tk_monitor.specs.declared.outcome.Raised.TheVariants.{Done, Ended}
-use Rattle.tk_story.specs.Ends.{as_made, made_for}
+use Rattle.tk_story.specs.Ends.{as_made}
 use Rattle.tk_trail.specs.Setup.{MonitorSetup}
 use Rattle.tk_trail.specs.Frames.{answer_to, due_at, owed_at}
 use Rattle.tk_trail.specs.Legal.{HasNext, IsLegal, after_check, after_take, part_length, place_of, to_send, with_answer}
@@ -21,6 +18,7 @@ use Rattle.tk_trail.specs.declared.refusal.MonitorRefusal.TheVariants.{NoMemory}
 use Rattle.tk_trail.proofs.LawLemmas.{allowed_at, answered_at_once}
 use Rattle.tk_verify.specs.Driving.{IsDriven, Leads}
 use Rattle.tk_verify.proofs.FrontLemmas.{driven_fresh, more_leads, one_leads, still_leads}
+use Rattle.tk_monitor.proofs.StartLemmas.{start_legal}
 
 -- ---- a raise
 
@@ -124,12 +122,8 @@ checked old frame new legal then is =
 
 -- ---- over a trail
 
-pub legal_empty : (setup : MonitorSetup) → IsLegal setup []
-unfolding owed_at
-legal_empty setup = record { each = tt; answered = refl }
-
 pub fresh : (setup : MonitorSetup) (now : List Entry) → now ≡ [] → IsDriven (IsLegal setup) [] now
-fresh setup now is = subst (IsDriven (IsLegal setup) []) (sym is) (driven_fresh (IsLegal setup) [] (legal_empty setup) (λ whole _. record { more = whole; is = refl }))
+fresh setup now is = subst (IsDriven (IsLegal setup) []) (sym is) (driven_fresh (IsLegal setup) [] (start_legal setup) (λ whole _. record { more = whole; is = refl }))
 
 -- a monitor that is made like another leads on as that one does
 pub reached : (first old : MonitorView) (seen : List Entry) (entry : Entry) (new : List Entry) (place : ℕ) → as_made old ≡ as_made first → IsDriven (IsLegal first.setup) seen old.trail → length seen ≡ place
@@ -137,12 +131,3 @@ pub reached : (first old : MonitorView) (seen : List Entry) (entry : Entry) (new
 reached first old seen entry new place made driven size leads =
     let same : old.setup ≡ first.setup = ap (λ (m : MonitorView). m.setup) made in
     subst (λ s. Leads (IsLegal s) seen entry new) same (leads seen (subst (λ s. IsDriven (IsLegal s) seen old.trail) (sym same) driven) size)
-
--- ---- a new monitor
-
-pub is_made_for : (settings : Setup) (logs : LogSet) (from : List (List ℕ)) (mon : ℕ) (monitor : MonitorView) (parts : List (List (ℕ × ℤ))) (places : List ℕ)
-    → monitor ≡ record { settings = settings; setup = record { number = mon; objects = settings.objects; parts = parts; from = places }; trail = [] }
-    → parts ≡ parts_of logs.logs mon → slice_get from (mon - 1) ≡ Some places → monitor ≡ made_for settings logs from mon
-is_made_for settings logs from mon monitor parts places is all at =
-    let start = sym (get_or_from_slice_get from (mon - 1) places [] at) in
-    is ∙ (λ i. record { settings = settings; setup = record { number = mon; objects = settings.objects; parts = all i; from = start i }; trail = [] })

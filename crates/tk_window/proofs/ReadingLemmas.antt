@@ -1,5 +1,5 @@
 -- The ticks of a log while it is read.
-use Rattle.std.proofs.Common.{◌≡◌, ℕ, ◌+◌, ◌<◌, ◌≤◌, ◌^◌, ℤ, unsigned_abs, false, List, [], ◌∷◌, ◌++◌, length, map, Result, Ok, Err, refl, sym, ap, ◌∙◌, append_assoc, length-append, arith}
+use Rattle.std.proofs.Common.{◌≡◌, ℕ, ◌+◌, ◌<◌, ◌≤◌, ◌^◌, ℤ, unsigned_abs, List, [], ◌∷◌, ◌++◌, length, map, Result, Ok, Err, refl, sym, ap, ◌∙◌, append_assoc, length-append, arith}
 use Rattle.std.specs.Prelude.{All, Option, Some, None, sum_by, IfSome, bytes_eq, codes}
 use Rattle.std.proofs.lemmas.List.{append-nil, length-map, length_push, map-append}
 use Rattle.std.proofs.lemmas.List.Elements.{All-push, All-weaker}
@@ -100,11 +100,6 @@ unfolding field_at
 mark_found [] field one found = absurd (omega (arith, one))
 mark_found (a ∷ []) field one found = let same : field ≡ a = cc in ap (λ (f : List ℕ). bytes_eq f (codes "tick")) same
 mark_found (a ∷ b ∷ rest) field one found = absurd (omega (arith, one))
-
-pub not_marked : (fields : List (List ℕ)) → (length fields ≡ 1 → ⊥) → is_mark fields ≡ false
-not_marked [] many = refl
-not_marked (a ∷ []) many = absurd (many refl)
-not_marked (a ∷ b ∷ rest) many = refl
 
 -- an entry that is read joins the others
 pub entry_next : (names : List (List ℕ)) (before : List Entry) (entry : Entry) (n : ℕ) (fields : List (List ℕ)) → n ≡ length before → next_entry names n fields ≡ Ok entry → entry_added names before fields ≡ Ok (before ++ entry ∷ [])

@@ -17,5 +17,6 @@ sources_of logs = map (λ log. (log.0, expansion_of log.1)) logs
 abbrev pub ends_shown : List Expanded → List (List ℕ)
 ends_shown row = map (λ e. e.ends.items) row
 
+-- the same of the logs of each monitor
 abbrev pub rows_shown : {A : Type 0} → List (Vec Expanded A) → List (List (List ℕ))
 rows_shown rows = map (λ row. ends_shown row.items) rows

@@ -5,10 +5,11 @@ use Rattle.tk_base.specs.Ascending.{IsAscending}
 use Rattle.tk_base.specs.Sum.{int_sum}
 use Rattle.tk_window.specs.Window.{expansion, window_sum}
 
--- the logs in ticks of each monitor, expanded, and where their ticks end
+-- the logs in ticks of each monitor, expanded
 abbrev pub expanded_logs : ℕ → List (List (List (List (ℕ × ℤ)))) → List (List (List (ℕ × ℤ)))
 expanded_logs width logs = map (λ row. map (λ ticks. (expansion width ticks).part) row) logs
 
+-- where the ticks of these logs end once they are expanded
 abbrev pub expanded_ends : ℕ → List (List (List (List (ℕ × ℤ)))) → List (List (List ℕ))
 expanded_ends width logs = map (λ row. map (λ ticks. (expansion width ticks).ends) row) logs
 

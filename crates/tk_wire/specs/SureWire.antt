@@ -11,9 +11,10 @@ pub record SureView : Type 0 where
 abbrev pub counts_sure : SureView → Counts
 counts_sure w = record { faults = 0; ends = 0; taken = w.taken }
 
--- the wire with other bytes on it, and how many go to or from a pipe at once at most
+-- the wire with other bytes on it
 abbrev pub bearing_sure : Traffic → SureView → SureView
 bearing_sure traffic w = record w { traffic = traffic }
 
+-- how many bytes go to or from a pipe at once, at most
 abbrev pub most_sure : SureView → ℕ
 most_sure w = 65536

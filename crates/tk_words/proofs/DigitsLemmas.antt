@@ -5,7 +5,7 @@ use Rattle.std.specs.Char.{is_ascii_digit}
 use Rattle.std.specs.Str.{all_ascii_digits}
 use Rattle.std.specs.Str.Parse.{digits_value}
 use Rattle.std.proofs.Math.Seq.{take-length}
-use Rattle.std.proofs.lemmas.Bool.{lt-ltb, le-leb}
+use Rattle.std.proofs.lemmas.Bool.{lt-ltb, le-leb, and_right}
 use Rattle.std.proofs.lemmas.List.{take_more}
 use Rattle.tk_words.specs.Forms.{digits_in}
 
@@ -20,15 +20,11 @@ all_push (x ∷ xs) c all one = by (is_ascii_digit x) refl all (λ rest. all_pus
 pub all_more : (xs : List ℕ) (i : ℕ) → i < length xs → all_ascii_digits (take i xs) ≡ true → is_ascii_digit (get_or xs i 0) ≡ true → all_ascii_digits (take (i + 1) xs) ≡ true
 all_more xs i within all one = ap (λ (ys : List ℕ). all_ascii_digits ys) (take_more xs i 0 within) ∙ all_push (take i xs) (get_or xs i 0) all one
 
-and_false : (a b : Bool) → b ≡ false → (a && b) ≡ false
-and_false true b is = is
-and_false false b is = refl
-
 -- one byte that is none
 pub not_all : (xs : List ℕ) (i : ℕ) → i < length xs → is_ascii_digit (get_or xs i 0) ≡ false → all_ascii_digits xs ≡ false
 not_all [] i within none = absurd (omega arith)
 not_all (x ∷ xs) zero within none = ap (λ (b : Bool). b && all_ascii_digits xs) none
-not_all (x ∷ xs) (suc i) within none = and_false (is_ascii_digit x) (all_ascii_digits xs) (not_all xs i (omega arith) none)
+not_all (x ∷ xs) (suc i) within none = and_right (is_ascii_digit x) (all_ascii_digits xs) (not_all xs i (omega arith) none)
 
 -- a text of digits alone
 pub digits_found : (xs : List ℕ) (n i : ℕ) → 0 < length xs → length xs ≤ 38 → i ≡ length xs → n ≡ digits_value 10 (take i xs) → all_ascii_digits (take i xs) ≡ true → Some n ≡ digits_in xs

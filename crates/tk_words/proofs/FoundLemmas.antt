@@ -1,10 +1,13 @@
 -- What clap finds, or that it refuses.
 use Rattle.std.proofs.Common.{◌≡◌, ◌≢◌, ℕ, Bool, true, false, List, [], ◌∷◌, Option, Some, None, refl, sym, ap, ◌∙◌, inl, inr}
 use Rattle.std.specs.Prelude.{◌&&◌, option_and_then}
-use Rattle.clap.specs.Words.{App, HasKind, Kinds, Row, fault_of, kind_of, matches_of}
+use Rattle.clap.specs.Words.{App, HasKind, Kinds, Row, fault_of, is_simple_and_free, kind_of, matches_of}
 use Rattle.clap.specs.declared.error.Error.{Error}
 use Rattle.clap.specs.declared.error.kind.ErrorKind.TheVariants as kind
-use Rattle.tk_words.specs.Clap.{found_in, unless_any}
+use Rattle.tk_words.specs.Clap.{app_named, found_in, unless_any}
+use Rattle.tk_words.specs.Words.{Asked, asked_under, verb_of, words_of}
+use Rattle.tk_words.specs.declared.verb.Verb.{Verb}
+use Rattle.tk_words.specs.declared.verb.Verb.TheVariants.{Replay, Generate, Live, Window, Multi, Sessions, Trace, Check}
 
 -- the first of two tests that both hold
 pub first_holds : (a b : Bool) → (a && b) ≡ true → a ≡ true
@@ -29,6 +32,17 @@ pub formed : {A : Type 0} (form : List Row → Option A) (a b : App) (words : Li
     → a ≡ b → found_in a words ≡ Some rows → form rows ≡ value → option_and_then form (found_in b words) ≡ value
 formed form a b words rows value same found is = ap (λ (x : App). option_and_then form (found_in x words)) (sym same) ∙ ap (λ (r : Option (List Row)). option_and_then form r) found ∙ is
 
--- nothing where it is refused
-pub unformed : {A : Type 0} (form : List Row → Option A) (a b : App) (words : List (List ℕ)) → a ≡ b → found_in a words ≡ None → option_and_then form (found_in b words) ≡ None
-unformed form a b words same refused = ap (λ (x : App). option_and_then form (found_in x words)) (sym same) ∙ ap (λ (r : Option (List Row)). option_and_then form r) refused
+-- clap takes the rules of each command
+pub each_is_free : (verb : Verb) → is_simple_and_free (app_named verb) ≡ true
+each_is_free Replay = refl
+each_is_free Generate = refl
+each_is_free Live = refl
+each_is_free Window = refl
+each_is_free Multi = refl
+each_is_free Sessions = refl
+each_is_free Trace = refl
+each_is_free Check = refl
+
+-- what words ask for is what their command does
+pub under : (words : List (List ℕ)) (verb : Verb) (value : Option Asked) → verb_of words ≡ Some verb → asked_under verb words ≡ value → words_of words ≡ value
+under words verb value named is = ap (λ (o : Option Verb). option_and_then (λ v. asked_under v words) o) named ∙ is

@@ -33,12 +33,15 @@ asked_sources r = record {
   logs = asked_logs r.logs.items;
 }
 
+-- how the frames of a run go: in which pieces, and in which version
 abbrev pub asked_carriage : Carriage → CarriageWords
 asked_carriage c = record { piece = c.piece; frames = c.frames }
 
+-- what a replay asks for: where its input is, and how its frames go
 abbrev pub asked_replay : Replay → ReplayWords
 asked_replay r = record { sources = asked_sources r.sources; carriage = asked_carriage r.carriage }
 
+-- what a generated run asks for: its seed and its sizes
 abbrev pub asked_generate : Generate → GenerateWords
 asked_generate g = record {
   seed = g.seed;
@@ -49,9 +52,11 @@ asked_generate g = record {
   epsilon = g.epsilon;
 }
 
+-- what a live run asks for: where its input is, and the version of its frames
 abbrev pub asked_live : Live → LiveWords
 asked_live l = record { sources = asked_sources l.sources; frames = l.frames }
 
+-- what a run of several queries asks for: its files and logs
 abbrev pub asked_multi : Multi → MultiWords
 asked_multi m = record {
   objects = m.objects.now;
@@ -60,6 +65,7 @@ asked_multi m = record {
   logs = asked_logs m.logs.items;
 }
 
+-- what a command asks for
 abbrev pub asked_by : Command → Asked
 asked_by (Replayed r) = Replays (asked_replay r)
 asked_by (Generated g) = Generates (asked_generate g)

@@ -2,6 +2,8 @@
 use Rattle.std.specs.Prelude.{ℕ, Bool, true, false, List, [], ◌∷◌, Option, Some, None, codes}
 use Rattle.clap.specs.Words.{App, Row, Rule, fault_of, matches_of, new_app, new_rule, with_rule}
 use Rattle.clap.specs.declared.builder.action.ArgAction.TheVariants.{Append, Set}
+use Rattle.tk_words.specs.declared.verb.Verb.{Verb}
+use Rattle.tk_words.specs.declared.verb.Verb.TheVariants.{Replay, Generate, Live, Window, Multi, Sessions, Trace, Check}
 
 -- an option that takes one value
 abbrev pub option_rule : List ℕ → Bool → Rule
@@ -28,13 +30,9 @@ with_order_rule app = with_rule app (option_rule (codes "order") false)
 abbrev pub with_carriage_rules : App → App
 with_carriage_rules app = with_rule (with_rule app (option_rule (codes "piece") false)) (option_rule (codes "frames") false)
 
--- `replay`
-abbrev pub replay_app : App
-replay_app = with_rule (with_carriage_rules (with_order_rule (with_source_rules (new_app (codes "replay"))))) logs_rule
-
--- `trace`
-abbrev pub trace_app : App
-trace_app = with_rule (with_carriage_rules (with_order_rule (with_source_rules (new_app (codes "trace"))))) logs_rule
+-- `replay`, and `trace` with the same options
+abbrev pub replay_app : List ℕ → App
+replay_app name = with_rule (with_carriage_rules (with_order_rule (with_source_rules (new_app name)))) logs_rule
 
 -- `window`
 abbrev pub window_app : App
@@ -75,10 +73,22 @@ gen_app =
     (option_rule (codes "k") true))
     (option_rule (codes "epsilon") true)
 
--- what clap finds in the words of a command, where it does not refuse them
+-- the command that a verb names
+abbrev pub app_named : Verb → App
+app_named Replay = replay_app (codes "replay")
+app_named Generate = gen_app
+app_named Live = live_app
+app_named Window = window_app
+app_named Multi = multi_app
+app_named Sessions = sessions_app
+app_named Trace = replay_app (codes "trace")
+app_named Check = check_app
+
+-- what was found, where there is no fault
 abbrev pub unless_any : {A X : Type 0} → List X → A → Option A
 unless_any [] found = Some found
 unless_any (fault ∷ faults) found = None
 
+-- what clap finds in the words of a command, where it does not refuse them
 abbrev pub found_in : App → List (List ℕ) → Option (List Row)
 found_in app words = unless_any (fault_of app words) (matches_of app words)

@@ -12,20 +12,22 @@ digits_in text = if nat_lt 0 (length text) && nat_le (length text) 38 && all_asc
 abbrev pub short_in : List ℕ → Option ℕ
 short_in text = if nat_le (length text) 18 then digits_in text else None
 
--- the number of a monitor that is written: 1 to 64, without a leading zero
+-- a number as that of a monitor: 1 to 64
 abbrev pub monitor_from : Option ℕ → Option ℕ
 monitor_from None = None
 monitor_from (Some n) = if nat_lt 0 n && nat_le n 64 then Some n else None
 
+-- the number of a monitor that is written, without a leading zero
 abbrev pub monitor_in : List ℕ → Option ℕ
 monitor_in [] = None
 monitor_in (c ∷ rest) = if c == 48 then None else (if nat_le (length rest) 1 then monitor_from (digits_in (c ∷ rest)) else None)
 
--- the length of a piece: 1 to 65,536
+-- a number as the length of a piece: 1 to 65,536
 abbrev pub piece_from : Option ℕ → Option ℕ
 piece_from None = None
 piece_from (Some n) = if nat_lt 0 n && nat_le n 65536 then Some n else None
 
+-- the length of a piece that is written
 abbrev pub piece_in : List ℕ → Option ℕ
 piece_in text = piece_from (short_in text)
 

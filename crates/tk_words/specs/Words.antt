@@ -4,7 +4,7 @@ use Rattle.std.specs.Option.{option_map_or}
 use Rattle.clap.specs.Words.{Row, all_of, first_of}
 use Rattle.tk_words.specs.declared.verb.Verb.{Verb}
 use Rattle.tk_words.specs.declared.verb.Verb.TheVariants.{Replay, Generate, Live, Window, Multi, Sessions, Trace, Check}
-use Rattle.tk_words.specs.Clap.{check_app, found_in, gen_app, live_app, multi_app, replay_app, sessions_app, trace_app, window_app}
+use Rattle.tk_words.specs.Clap.{app_named, found_in}
 use Rattle.tk_words.specs.Forms.{digits_in, file_in, logs_in, piece_in, short_in, version_in}
 
 -- where a run finds its input: the numbers of the settings, the files with their logs' monitors, and the width of the
@@ -145,37 +145,16 @@ generate_of rows =
     (required short_in (codes "monitors") rows))
     (required short_in (codes "seed") rows)
 
--- what the words of a replay ask for, where clap takes them and each value is in its form
-abbrev pub replay_in : List (List ℕ) → Option ReplayWords
-replay_in words = option_and_then replay_of (found_in replay_app words)
-
--- what those of a window ask for
-abbrev pub window_in : List (List ℕ) → Option ReplayWords
-window_in words = option_and_then window_of (found_in window_app words)
-
--- what those of a live run ask for
-abbrev pub live_in : List (List ℕ) → Option LiveWords
-live_in words = option_and_then live_of (found_in live_app words)
-
--- what those of several queries ask for
-abbrev pub multi_in : List (List ℕ) → Option MultiWords
-multi_in words = option_and_then multi_of (found_in multi_app words)
-
--- what those of a replay with restarts ask for
-abbrev pub sessions_in : List (List ℕ) → Option SourceWords
-sessions_in words = option_and_then sessions_of (found_in sessions_app words)
-
--- what those of a trace ask for, which are those of a replay
-abbrev pub trace_in : List (List ℕ) → Option ReplayWords
-trace_in words = option_and_then replay_of (found_in trace_app words)
-
--- the file that the words of a check name
-abbrev pub check_in : List (List ℕ) → Option (List ℕ)
-check_in words = option_and_then check_of (found_in check_app words)
-
--- what those of a generated run ask for
-abbrev pub generate_in : List (List ℕ) → Option GenerateWords
-generate_in words = option_and_then generate_of (found_in gen_app words)
+-- what a command asks for by what clap found: a window is a replay of its logs, expanded
+abbrev pub asked_with : Verb → List Row → Option Asked
+asked_with Replay rows = option_map Replays (replay_of rows)
+asked_with Generate rows = option_map Generates (generate_of rows)
+asked_with Live rows = option_map Lives (live_of rows)
+asked_with Window rows = option_map Replays (window_of rows)
+asked_with Multi rows = option_map Queries (multi_of rows)
+asked_with Sessions rows = option_map Restarts (sessions_of rows)
+asked_with Trace rows = option_map Traces (replay_of rows)
+asked_with Check rows = option_map Checks (check_of rows)
 
 -- the command that a word names
 abbrev pub verb_named : List ℕ → Option Verb
@@ -191,18 +170,10 @@ abbrev pub verb_of : List (List ℕ) → Option Verb
 verb_of [] = None
 verb_of (word ∷ rest) = verb_named word
 
--- what the words of a command ask for: a window is a replay of its logs, expanded
-abbrev pub asked_under : Option Verb → List (List ℕ) → Option Asked
-asked_under None words = None
-asked_under (Some Replay) words = option_map Replays (replay_in words)
-asked_under (Some Generate) words = option_map Generates (generate_in words)
-asked_under (Some Live) words = option_map Lives (live_in words)
-asked_under (Some Window) words = option_map Replays (window_in words)
-asked_under (Some Multi) words = option_map Queries (multi_in words)
-asked_under (Some Sessions) words = option_map Restarts (sessions_in words)
-asked_under (Some Trace) words = option_map Traces (trace_in words)
-asked_under (Some Check) words = option_map Checks (check_in words)
+-- what the words of a command ask for, where clap takes them and each value is in its form
+abbrev pub asked_under : Verb → List (List ℕ) → Option Asked
+asked_under verb words = option_and_then (asked_with verb) (found_in (app_named verb) words)
 
 -- what words ask for, where they are understood
 abbrev pub words_of : List (List ℕ) → Option Asked
-words_of words = asked_under (verb_of words) words
+words_of words = option_and_then (λ verb. asked_under verb words) (verb_of words)

@@ -1,18 +1,19 @@
 ghost use Rattle.std.specs.Prelude.{◌≡◌, Some, None, IfOk, IsErrOf, map, string_bytes};
+ghost use Rattle.clap.specs.Words.{found_of, rows_of};
 ghost use Rattle.tk_words.specs.Asked.{HasCarriage, HasMonitors, asked_by};
-ghost use Rattle.tk_words.specs.Words.{words_of};
+ghost use Rattle.tk_words.specs.Words.{asked_with, words_of};
 
-use crate::check::read_check;
 use crate::fault::WordsFault;
-use crate::generate::{Generate, read_generate};
-use crate::live::{Live, read_live};
-use crate::multi::{Multi, read_multi};
-use crate::replay::{Replay, read_replay};
-use crate::sessions::read_sessions;
+use crate::generate::Generate;
+use crate::live::Live;
+use crate::multi::Multi;
+use crate::parsing::{named_file, parse};
+use crate::replay::{Replay, replay_with};
+use crate::rules::rules;
 use crate::sources::Sources;
-use crate::trace::read_trace;
 use crate::verb::{Verb, verb_of};
-use crate::window::read_window;
+use crate::{generate, live, multi, sessions, window};
+use clap::ArgMatches;
 use std::alloc::Global;
 
 /// What the words of the program ask for.
@@ -34,6 +35,27 @@ pub enum Command<'a> {
     Check(&'a str),
 }
 
+/// What a command asks for by what clap found.
+fn asked<'a>(alloc: Global, verb: Verb, matches: &ArgMatches<'a>) -> Result<Command<'a>, WordsFault>
+    ensures ok { IfOk result (λ c. asked_with verb (rows_of (found_of matches.now)) ≡ Some (asked_by c)) }
+    ensures usage { IsErrOf result WordsFault.Usage → asked_with verb (rows_of (found_of matches.now)) ≡ None }
+    ensures monitors { IfOk result HasMonitors }
+    ensures carriage { IfOk result HasCarriage }
+{
+    match verb {
+        Verb::Replay => Ok(Command::Replay(replay_with(alloc, matches, None)?)),
+        Verb::Generate => Ok(Command::Generate(generate::values(matches).ok_or(
+            WordsFault::Usage,
+        )?)),
+        Verb::Live => Ok(Command::Live(live::values(alloc, matches)?)),
+        Verb::Window => Ok(Command::Replay(window::values(alloc, matches)?)),
+        Verb::Multi => Ok(Command::Multi(multi::values(alloc, matches)?)),
+        Verb::Sessions => Ok(Command::Sessions(sessions::values(alloc, matches)?)),
+        Verb::Trace => Ok(Command::Trace(replay_with(alloc, matches, None)?)),
+        Verb::Check => Ok(Command::Check(named_file(matches, "file").ok_or(WordsFault::Usage)?)),
+    }
+}
+
 /// Reads the words, which come without the program's name. The first is the command.
 pub fn read<'a>(alloc: Global, words: &'a [String]) -> Result<Command<'a>, WordsFault>
     ensures ok { IfOk result (λ c. words_of (map string_bytes words.entry.now) ≡ Some (asked_by c)) }
@@ -42,15 +64,9 @@ pub fn read<'a>(alloc: Global, words: &'a [String]) -> Result<Command<'a>, Words
     ensures monitors { IfOk result HasMonitors }
     ensures carriage { IfOk result HasCarriage }
 {
-    match verb_of(words) {
-        None => Err(WordsFault::Usage),
-        Some(Verb::Replay) => Ok(Command::Replay(read_replay(alloc, words)?)),
-        Some(Verb::Generate) => Ok(Command::Generate(read_generate(alloc, words)?)),
-        Some(Verb::Live) => Ok(Command::Live(read_live(alloc, words)?)),
-        Some(Verb::Window) => Ok(Command::Replay(read_window(alloc, words)?)),
-        Some(Verb::Multi) => Ok(Command::Multi(read_multi(alloc, words)?)),
-        Some(Verb::Sessions) => Ok(Command::Sessions(read_sessions(alloc, words)?)),
-        Some(Verb::Trace) => Ok(Command::Trace(read_trace(alloc, words)?)),
-        Some(Verb::Check) => Ok(Command::Check(read_check(alloc, words)?)),
-    }
+    let Some(verb) = verb_of(words) else {
+        return Err(WordsFault::Usage);
+    };
+    let matches = parse(rules(alloc, verb)?, words)?;
+    asked(alloc, verb, &matches)
 }

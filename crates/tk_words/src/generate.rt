@@ -1,12 +1,11 @@
-ghost use Rattle.std.specs.Prelude.{◌≡◌, Some, None, IfOk, IsErrOf, map, option_map, string_bytes};
+ghost use Rattle.std.specs.Prelude.{◌≡◌, IfOk, option_map};
 ghost use Rattle.clap.specs.Words.{app_of, found_of, rows_of};
 ghost use Rattle.tk_words.specs.Asked.{asked_generate};
 ghost use Rattle.tk_words.specs.Clap.{gen_app};
-ghost use Rattle.tk_words.specs.Words.{generate_in, generate_of};
+ghost use Rattle.tk_words.specs.Words.{generate_of};
 
-use crate::fault::WordsFault;
 use crate::options::option;
-use crate::parsing::{long, parse, short};
+use crate::parsing::{long, short};
 use clap::{ArgMatches, Command};
 use std::alloc::{AllocError, Global};
 
@@ -21,7 +20,8 @@ pub struct Generate {
     pub epsilon: u128,
 }
 
-fn command<'a>(alloc: Global) -> Result<Command<'a>, AllocError>
+/// What clap reads the words of `gen` by.
+pub fn command<'a>(alloc: Global) -> Result<Command<'a>, AllocError>
     ensures { IfOk result (λ c. app_of c ≡ gen_app) }
 {
     Command::new(alloc, "gen")
@@ -33,7 +33,8 @@ fn command<'a>(alloc: Global) -> Result<Command<'a>, AllocError>
         .arg(option(alloc, "epsilon", true))
 }
 
-fn values(matches: &ArgMatches<'_>) -> Option<Generate>
+/// What they ask for by what clap found.
+pub fn values(matches: &ArgMatches<'_>) -> Option<Generate>
     ensures { option_map asked_generate result ≡ generate_of (rows_of (found_of matches.now)) }
 {
     Some(Generate {
@@ -44,13 +45,4 @@ fn values(matches: &ArgMatches<'_>) -> Option<Generate>
         k: short(matches, "k")?,
         epsilon: long(matches, "epsilon")?,
     })
-}
-
-/// Reads the words of `gen`, the command first.
-pub fn read_generate(alloc: Global, words: &[String]) -> Result<Generate, WordsFault>
-    ensures ok { IfOk result (λ g. generate_in (map string_bytes words.entry.now) ≡ Some (asked_generate g)) }
-    ensures usage { IsErrOf result WordsFault.Usage → generate_in (map string_bytes words.entry.now) ≡ None }
-{
-    let matches = parse(command(alloc)?, words)?;
-    values(&matches).ok_or(WordsFault::Usage)
 }

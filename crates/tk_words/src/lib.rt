@@ -2,7 +2,7 @@
 //!
 //! It promises that words are refused exactly where the first names no command, where clap refuses the rest,
 //! or where a value is not in its form. It is the only crate that calls clap. It reads no file.
-//! A new command has a file of its own, a variant of `Command`, and an arm in `read`.
+//! A new command has a file of its own, a variant of `Command` and of `Verb`, and an arm in `rules` and in `asked`.
 #![tactic(auto)]
 
 mod carriage;
@@ -17,9 +17,9 @@ mod multi;
 mod options;
 mod parsing;
 mod replay;
+mod rules;
 mod sessions;
 mod sources;
-mod trace;
 mod verb;
 mod window;
 

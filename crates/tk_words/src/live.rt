@@ -1,13 +1,12 @@
-ghost use Rattle.std.specs.Prelude.{◌≡◌, ◌⊎◌, Some, None, IfOk, IsErrOf, map, string_bytes};
+ghost use Rattle.std.specs.Prelude.{◌≡◌, ◌⊎◌, Some, None, IfOk, IsErrOf};
 ghost use Rattle.clap.specs.Words.{app_of, found_of, rows_of};
 ghost use Rattle.tk_words.specs.Asked.{AreOfMonitors, asked_live};
 ghost use Rattle.tk_words.specs.Clap.{live_app};
-ghost use Rattle.tk_words.specs.Words.{live_in, live_of};
+ghost use Rattle.tk_words.specs.Words.{live_of};
 
 use crate::carriage::frames;
 use crate::fault::WordsFault;
 use crate::options::{log_words, option, with_sources};
-use crate::parsing::parse;
 use crate::sources::{Sources, sources_with};
 use clap::{ArgMatches, Command};
 use std::alloc::{AllocError, Global};
@@ -21,7 +20,8 @@ pub struct Live<'a> {
     pub frames: u8,
 }
 
-fn command<'a>(alloc: Global) -> Result<Command<'a>, AllocError>
+/// What clap reads the words of `live` by.
+pub fn command<'a>(alloc: Global) -> Result<Command<'a>, AllocError>
     ensures { IfOk result (λ c. app_of c ≡ live_app) }
 {
     with_sources(alloc, Command::new(alloc, "live"))?
@@ -29,7 +29,8 @@ fn command<'a>(alloc: Global) -> Result<Command<'a>, AllocError>
         .arg(log_words(alloc))
 }
 
-fn values<'a>(alloc: Global, matches: &ArgMatches<'a>) -> Result<Live<'a>, WordsFault>
+/// What they ask for by what clap found.
+pub fn values<'a>(alloc: Global, matches: &ArgMatches<'a>) -> Result<Live<'a>, WordsFault>
     ensures ok { IfOk result (λ l. live_of (rows_of (found_of matches.now)) ≡ Some (asked_live l)) }
     ensures usage { IsErrOf result WordsFault.Usage → live_of (rows_of (found_of matches.now)) ≡ None }
     ensures monitors { IfOk result (λ l. AreOfMonitors l.sources.logs.items) }
@@ -38,15 +39,4 @@ fn values<'a>(alloc: Global, matches: &ArgMatches<'a>) -> Result<Live<'a>, Words
     let frames = frames(matches).ok_or(WordsFault::Usage)?;
     let sources = sources_with(alloc, matches, None, None)?;
     Ok(Live { sources, frames })
-}
-
-/// Reads the words of `live`, the command first.
-pub fn read_live<'a>(alloc: Global, words: &'a [String]) -> Result<Live<'a>, WordsFault>
-    ensures ok { IfOk result (λ l. live_in (map string_bytes words.entry.now) ≡ Some (asked_live l)) }
-    ensures usage { IsErrOf result WordsFault.Usage → live_in (map string_bytes words.entry.now) ≡ None }
-    ensures monitors { IfOk result (λ l. AreOfMonitors l.sources.logs.items) }
-    ensures version { IfOk result (λ l. (l.frames ≡ 1) ⊎ (l.frames ≡ 2)) }
-{
-    let matches = parse(command(alloc)?, words)?;
-    values(alloc, &matches)
 }

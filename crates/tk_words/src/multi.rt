@@ -1,12 +1,12 @@
-ghost use Rattle.std.specs.Prelude.{◌≡◌, Some, None, IfOk, IsErrOf, map, string_bytes};
+ghost use Rattle.std.specs.Prelude.{◌≡◌, Some, None, IfOk, IsErrOf};
 ghost use Rattle.clap.specs.Words.{app_of, found_of, rows_of};
 ghost use Rattle.tk_words.specs.Asked.{AreOfMonitors, asked_multi};
 ghost use Rattle.tk_words.specs.Clap.{multi_app};
-ghost use Rattle.tk_words.specs.Words.{multi_in, multi_of};
+ghost use Rattle.tk_words.specs.Words.{multi_of};
 
 use crate::fault::WordsFault;
 use crate::options::{log_words, option, with_order};
-use crate::parsing::{named_file, parse};
+use crate::parsing::named_file;
 use crate::sources::{logs, order};
 use clap::{ArgMatches, Command};
 use std::alloc::{AllocError, Global};
@@ -22,7 +22,8 @@ pub struct Multi<'a> {
     pub logs: Vec<(Mon, &'a str)>,
 }
 
-fn command<'a>(alloc: Global) -> Result<Command<'a>, AllocError>
+/// What clap reads the words of `multi` by.
+pub fn command<'a>(alloc: Global) -> Result<Command<'a>, AllocError>
     ensures { IfOk result (λ c. app_of c ≡ multi_app) }
 {
     let command = Command::new(alloc, "multi")
@@ -31,7 +32,8 @@ fn command<'a>(alloc: Global) -> Result<Command<'a>, AllocError>
     with_order(alloc, command)?.arg(log_words(alloc))
 }
 
-fn values<'a>(alloc: Global, matches: &ArgMatches<'a>) -> Result<Multi<'a>, WordsFault>
+/// What they ask for by what clap found.
+pub fn values<'a>(alloc: Global, matches: &ArgMatches<'a>) -> Result<Multi<'a>, WordsFault>
     ensures ok { IfOk result (λ m. multi_of (rows_of (found_of matches.now)) ≡ Some (asked_multi m)) }
     ensures usage { IsErrOf result WordsFault.Usage → multi_of (rows_of (found_of matches.now)) ≡ None }
     ensures monitors { IfOk result (λ m. AreOfMonitors m.logs.items) }
@@ -46,14 +48,4 @@ fn values<'a>(alloc: Global, matches: &ArgMatches<'a>) -> Result<Multi<'a>, Word
         order,
         logs,
     })
-}
-
-/// Reads the words of `multi`, the command first.
-pub fn read_multi<'a>(alloc: Global, words: &'a [String]) -> Result<Multi<'a>, WordsFault>
-    ensures ok { IfOk result (λ m. multi_in (map string_bytes words.entry.now) ≡ Some (asked_multi m)) }
-    ensures usage { IsErrOf result WordsFault.Usage → multi_in (map string_bytes words.entry.now) ≡ None }
-    ensures monitors { IfOk result (λ m. AreOfMonitors m.logs.items) }
-{
-    let matches = parse(command(alloc)?, words)?;
-    values(alloc, &matches)
 }

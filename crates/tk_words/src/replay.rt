@@ -1,14 +1,12 @@
-ghost use Rattle.std.specs.Prelude.{◌≡◌, Some, None, IfOk, IsErrOf, map, string_bytes};
+ghost use Rattle.std.specs.Prelude.{◌≡◌, Some, None, IfOk, IsErrOf};
 ghost use Rattle.clap.specs.Words.{app_of, found_of, rows_of};
 ghost use Rattle.tk_words.specs.Asked.{AreOfMonitors, IsCarriage, asked_replay};
 ghost use Rattle.tk_words.specs.Clap.{replay_app};
 ghost use Rattle.tk_words.specs.Words as spec;
-ghost use Rattle.tk_words.specs.Words.{replay_in};
 
 use crate::carriage::{Carriage, carriage_in};
 use crate::fault::WordsFault;
 use crate::options::{log_words, with_carriage, with_order, with_sources};
-use crate::parsing::parse;
 use crate::sources::{Sources, order, sources_with};
 use clap::{ArgMatches, Command};
 use std::alloc::{AllocError, Global};
@@ -20,10 +18,11 @@ pub struct Replay<'a> {
     pub carriage: Carriage,
 }
 
-fn command<'a>(alloc: Global) -> Result<Command<'a>, AllocError>
-    ensures { IfOk result (λ c. app_of c ≡ replay_app) }
+/// What clap reads the words of `replay` and of `trace` by, under this name.
+pub fn command<'a>(alloc: Global, name: &'a str) -> Result<Command<'a>, AllocError>
+    ensures { IfOk result (λ c. app_of c ≡ replay_app name.entry.now) }
 {
-    let command = with_sources(alloc, Command::new(alloc, "replay"))?;
+    let command = with_sources(alloc, Command::new(alloc, name))?;
     let command = with_order(alloc, command)?;
     with_carriage(alloc, command)?.arg(log_words(alloc))
 }
@@ -43,15 +42,4 @@ pub fn replay_with<'a>(
     let order = order(matches).ok_or(WordsFault::Usage)?;
     let sources = sources_with(alloc, matches, order, width)?;
     Ok(Replay { sources, carriage })
-}
-
-/// Reads the words of `replay`, the command first.
-pub fn read_replay<'a>(alloc: Global, words: &'a [String]) -> Result<Replay<'a>, WordsFault>
-    ensures ok { IfOk result (λ r. replay_in (map string_bytes words.entry.now) ≡ Some (asked_replay r)) }
-    ensures usage { IsErrOf result WordsFault.Usage → replay_in (map string_bytes words.entry.now) ≡ None }
-    ensures monitors { IfOk result (λ r. AreOfMonitors r.sources.logs.items) }
-    ensures carriage { IfOk result (λ r. IsCarriage r.carriage) }
-{
-    let matches = parse(command(alloc)?, words)?;
-    replay_with(alloc, &matches, None)
 }

@@ -3,7 +3,7 @@ use Rattle.tk_frames.specs.declared.frame.Frame.TheVariants as f
 use Rattle.std.proofs.Common.{◌≡◌, ℕ, suc, zero, ◌+◌, ◌-◌, ◌≤◌, ◌||◌, All, true, false, List, [], ◌∷◌, length, map, get_or, replicate, None, refl, sym, ap, ap₂, ◌∙◌, subst, arith, inl, inr}
 use Rattle.std.specs.Prelude.{ℤ, sum_by, slice_get}
 use Rattle.std.specs.List.{enumerate_from, range_with_len}
-use Rattle.std.proofs.lemmas.Bool.{true≢false}
+use Rattle.std.proofs.lemmas.Bool.{true≢false, or_parts, or_cases}
 use Rattle.std.proofs.lemmas.List.FromFn.{get_or-map-range_with_len}
 use Rattle.std.proofs.lemmas.List.Sums.{sum_by-cons}
 use Rattle.tk_base.specs.Settings.{Setup, IsWithinLimits}
@@ -28,7 +28,7 @@ use Rattle.tk_world.specs.Work.{has, is_sent}
 use Rattle.tk_world.specs.World.{CanRun}
 use Rattle.tk_world.specs.declared.seat.Seat.{Seat}
 use Rattle.tk_world.specs.declared.work.Work.{Work}
-use Rattle.tk_world.proofs.RestLemmas.{none_sent, or_parts, first_or, sent_is_monitor}
+use Rattle.tk_world.proofs.RestLemmas.{none_sent, sent_is_monitor}
 use Rattle.tk_world.proofs.StepLemmas.{begin_is_story}
 
 fresh_trails : (S : Setup) (L : LogSet) (F : List (List ℕ)) (a k : ℕ) → trails_of (map (fresh_seat S L F) (range_with_len a k)) ≡ replicate k []
@@ -80,7 +80,7 @@ begin_holds S L F seats j raises none work limits logs run are is entries room f
           ∙ ap (λ (k : ℕ). sum_by (λ mon. left_in (parts_of L.logs mon) (places_of F mon)) (range_with_len 1 k)) run.monitors
           ∙ sym (fresh_left S L F 1 S.monitors)
           ∙ ap (sum_by left_at) (sym are);
-      within = λ q at_work. elim (first_or (has none q) (is_sent j q) (sym (adds q) ∙ at_work)) [
+      within = λ q at_work. elim (or_cases (has none q) (is_sent j q) (sym (adds q) ∙ at_work)) [
         | inl before ↦ absurd (true≢false (sym before ∙ free q))
         | inr now ↦ let of = sent_is_monitor S.monitors S.objects j q entries now in record { from_one = of.0; within = of.1 }
       ];

@@ -6,6 +6,7 @@ use Rattle.std.specs.Prelude.{OnErr, pos, is_some, nat_le, slice_get, if◌then�
 use Rattle.std.specs.Option.{option_map}
 use Rattle.std.proofs.lemmas.Bool.{and_parts, cases_Bool, leb-false, leb-true, true≢false}
 use Rattle.std.proofs.lemmas.List.{get_or_default}
+use Rattle.std.proofs.lemmas.Option.{slice_get_past}
 use Rattle.tk_base.specs.Settings.{Setup}
 use Rattle.tk_base.specs.declared.ids.Mon.{Mon}
 use Rattle.tk_frames.specs.declared.frame.Frame.{Frame}
@@ -37,7 +38,7 @@ use Rattle.tk_world.proofs.EventLemmas.{check_goes, moves}
 use Rattle.tk_world.proofs.IdleLemmas.{is_one}
 use Rattle.tk_world.proofs.RestLemmas.{all_rest, at_rest}
 use Rattle.tk_world.proofs.SeatLemmas.{inside, seat_is, trail_is}
-use Rattle.tk_world.proofs.WorldLemmas.{due_there, none_due, past, rests}
+use Rattle.tk_world.proofs.WorldLemmas.{due_there, none_due, rests}
 
 -- ---- enabled events
 
@@ -83,10 +84,6 @@ pub retune_enabled : (s : StoryView) (tuning : Tuning) → retune_refusal_of s.s
 retune_enabled s tuning none =
     enabled_by s (with_turn s (n.Tuned tuning.k (pos tuning.epsilon))) (Retune tuning) refl (ap (λ (o : Option RetuneRefusal). if is_some o then None else Some (with_turn s (n.Tuned tuning.k (pos tuning.epsilon)))) none)
 
-pub not_there : {X : Type 0} (o : Option X) → is_some o ≡ false → o ≡ None
-not_there None none = refl
-not_there (Some x) none = absurd (true≢false none)
-
 pub there_is : {X : Type 0} (o : Option X) → is_some o ≡ true → (x : X) × (o ≡ Some x)
 there_is None some = absurd (true≢false (sym some))
 there_is (Some x) some = (x, refl)
@@ -121,8 +118,8 @@ seat_rests S L F j seats raises work mon seat h m at rests' =
     let got = here.got in
     record {
       due = ap₂ (λ (a : MonitorSetup) (t : List Entry). due_at a t) (sym here.setup) own ∙ none_due seat.monitor.setup seat.monitor.trail (nothing_sent (checked_at seat.monitor.setup seat.monitor.trail) both.1);
-      down = past (frames_to mon j) (length (taken_by (trail_of s mon))) (omega (arith, down, walked));
-      up = past (sent_by (trail_of s mon)) (length (frames_from mon j)) (omega (arith, up, sent, got));
+      down = slice_get_past (frames_to mon j) (length (taken_by (trail_of s mon))) (omega (arith, down, walked));
+      up = slice_get_past (sent_by (trail_of s mon)) (length (frames_from mon j)) (omega (arith, up, sent, got));
     }
 
 next_number : (k : ℕ) → k + 1 - 1 ≡ k

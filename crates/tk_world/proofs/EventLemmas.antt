@@ -165,7 +165,7 @@ check_goes S L F j seats raises work mon seat frame h m at busy due =
 
 -- ---- a frame of the coordinator
 
-answered_places : (setup : MonitorSetup) (trail : List Entry) (answer : Option Frame) → places_at setup (with_answer trail answer) ≡ places_at setup trail
+pub answered_places : (setup : MonitorSetup) (trail : List Entry) (answer : Option Frame) → places_at setup (with_answer trail answer) ≡ places_at setup trail
 answered_places setup trail None = refl
 answered_places setup trail (Some frame) = places_at-sent setup trail frame
 

@@ -1,10 +1,11 @@
 -- The readings of all seats of a world: the cut, and whether the story is quiet.
-use Rattle.std.proofs.Common.{◌≡◌, ℕ, ◌+◌, ◌-◌, ◌≤◌, ◌<◌, ◌&&◌, not, Bool, true, false, List, length, map, get_or, refl, sym, ap, ap₂, ◌∙◌, subst, arith}
+use Rattle.std.proofs.Common.{◌≡◌, ℕ, ◌+◌, ◌-◌, ◌≤◌, ◌<◌, ◌&&◌, not, true, false, List, length, map, get_or, refl, sym, ap, ap₂, ◌∙◌, subst, arith}
 use Rattle.std.specs.Prelude.{nat_le}
 use Rattle.std.specs.List.{range_with_len}
 use Rattle.std.proofs.lemmas.Bool.{and_from, and_parts, le-leb, leb-true, not-true}
 use Rattle.std.proofs.lemmas.List.{get_or-map, get_or_default, length-map, same_lists}
 use Rattle.std.proofs.lemmas.List.FromFn.{get_or-map-range_with_len, length-map-range_with_len}
+use Rattle.std.proofs.lemmas.Option.{slice_get_past}
 use Rattle.tk_base.specs.Settings.{Setup}
 use Rattle.tk_frames.specs.declared.frame.Frame.{Frame}
 use Rattle.tk_input.specs.Logs.{LogSet}
@@ -24,7 +25,6 @@ use Rattle.tk_world.specs.declared.seat.Seat.{Seat}
 use Rattle.tk_world.specs.declared.work.Work.{Work}
 use Rattle.tk_world.proofs.IdleLemmas.{all_passed}
 use Rattle.tk_world.proofs.SeatLemmas.{inside, seat_count, trail_is}
-use Rattle.tk_world.proofs.WorldLemmas.{past}
 
 -- ---- the seat of a monitor, whatever stands for none
 
@@ -60,10 +60,6 @@ cut_is S L F j seats raises work h =
 
 -- ---- quiet
 
-pub not_refuted : (b : Bool) → (b ≡ false → ⊥) → b ≡ true
-not_refuted true other = refl
-not_refuted false other = absurd (other refl)
-
 pub all_quiet : (S : Setup) (L : LogSet) (F : List (List ℕ)) (j : List Noted) (seats : List Seat) (raises : ℕ) (work : Work) → Holds S L F j seats raises work
     → ((k : ℕ) (d : Seat) → k < length seats → is_quiet_seat (length (frames_to (k + 1) j)) (get_or seats k d) ≡ true) → IsQuiet (story_in S L F j seats)
 all_quiet S L F j seats raises work h each =
@@ -82,12 +78,12 @@ all_quiet S L F j seats raises work h each =
     let is = (h.seats_are mon none m).taken in
     let own = ap (λ (t : List Entry). length (taken_by t)) (own_trail S L F j seats mon none h.story m) in
     let low = (parts mon m).0 in
-    all_passed (taken_by (trail_of s mon)) (frames_to mon j) (h.story.links mon m).down (past (frames_to mon j) (length (taken_by (trail_of s mon))) (omega (arith, is, own, low))) in
+    all_passed (taken_by (trail_of s mon)) (frames_to mon j) (h.story.links mon m).down (slice_get_past (frames_to mon j) (length (taken_by (trail_of s mon))) (omega (arith, is, own, low))) in
     let up : (mon : ℕ) → IsMonitor S mon → frames_from mon j ≡ sent_by (trail_of s mon) = λ mon m.
     let is = (h.seats_are mon none m).got in
     let own = ap (λ (t : List Entry). length (sent_by t)) (own_trail S L F j seats mon none h.story m) in
     let high = (parts mon m).1 in
-    all_passed (frames_from mon j) (sent_by (trail_of s mon)) (h.story.links mon m).up (past (sent_by (trail_of s mon)) (length (frames_from mon j)) (omega (arith, is, own, high))) in
+    all_passed (frames_from mon j) (sent_by (trail_of s mon)) (h.story.links mon m).up (slice_get_past (sent_by (trail_of s mon)) (length (frames_from mon j)) (omega (arith, is, own, high))) in
     record {
       down = down;
       up = up;

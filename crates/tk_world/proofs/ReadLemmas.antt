@@ -1,9 +1,8 @@
 -- What leads to a story by `next_of` runs it by the reader's form.
 use Rattle.tk_journal.specs.declared.noted.Noted.TheVariants as n
 use Rattle.std.proofs.Common.{◌≡◌, ℕ, ◌-◌, ◌<◌, pos, Bool, true, false, List, [], ◌∷◌, ◌++◌, length, get_or, Option, Some, None, refl, sym, ap, ◌∙◌, subst, arith, append_assoc, append-nil, inl, inr}
-use Rattle.std.specs.Prelude.{nat_le, is_some, replicate, if◌then◌else◌}
-use Rattle.std.specs.Option.{option_map}
-use Rattle.std.proofs.lemmas.Bool.{and_parts, cases_eq, false≢true, leb-true, true≢false}
+use Rattle.std.specs.Prelude.{is_some, replicate, if◌then◌else◌}
+use Rattle.std.proofs.lemmas.Bool.{cases_eq, false≢true, true≢false}
 use Rattle.std.proofs.lemmas.List.{get_or-set_same, get_or-set_other}
 use Rattle.tk_base.specs.declared.ids.Feeder.{Feeder}
 use Rattle.tk_frames.specs.declared.frame.Frame.{Frame}
@@ -20,16 +19,17 @@ use Rattle.tk_trail.specs.Readings.{sent_by, taken_by}
 use Rattle.tk_trail.specs.declared.entry.Entry.{Entry}
 use Rattle.tk_trail.specs.declared.entry.Entry.TheVariants.{Raised, Took, Sent}
 use Rattle.tk_input.specs.declared.event.Event.{Event}
-use Rattle.tk_world.specs.Events.{after, begin, has_next, is_monitor, is_of, moved, next_down, next_of, next_up, with_trail, with_turn}
+use Rattle.tk_world.specs.Events.{after, begin, has_next, is_of, moved, next_down, next_of, next_up, with_trail, with_turn}
 use Rattle.tk_input.specs.declared.event.Event.TheVariants.{Raise, Check, Up, Down, Retune}
 use Rattle.tk_journal.specs.Whole.{BeginsWithInput}
 use Rattle.tk_story.specs.Story.{IsStory, StoryView, setup_of, trail_of}
 use Rattle.tk_story.proofs.QuietLemmas.{joined, setup_is}
-use Rattle.tk_world.proofs.StepLemmas.{begin_is_story, next_is, next_is_story}
+use Rattle.tk_world.proofs.StepLemmas.{begin_is_story, next_is, next_is_story, if_some, if_none, mapped_some, monitor_is}
 use Rattle.tk_journal.proofs.WholeLemmas.{Turn, turn_is}
 use Rattle.tk_story.proofs.UpLemmas.{up_is_taken}
 use Rattle.tk_world.specs.Runs.{IsDirect, RunsBy, UsesTurn, Walks, further, walked, walked_story, wants_answer}
 use Rattle.tk_world.proofs.WalkLemmas.{answers_if}
+use Rattle.tk_input.proofs.CountLemmas.{not_some}
 
 record Back (s : StoryView) (journal : List Noted) (trails : List (List Entry)) (events : List Event) : Type 0 where
   walks : Walks s journal trails events
@@ -58,25 +58,6 @@ made_by t s e events (Some u) is rest = let g = made_of (is_of t e) (moved t e) 
 
 made : (t s : StoryView) (e : Event) (events : List Event) → after (Some t) (e ∷ events) ≡ Some s → Made t s e events
 made t s e events is = made_by t s e events (next_of t e) refl is
-
-if_some : {X : Type 0} (b : Bool) (x t : X) → (if b then Some x else None) ≡ Some t → (b ≡ true) × (x ≡ t)
-if_some true x t e = (refl, (cc))
-if_some false x t e = absurd (cc)
-
-if_none : {X : Type 0} (b : Bool) (x t : X) → (if b then None else Some x) ≡ Some t → (b ≡ false) × (x ≡ t)
-if_none true x t e = absurd (cc)
-if_none false x t e = (refl, (cc))
-
-mapped_some : {X Y : Type 0} (g : X → Y) (o : Option X) (t : Y) → option_map g o ≡ Some t → (x : X) × (o ≡ Some x) × (g x ≡ t)
-mapped_some g None t e = absurd (cc)
-mapped_some g (Some x) t e = (x, refl, (cc))
-
-not_some : {X : Type 0} (o : Option X) → is_some o ≡ false → o ≡ None
-not_some None is = refl
-not_some (Some x) is = absurd (true≢false is)
-
-monitor_is : (s : StoryView) (mon : ℕ) → is_monitor s mon ≡ true → IsMonitor s.settings mon
-monitor_is s mon is = let both = and_parts (nat_le 1 mon) (nat_le mon s.settings.monitors) is in record { from_one = leb-true 1 mon both.0; within = leb-true mon s.settings.monitors both.1 }
 
 -- ---- fronts of what was walked
 
@@ -125,11 +106,11 @@ record Taken (setup : MonitorSetup) (trail : List Entry) (frame : Frame) : Type 
   direct : IsDirect (wants_answer frame) answer
   is : after_take setup trail frame ≡ trail ++ Took frame ∷ answer
 
-direct_of : (wants : Bool) (a : Frame) → true ≡ wants → IsDirect wants (Sent a ∷ [])
+pub direct_of : (wants : Bool) (a : Frame) → true ≡ wants → IsDirect wants (Sent a ∷ [])
 direct_of true a is = (a, refl)
 direct_of false a is = absurd (true≢false is)
 
-direct_none_of : (wants : Bool) → false ≡ wants → IsDirect wants []
+pub direct_none_of : (wants : Bool) → false ≡ wants → IsDirect wants []
 direct_none_of true is = absurd (false≢true is)
 direct_none_of false is = refl
 

@@ -1,12 +1,12 @@
 -- Monitors at rest: nothing is due, and both links are empty.
-use Rattle.std.proofs.Common.{◌≡◌, ℕ, suc, ◌≤◌, ◌<◌, ◌==◌, ◌||◌, ◌⊎◌, Bool, true, false, List, [], ◌∷◌, ◌++◌, All, Option, Some, None, refl, sym, ap, ◌∙◌, arith, inl, inr}
+use Rattle.std.proofs.Common.{◌≡◌, ℕ, suc, ◌≤◌, ◌<◌, ◌==◌, Bool, true, false, List, [], ◌∷◌, ◌++◌, All, Option, Some, None, refl, sym, ap, ◌∙◌, arith, inl, inr}
 use Rattle.std.specs.Prelude.{if◌then◌else◌}
 use Rattle.std.specs.List.{cons_option}
 use Rattle.std.proofs.lemmas.Map.Views.{exact_unsigned_eq}
 use Rattle.tk_base.specs.declared.ids.Mon.{Mon}
 use Rattle.tk_journal.specs.Entries.{IsEntryOf}
 use Rattle.std.specs.Option.{option_map}
-use Rattle.std.proofs.lemmas.Bool.{cases_eq, eq-eqb, false≢true, ne_eqb, true≢false}
+use Rattle.std.proofs.lemmas.Bool.{cases_eq, eq-eqb, false≢true, ne_eqb, true≢false, or_parts, or_cases}
 use Rattle.tk_frames.specs.declared.frame.Frame.{Frame}
 use Rattle.tk_journal.specs.Laws.{IsMonitor}
 use Rattle.tk_journal.specs.Links.{frames_to}
@@ -60,10 +60,6 @@ all_rest s rest = record { check = λ mon m. (rest mon).check; up = λ mon m. (r
 
 -- ---- what some entries send
 
-pub or_parts : (a b : Bool) → (a || b) ≡ false → (a ≡ false) × (b ≡ false)
-or_parts true b neither = absurd (true≢false neither)
-or_parts false b neither = (refl, neither)
-
 not_passed : (b : Bool) (frame : Frame) (frames : List Frame) → b ≡ false → cons_option (if b then Some frame else None) frames ≡ frames
 not_passed true frame frames none = absurd (true≢false none)
 not_passed false frame frames none = refl
@@ -84,10 +80,6 @@ none_sent (n.Sent to frame ∷ entries) mon none =
 is_one_of : (m : ℕ) (to : Mon) (mon : ℕ) → (0 < to.0) × (to.0 ≤ m) → (mon == to.0) ≡ true → (1 ≤ mon) × (mon ≤ m)
 is_one_of m to mon of same = let e : mon ≡ to.0 = exact_unsigned_eq mon to.0 same in (omega (arith, e, of.0), omega (arith, e, of.1))
 
-pub first_or : (a b : Bool) → (a || b) ≡ true → (a ≡ true) ⊎ (b ≡ true)
-first_or true b either = inl refl
-first_or false b either = inr either
-
 first_of_all : (m objects : ℕ) (e : Noted) (entries : List Noted) → All (IsEntryOf m objects) (e ∷ entries) → IsEntryOf m objects e
 first_of_all m objects e entries of = of 0 e (omega arith)
 
@@ -99,7 +91,7 @@ sent_is_monitor m objects [] mon of is = absurd (false≢true is)
 sent_is_monitor m objects (n.Got from frame ∷ entries) mon of is = sent_is_monitor m objects entries mon (rest_of_all m objects (n.Got from frame) entries of) is
 sent_is_monitor m objects (n.Published publication ∷ entries) mon of is = sent_is_monitor m objects entries mon (rest_of_all m objects (n.Published publication) entries of) is
 sent_is_monitor m objects (n.Tuned k epsilon ∷ entries) mon of is = sent_is_monitor m objects entries mon (rest_of_all m objects (n.Tuned k epsilon) entries of) is
-sent_is_monitor m objects (n.Sent to frame ∷ entries) mon of is = elim (first_or (mon == to.0) (is_sent entries mon) is) [
+sent_is_monitor m objects (n.Sent to frame ∷ entries) mon of is = elim (or_cases (mon == to.0) (is_sent entries mon) is) [
   | inl here ↦ is_one_of m to mon (first_of_all m objects (n.Sent to frame) entries of) here
   | inr later ↦ sent_is_monitor m objects entries mon (rest_of_all m objects (n.Sent to frame) entries of) later
 ]

@@ -1,11 +1,11 @@
 -- Each story is reached by happenings.
 use Rattle.tk_frames.specs.declared.frame.Frame.TheVariants as f
 use Rattle.tk_journal.specs.declared.noted.Noted.TheVariants as n
-use Rattle.std.proofs.Common.{◌≡◌, ℕ, suc, zero, ◌+◌, ◌-◌, ◌≤◌, ◌<◌, ◌==◌, pos, Bool, true, false, not, List, [], ◌∷◌, ◌++◌, length, take, set, get_or, Option, Some, None, refl, sym, ap, ◌∙◌, subst, arith, append_assoc, append-nil, inl, inr, ◌⊎◌}
+use Rattle.std.proofs.Common.{◌≡◌, ℕ, suc, zero, ◌+◌, ◌-◌, ◌≤◌, ◌<◌, pos, Bool, true, false, not, List, [], ◌∷◌, ◌++◌, length, take, set, get_or, Option, Some, None, refl, sym, ap, ◌∙◌, subst, arith, append_assoc, append-nil, inl, inr, ◌⊎◌}
 use Rattle.std.specs.Prelude.{ℤ, unsigned_abs, slice_get, nat_lt, is_some, filter_map, IfSome, if◌then◌else◌}
 use Rattle.std.specs.List.{cons_option}
 use Rattle.std.specs.Option.{option_map}
-use Rattle.std.proofs.lemmas.Bool.{eq-eqb, false≢true, ltb-false, true≢false}
+use Rattle.std.proofs.lemmas.Bool.{eq-eqb, false≢true, ltb-false, not-false}
 use Rattle.std.proofs.lemmas.List.{length-append}
 use Rattle.std.proofs.lemmas.List.Elements.{filter_map-append}
 use Rattle.tk_base.specs.Settings.{Setup}
@@ -41,6 +41,8 @@ use Rattle.tk_journal.proofs.WholeLemmas.{turn_is}
 use Rattle.tk_world.specs.Order.{entries, events_from, events_of, first_by, first_left, go_by, go_from, left_after, of_entry, toward, trail_next}
 use Rattle.tk_world.specs.Runs.{IsDirect, RunsBy, UsesCheck, UsesDown, UsesRaise, UsesTurn, UsesUp, Walks, further, walked, walked_story, wants_answer}
 use Rattle.tk_world.proofs.WalkLemmas.{Within, answers_if, begins_beyond, Stepped, begins_inputs, begins_within, check_walks, down_walks, raise_walks, retune_walks, runs_there, up_walks}
+use Rattle.tk_world.proofs.StepLemmas.{at_end}
+use Rattle.tk_world.proofs.ReadLemmas.{direct_of, direct_none_of}
 
 -- ---- what an accepted frame says
 
@@ -62,10 +64,6 @@ kind_carries s j mon (f.Collect round asked) none = absurd (cc)
 kind_carries s j mon (f.Assign seq members changes) none = absurd (cc)
 kind_carries s j mon f.Stop none = absurd (cc)
 
-not_false : (b : Bool) → not b ≡ false → b ≡ true
-not_false true is = refl
-not_false false is = absurd (true≢false is)
-
 awaits : (b : Bool) (o : Option (ℕ × List ℕ)) (round : ℕ) → is_awaited (if b then o else None) round ≡ true → b ≡ true
 awaits true o round is = refl
 awaits false o round is = absurd (false≢true is)
@@ -74,7 +72,7 @@ values_wait : (s : Setup) (j : List Noted) (mon round seq : ℕ) (border : ℤ) 
 values_wait s j mon round seq border values none =
     let kind = accepted_kind s j mon (f.Values round seq border values) none in
     let behind = (if_none (nat_lt (assigns_sent mon j) seq) _ _ kind).1 in
-    let waited = not_false (is_awaited (waits_at mon j) round) (if_none (not (is_awaited (waits_at mon j) round)) _ _ behind).0 in
+    let waited = not-false (is_awaited (waits_at mon j) round) (if_none (not (is_awaited (waits_at mon j) round)) _ _ behind).0 in
     awaits (waits_for (last_round j) mon j) (option_map (λ asked. (last_round j, asked)) (asked_of (last_round j) mon j)) round waited
 
 -- ---- the walk never meets a frame to take that the walked journal has not sent
@@ -204,23 +202,15 @@ pub record Split (frame : Frame) (rest : List Entry) : Type 0 where
   pub is : rest ≡ answer ++ behind
   pub direct : IsDirect (wants_answer frame) answer
 
-direct_one : (wants : Bool) (a : Frame) → true ≡ wants → IsDirect wants (Sent a ∷ [])
-direct_one true a is = (a, refl)
-direct_one false a is = absurd (true≢false is)
-
-direct_none : (wants : Bool) → false ≡ wants → IsDirect wants []
-direct_none true is = absurd (false≢true is)
-direct_none false is = refl
-
 split_one : (rest : List Entry) (a : Frame) → take 1 rest ≡ Sent a ∷ [] → Rest (Sent a ∷ []) rest
 split_one [] a is = absurd (cc)
 split_one (x ∷ rest) a is = let same : x ≡ Sent a = cc in record { rest = rest; is = ap (λ q. q ∷ rest) same }
 
 pub split_answer : (setup : MonitorSetup) (trail : List Entry) (frame : Frame) (rest : List Entry) (own : Option Frame) → answer_to setup (trail ++ Took frame ∷ []) frame ≡ own → is_some own ≡ wants_answer frame → IsLegalTrail setup (trail ++ Took frame ∷ rest) → Split frame rest
-split_answer setup trail frame rest None is some legal = record { answer = []; behind = rest; is = refl; direct = direct_none (wants_answer frame) some }
+split_answer setup trail frame rest None is some legal = record { answer = []; behind = rest; is = refl; direct = direct_none_of (wants_answer frame) some }
 split_answer setup trail frame rest (Some a) is some legal =
     let r = split_one rest a (answered_at_once setup trail rest frame a legal is) in
-    record { answer = Sent a ∷ []; behind = r.rest; is = r.is; direct = direct_one (wants_answer frame) a some }
+    record { answer = Sent a ∷ []; behind = r.rest; is = r.is; direct = direct_of (wants_answer frame) a some }
 
 inside : (s : StoryView) (journal : List Noted) (trails : List (List Entry)) (mon : ℕ) → Within s journal trails → IsMonitor s.settings mon → mon - 1 < length trails
 inside s journal trails mon w m = let a = m.from_one in let b = m.within in let c = w.story.count in omega (arith, a, b, c)
@@ -308,7 +298,7 @@ record Left (trails all : List (List Entry)) : Type 0 where
   is : get_or all i [] ≡ get_or trails i [] ++ x ∷ rest
   first : (mon : ℕ) → first_left mon trails all ≡ Some (of_entry (mon + i) x)
 
-at_end_of : (xs rest : List Entry) → slice_get (xs ++ rest) (length xs) ≡ slice_get rest 0
+pub at_end_of : (xs rest : List Entry) → slice_get (xs ++ rest) (length xs) ≡ slice_get rest 0
 at_end_of [] rest = refl
 at_end_of (x ∷ xs) rest = at_end_of xs rest
 
@@ -403,15 +393,11 @@ record AtGot (s : StoryView) (journal : List Noted) (trails : List (List Entry))
   batch : List Noted
   turn : UsesTurn s journal (n.Got (record { 0 = mon }) frame) batch
 
-frames_end : (xs rest : List Frame) → slice_get (xs ++ rest) (length xs) ≡ slice_get rest 0
-frames_end [] rest = refl
-frames_end (x ∷ xs) rest = frames_end xs rest
-
 next_none : (xs ys : List Frame) → ys ≡ xs → slice_get ys (length xs) ≡ None
-next_none xs ys is = ap (λ zs. slice_get zs (length xs)) (is ∙ sym (append-nil xs)) ∙ frames_end xs []
+next_none xs ys is = ap (λ zs. slice_get zs (length xs)) (is ∙ sym (append-nil xs)) ∙ at_end xs []
 
 next_some : (xs ys rest : List Frame) (x : Frame) → ys ≡ xs ++ x ∷ rest → slice_get ys (length xs) ≡ Some x
-next_some xs ys rest x is = ap (λ zs. slice_get zs (length xs)) is ∙ frames_end xs (x ∷ rest)
+next_some xs ys rest x is = ap (λ zs. slice_get zs (length xs)) is ∙ at_end xs (x ∷ rest)
 
 at_trail : (s : StoryView) (journal : List Noted) (trails : List (List Entry)) (mon : ℕ) (frame : Frame) (more : List Frame) (rest : List Entry) → (h : AtGot s journal trails mon frame) → sent_by (walked trails mon) ≡ frames_from mon journal → trail_of s mon ≡ walked trails mon ++ rest
     → sent_by rest ≡ frame ∷ more → Onward s journal trails h.within.inputs

@@ -25,7 +25,7 @@ use Rattle.tk_world.specs.Order.{left_after, of_entry}
 use Rattle.tk_world.specs.Runs.{RunsBy, UsesCheck, UsesDown, UsesRaise, UsesTurn, UsesUp, Walks, further, walked, wants_answer, IsDirect}
 use Rattle.tk_world.specs.Serializing.{IsTurnOf, IsWalking, WhileLeft, sends, under_way, uses}
 use Rattle.tk_world.proofs.WalkLemmas.{Within, Stepped, answers_if, begins_within, check_walks, down_walks, raise_walks, retune_walks, up_walks}
-use Rattle.tk_world.proofs.SerialLemmas.{Ready, frames_behind, got_next, heads, never_stuck, ready_by, split_answer, taken_next, turn_used}
+use Rattle.tk_world.proofs.SerialLemmas.{Ready, frames_behind, got_next, heads, never_stuck, ready_by, split_answer, taken_next, turn_used, at_end_of}
 
 -- ---- what is walked
 
@@ -342,15 +342,11 @@ ready_at s places events (n.Sent to frame ∷ left) mon x rest w turn m is = abs
 ready_at s places events (n.Published publication ∷ left) mon x rest w turn m is = absurd turn
 ready_at s places events (n.Tuned k epsilon ∷ left) mon x rest w turn m is = absurd turn
 
-past : (xs rest : List Entry) → slice_get (xs ++ rest) (length xs) ≡ slice_get rest 0
-past [] rest = refl
-past (x ∷ xs) rest = past xs rest
-
 -- the entry at the place of a trail
 behind_place : (xs ys rest : List Entry) (x : Entry) → ys ≡ xs ++ rest → slice_get ys (length xs) ≡ Some x → (after : List Entry) × (ys ≡ xs ++ x ∷ after)
-behind_place xs ys [] x is found = absurd (let e : slice_get (xs ++ []) (length xs) ≡ Some x = ap (λ zs. slice_get zs (length xs)) (sym is) ∙ found in let z = past xs [] in cc)
+behind_place xs ys [] x is found = absurd (let e : slice_get (xs ++ []) (length xs) ≡ Some x = ap (λ zs. slice_get zs (length xs)) (sym is) ∙ found in let z = at_end_of xs [] in cc)
 behind_place xs ys (y ∷ rest) x is found =
-    let z = past xs (y ∷ rest) in
+    let z = at_end_of xs (y ∷ rest) in
     let e : Some y ≡ Some x = sym (ap (λ zs. slice_get zs (length xs)) is ∙ z) ∙ found in
     let same : y ≡ x = cc in
     (rest, is ∙ ap (λ (q : Entry). xs ++ q ∷ rest) same)
@@ -383,22 +379,6 @@ goes_on s places events left mon frame w =
     more_left s w.trails mon frame f.0 (get_or places (mon - 1) 0) f.1 (w.walked_to (mon - 1)) (to_send s places events left mon frame f.0 w m f.1)
 
 -- ---- at the end
-
--- with no input left it does not matter which monitor is ahead
-pub none_ahead : (s : StoryView) (places : List ℕ) (events : List Event) (ahead : ℕ) → IsWalking s places events [] ahead → IsWalking s places events [] 0
-none_ahead s places events ahead w = record {
-  whole = w.whole;
-  journal = w.journal;
-  trails = w.trails;
-  story = w.story;
-  played = w.played;
-  accepted = w.accepted;
-  fronts = w.fronts;
-  runs = w.runs;
-  count = w.count;
-  walked_to = w.walked_to;
-  heard = λ mon m. tt;
-}
 
 full : (trail whole rest : List Entry) → whole ≡ trail ++ rest → length trail ≡ length whole → trail ≡ whole
 full trail whole [] is same = sym (is ∙ append-nil trail)
@@ -439,9 +419,3 @@ next_of_rest (y ∷ xs) (suc i) x inside is = next_of_rest xs i x (omega (arith,
 -- the inputs that are left at an entry of the journal
 pub left_at : (xs : List Noted) (i : ℕ) (x : Noted) → i < length xs → x ≡ get_or xs i x → drop i xs ≡ x ∷ drop (i + 1) xs
 left_at xs i x inside is = next_of_rest xs i x inside is ∙ (let up : suc i ≡ i + 1 = omega arith in ap (λ k. x ∷ drop k xs) up)
-
-pub left_none : (xs : List Noted) (i : ℕ) → length xs ≤ i → drop i xs ≡ []
-left_none [] zero past = refl
-left_none [] (suc i) past = refl
-left_none (x ∷ xs) zero past = absurd (omega (arith, past))
-left_none (x ∷ xs) (suc i) past = left_none xs i (omega (arith, past))

@@ -5,7 +5,7 @@ use Rattle.std.proofs.Common.{◌≡◌, ℕ, suc, zero, ◌-◌, ◌&&◌, pos,
 use Rattle.std.specs.Prelude.{ℤ, nat_lt, nat_le, is_some, slice_get, if◌then◌else◌}
 use Rattle.std.specs.List.{cons_option, enumerate_from}
 use Rattle.std.specs.Option.{option_map}
-use Rattle.std.proofs.lemmas.Bool.{and_parts, cases_eq, eq-eqb, leb-true, ltb-true, ne_eqb, true≢false}
+use Rattle.std.proofs.lemmas.Bool.{and_parts, cases_eq, eq-eqb, leb-true, ltb-true, ne_eqb}
 use Rattle.std.proofs.lemmas.List.{get_or-set_same, get_or-set_other, length-set}
 use Rattle.tk_base.specs.Settings.{Setup, IsWithinLimits}
 use Rattle.tk_base.specs.declared.ids.Feeder.{Feeder}
@@ -37,6 +37,7 @@ use Rattle.tk_story.proofs.DownLemmas.{down_is_taken}
 use Rattle.tk_story.proofs.QuietLemmas.{joined, setup_is, starts_at}
 use Rattle.tk_journal.proofs.WholeLemmas.{goes_on, opened_legal, turn_is}
 use Rattle.tk_story.proofs.UpLemmas.{up_is_taken}
+use Rattle.tk_input.proofs.CountLemmas.{not_some}
 
 -- ---- fronts
 
@@ -78,10 +79,6 @@ if_none false x t e = (refl, (cc))
 pub mapped_some : {X Y : Type 0} (g : X → Y) (o : Option X) (t : Y) → option_map g o ≡ Some t → (x : X) × (o ≡ Some x) × (g x ≡ t)
 mapped_some g None t e = absurd (cc)
 mapped_some g (Some x) t e = (x, refl, (cc))
-
-not_some : {X : Type 0} (o : Option X) → is_some o ≡ false → o ≡ None
-not_some None is = refl
-not_some (Some x) is = absurd (true≢false is)
 
 pub guarded : {X : Type 0} (b : Bool) (o : Option X) (t : X) → (if b then o else None) ≡ Some t → (b ≡ true) × (o ≡ Some t)
 guarded true o t e = (refl, e)
@@ -176,7 +173,7 @@ down_step s h mon m frame next =
 
 -- ---- the journal goes on by a turn
 
-no_input : (mon : ℕ) (xs : List Noted) → inputs_of xs ≡ [] → frames_from mon xs ≡ []
+pub no_input : (mon : ℕ) (xs : List Noted) → inputs_of xs ≡ [] → frames_from mon xs ≡ []
 no_input mon [] none = refl
 no_input mon (n.Got from frame ∷ xs) none = absurd (cc)
 no_input mon (n.Sent to frame ∷ xs) none = no_input mon xs none

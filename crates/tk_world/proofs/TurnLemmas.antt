@@ -5,7 +5,7 @@ use Rattle.std.specs.Prelude.{pos, sum_by, slice_get, is_some, if◌then◌else�
 use Rattle.std.specs.List.{cons_option}
 use Rattle.std.specs.Option.{option_map}
 use Rattle.std.proofs.Math.Seq.{drop-append_seam}
-use Rattle.std.proofs.lemmas.Bool.{cases_eq, eq-eqb, ne_eqb, true≢false}
+use Rattle.std.proofs.lemmas.Bool.{cases_eq, eq-eqb, ne_eqb, true≢false, or_parts, or_cases}
 use Rattle.std.proofs.lemmas.List.{get_or-set_same, get_or-set_other, length_push, map-set, set-get_or}
 use Rattle.std.proofs.lemmas.List.Elements.{All-drop}
 use Rattle.std.proofs.lemmas.List.Sums.{sum_by-set}
@@ -35,7 +35,7 @@ use Rattle.tk_world.specs.declared.seat.Seat.{Seat}
 use Rattle.tk_world.specs.declared.work.Work.{Work}
 use Rattle.tk_world.proofs.EventLemmas.{moves}
 use Rattle.tk_world.proofs.IdleLemmas.{is_one}
-use Rattle.tk_world.proofs.RestLemmas.{none_sent, or_parts, first_or, sent_is_monitor}
+use Rattle.tk_world.proofs.RestLemmas.{none_sent, sent_is_monitor}
 use Rattle.tk_world.proofs.SeatLemmas.{inside, seat_is, trail_is}
 use Rattle.tk_world.proofs.StepLemmas.{next_is, next_is_story, turn_from}
 
@@ -70,7 +70,7 @@ turn_goes S L F j j' seats seats' raises work work' input h t adds apart =
       story = t.story;
       seats_are = t.each;
       room = h.room ∙ sym t.left;
-      within = λ q at_work. elim (first_or (has work q) (is_sent (drop (length j) j') q) (sym (adds.is q) ∙ at_work)) [
+      within = λ q at_work. elim (or_cases (has work q) (is_sent (drop (length j) j') q) (sym (adds.is q) ∙ at_work)) [
         | inl before ↦ h.within q before
         | inr now ↦ let of = sent_within S j' (length j) q t.entries now in record { from_one = of.0; within = of.1 }
       ];

@@ -1,10 +1,11 @@
 -- What each call of a world leaves, over the values that its steps leave.
 use Rattle.tk_journal.specs.declared.noted.Noted.TheVariants as n
-use Rattle.std.proofs.Common.{◌≡◌, ℕ, suc, zero, ◌+◌, ◌-◌, ◌≤◌, ◌<◌, ◌==◌, ◌&&◌, ◌||◌, ◌⊎◌, not, All, Bool, true, false, List, [], ◌∷◌, ◌++◌, length, set, get_or, drop, take, Option, Some, None, Err, refl, sym, ap, ap₂, ◌∙◌, subst, arith, inl, inr}
+use Rattle.std.proofs.Common.{◌≡◌, ℕ, ◌+◌, ◌-◌, ◌≤◌, ◌<◌, ◌==◌, ◌&&◌, ◌||◌, ◌⊎◌, not, All, Bool, true, false, List, [], ◌∷◌, ◌++◌, length, set, get_or, drop, take, Option, Some, None, refl, sym, ap, ap₂, ◌∙◌, subst, arith, inl, inr}
 use Rattle.std.specs.Prelude.{pos, slice_get, nat_le, nat_lt, if◌then◌else◌}
 use Rattle.std.proofs.Math.Bool.{and-false, and-true}
-use Rattle.std.proofs.lemmas.Bool.{and_parts, cases_eq, eq-eqb, le-ltb, leb-true, ne_eqb}
+use Rattle.std.proofs.lemmas.Bool.{and_parts, cases_eq, eq-eqb, le-ltb, leb-true, ne_eqb, or_parts}
 use Rattle.std.proofs.lemmas.List.{length-drop, set-get_or, take_all}
+use Rattle.std.proofs.lemmas.Option.{slice_get_past}
 use Rattle.tk_base.specs.Settings.{Setup, IsWithinLimits}
 use Rattle.tk_base.specs.declared.ids.Feeder.{Feeder}
 use Rattle.tk_base.specs.declared.ids.Mon.{Mon}
@@ -19,12 +20,7 @@ use Rattle.tk_journal.specs.Legal.{turn_of}
 use Rattle.tk_journal.specs.Links.{frames_from, frames_to}
 use Rattle.tk_journal.specs.Refusal.{retune_refusal_of}
 use Rattle.tk_journal.specs.declared.noted.Noted.{Noted}
-use Rattle.tk_coord.specs.Coordinator.{IsRefusal}
-use Rattle.tk_journal.specs.declared.refusal.CoordRefusal.{CoordRefusal}
-use Rattle.tk_journal.specs.declared.refusal.CoordRefusal.TheVariants.{NoMemory as NoRoomUp}
-use Rattle.tk_trail.specs.declared.refusal.MonitorRefusal.{MonitorRefusal}
-use Rattle.tk_trail.specs.declared.refusal.MonitorRefusal.TheVariants.{NoMemory as NoRoom}
-use Rattle.tk_monitor.specs.Monitored.{AnswersTake, MonitorView, checked_at}
+use Rattle.tk_monitor.specs.Monitored.{MonitorView, checked_at}
 use Rattle.tk_monitor.specs.declared.outcome.Checked.{Checked}
 use Rattle.tk_monitor.specs.declared.outcome.Checked.TheVariants.{Reported, ToldEnd, Nothing}
 use Rattle.tk_monitor.proofs.KeptLemmas.{none_when, nothing_when, reported_when, told_when}
@@ -42,7 +38,7 @@ use Rattle.tk_world.specs.World.{IsAtRest}
 use Rattle.tk_world.specs.declared.seat.Seat.{Seat}
 use Rattle.tk_world.specs.declared.work.Work.{Work}
 use Rattle.tk_world.proofs.EventLemmas.{check_goes, down_goes, raise_goes}
-use Rattle.tk_world.proofs.RestLemmas.{at_rest, no_check, no_down, no_up, not_of, or_parts, stays}
+use Rattle.tk_world.proofs.RestLemmas.{at_rest, no_check, no_down, no_up, not_of, stays}
 use Rattle.tk_world.proofs.SeatLemmas.{Works, seat_is, trail_is}
 use Rattle.tk_world.proofs.StepLemmas.{monitor_is}
 use Rattle.tk_world.proofs.TurnLemmas.{Adds, retune_goes, sent_within, up_goes, with_got}
@@ -61,11 +57,6 @@ unchanged seats i seat at = ap (set seats i) at ∙ set-get_or seats i seat
 pub rests : (S : Setup) (L : LogSet) (F : List (List ℕ)) (j : List Noted) (seats : List Seat) (raises : ℕ) (work : Work) (mon : ℕ) → Holds S L F j seats raises work → has work mon ≡ false → IsAtRest (story_in S L F j seats) mon
 rests S L F j seats raises work mon h none = at_rest (story_in S L F j seats) mon (λ m. h.resting mon m none)
 
-pub past : {X : Type 0} (xs : List X) (i : ℕ) → length xs ≤ i → slice_get xs i ≡ None
-past [] i beyond = refl
-past (x ∷ xs) zero beyond = absurd (omega arith)
-past (x ∷ xs) (suc i) beyond = past xs i (omega (arith, beyond))
-
 pub down_stays : (S : Setup) (L : LogSet) (F : List (List ℕ)) (j : List Noted) (seats : List Seat) (raises : ℕ) (work : Work) (mon : Mon) (seat : Seat) → Holds S L F j seats raises work → has work mon.0 ≡ true → seat ≡ get_or seats (mon.0 - 1) seat
     → length (frames_to mon.0 j) ≤ seat.taken → next_of (story_in S L F j seats) (Down mon) ≡ None
 down_stays S L F j seats raises work mon seat h busy at empty =
@@ -73,7 +64,7 @@ down_stays S L F j seats raises work mon seat h busy at empty =
     let m = h.within mon.0 busy in
     let is = seat_is S L F j seats raises work mon.0 seat h m at in
     let own = trail_is S L F j seats mon.0 seat h.story m at in
-    no_down s mon.0 (past (frames_to mon.0 j) (length (taken_by (trail_of s mon.0))) (let e : length (taken_by (trail_of s mon.0)) ≡ seat.taken = ap (λ (t : List Entry). length (taken_by t)) own ∙ sym is.taken in omega (arith, e, empty)))
+    no_down s mon.0 (slice_get_past (frames_to mon.0 j) (length (taken_by (trail_of s mon.0))) (let e : length (taken_by (trail_of s mon.0)) ≡ seat.taken = ap (λ (t : List Entry). length (taken_by t)) own ∙ sym is.taken in omega (arith, e, empty)))
 
 pub up_stays : (S : Setup) (L : LogSet) (F : List (List ℕ)) (j : List Noted) (seats : List Seat) (raises : ℕ) (work : Work) (mon : Mon) (seat : Seat) → Holds S L F j seats raises work → has work mon.0 ≡ true → seat ≡ get_or seats (mon.0 - 1) seat
     → length (sent_by seat.monitor.trail) ≤ seat.got → next_of (story_in S L F j seats) (Up mon) ≡ None
@@ -82,7 +73,7 @@ up_stays S L F j seats raises work mon seat h busy at empty =
     let m = h.within mon.0 busy in
     let is = seat_is S L F j seats raises work mon.0 seat h m at in
     let own = trail_is S L F j seats mon.0 seat h.story m at in
-    no_up s mon.0 (past (sent_by (trail_of s mon.0)) (length (frames_from mon.0 j)) (let e : length (sent_by (trail_of s mon.0)) ≡ length (sent_by seat.monitor.trail) = ap (λ (t : List Entry). length (sent_by t)) own in let g = is.got in omega (arith, e, g, empty)))
+    no_up s mon.0 (slice_get_past (sent_by (trail_of s mon.0)) (length (frames_from mon.0 j)) (let e : length (sent_by (trail_of s mon.0)) ≡ length (sent_by seat.monitor.trail) = ap (λ (t : List Entry). length (sent_by t)) own in let g = is.got in omega (arith, e, g, empty)))
 
 -- ---- a raise
 
@@ -236,8 +227,8 @@ check_stays S L F j seats raises work work' mon seat sent empty h busy at answer
           let got = here.got in
           record {
             due = idle;
-            down = past (frames_to mon.0 j) (length (taken_by (trail_of s mon.0))) (omega (arith, low, walked, sent_is));
-            up = past (sent_by (trail_of s mon.0)) (length (frames_from mon.0 j)) (omega (arith, high, sent_too, got));
+            down = slice_get_past (frames_to mon.0 j) (length (taken_by (trail_of s mon.0))) (omega (arith, low, walked, sent_is));
+            up = slice_get_past (sent_by (trail_of s mon.0)) (length (frames_from mon.0 j)) (omega (arith, high, sent_too, got));
           }));
     } in
     record {
@@ -280,15 +271,6 @@ few_behind S S' new now before limits same a entries = λ q is.
     let most = limits.monitors in
     let m : S'.monitors ≡ S.monitors = ap (λ (z : Setup). z.monitors) same in
     (of.0, omega (arith, of.1, most, m))
-
--- a frame that no test refuses is handed back for want of memory alone
-pub only_memory_down : (first : Option MonitorRefusal) (frame : Frame) (e : MonitorRefusal × Frame) → first ≡ None → AnswersTake first frame (Err e) → e.0 ≡ NoRoom
-only_memory_down None frame e none answer = ap (λ (x : MonitorRefusal × Frame). x.0) answer
-only_memory_down (Some refusal) frame e none answer = absurd (cc)
-
-pub only_memory_up : (first : Option CoordRefusal) (why : CoordRefusal) → first ≡ None → IsRefusal NoRoomUp first why → why ≡ NoRoomUp
-only_memory_up first why none (inl memory) = memory.0
-only_memory_up first why none (inr refused) = absurd (let e = sym none ∙ refused in cc)
 
 pub up_leaves : (S S' : Setup) (L : LogSet) (F : List (List ℕ)) (j j' : List Noted) (seats : List Seat) (raises raises' : ℕ) (work work' : Work) (mon : Mon) (seat : Seat) (frame : Frame)
     → Holds S L F j seats raises work → has work mon.0 ≡ true → seat ≡ get_or seats (mon.0 - 1) seat → slice_get (sent_by seat.monitor.trail) seat.got ≡ Some frame

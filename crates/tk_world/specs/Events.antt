@@ -29,36 +29,43 @@ begin settings logs from = record {
   trails = replicate settings.monitors [];
 }
 
--- the events of a monitor by its number
+-- the raise of the next change of a feeder, by the numbers of monitor and feeder
 abbrev pub raise_at : ℕ → ℕ → Event
 raise_at mon feeder = Raise (record { 0 = mon }) (record { 0 = feeder })
 
+-- a check of a monitor
 abbrev pub check_at : ℕ → Event
 check_at mon = Check (record { 0 = mon })
 
+-- the delivery of the next frame up from a monitor
 abbrev pub up_at : ℕ → Event
 up_at mon = Up (record { 0 = mon })
 
+-- the delivery of the next frame down to a monitor
 abbrev pub down_at : ℕ → Event
 down_at mon = Down (record { 0 = mon })
 
+-- a retune to this k and epsilon
 abbrev pub retune_at : ℕ → ℕ → Event
 retune_at k epsilon = Retune (record { k = k; epsilon = epsilon })
 
--- the next frame of each link of a monitor, if one is under way
+-- the next frame down to a monitor, if one is under way
 abbrev pub next_down : StoryView → ℕ → Option Frame
 next_down s mon = slice_get (frames_to mon s.journal) (length (taken_by (trail_of s mon)))
 
+-- the next frame up from a monitor, if one is under way
 abbrev pub next_up : StoryView → ℕ → Option Frame
 next_up s mon = slice_get (sent_by (trail_of s mon)) (length (frames_from mon s.journal))
 
--- the story with another trail of a monitor, and with one more turn of the journal
+-- the story with another trail of a monitor
 abbrev pub with_trail : StoryView → ℕ → List Entry → StoryView
 with_trail s mon trail = record s { trails = set s.trails (mon - 1) trail }
 
+-- the story with one more turn of the journal: what an input brings about
 abbrev pub with_turn : StoryView → Noted → StoryView
 with_turn s input = record s { journal = s.journal ++ turn_of s.settings s.journal input }
 
+-- whether the story has a monitor of this number
 abbrev pub is_monitor : StoryView → ℕ → Bool
 is_monitor s mon = nat_le 1 mon && nat_le mon s.settings.monitors
 

@@ -38,17 +38,19 @@ AtSeat nodes mon Fact = (d : Seat) → Fact (slice_index_or nodes.seats (mon - 1
 abbrev pub sent_to : NodesView → ℕ → ℕ
 sent_to nodes mon = length (frames_to mon nodes.coordinator.journal)
 
--- the nodes with another seat of a monitor, and with one more turn of the coordinator
+-- the nodes with another seat of a monitor
 abbrev pub with_seat : NodesView → ℕ → Seat → NodesView
 with_seat nodes mon seat = record nodes { seats = set nodes.seats (mon - 1) seat }
 
+-- the coordinator with one more turn: what an input brings about
 abbrev pub with_input : CoordinatorView → Noted → CoordinatorView
 with_input c input = record c { journal = c.journal ++ turn_of c.settings c.journal input }
 
--- a monitor that was checked, and one that took a frame
+-- a monitor that was checked
 abbrev pub checked : MonitorView → MonitorView
 checked monitor = record monitor { trail = after_check monitor.setup monitor.trail }
 
+-- a monitor that took a frame
 abbrev pub having_taken : MonitorView → Frame → MonitorView
 having_taken monitor frame = record monitor { trail = after_take monitor.setup monitor.trail frame }
 

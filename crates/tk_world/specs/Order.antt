@@ -17,14 +17,16 @@ of_entry mon (Raised g) = raise_at mon g.0
 of_entry mon (Took frame) = down_at mon
 of_entry mon (Sent frame) = check_at mon
 
--- the next entry of one monitor; of the first whose trail goes on
+-- what happens next at a monitor on the way from t to s, if its trail goes on
 abbrev pub trail_next : StoryView → StoryView → ℕ → Option Event
 trail_next s t mon = option_map (of_entry mon) (slice_get (trail_of s mon) (length (trail_of t mon)))
 
+-- what happens at a monitor whose trail goes on, or else what happens at a later one
 abbrev pub first_by : ℕ → Option Entry → Option Event → Option Event
 first_by mon None later = later
 first_by mon (Some e) later = Some (of_entry mon e)
 
+-- what happens next at the first monitor whose trail goes on, among the trails from monitor mon on
 abbrev pub first_left : ℕ → List (List Entry) → List (List Entry) → Option Event
 first_left mon [] all = None
 first_left mon (trail ∷ trails) [] = None
@@ -39,6 +41,7 @@ toward s t (n.Tuned k epsilon ∷ inputs) = Some (retune_at k (unsigned_abs epsi
 toward s t (n.Sent to frame ∷ inputs) = None
 toward s t (n.Published publication ∷ inputs) = None
 
+-- the inputs that are left after an event: a frame up or a retune uses one
 abbrev pub left_after : List Noted → Event → List Noted
 left_after inputs (Raise mon g) = inputs
 left_after inputs (Check mon) = inputs
@@ -46,21 +49,26 @@ left_after inputs (Down mon) = inputs
 left_after inputs (Up mon) = drop 1 inputs
 left_after inputs (Retune tuning) = drop 1 inputs
 
+-- the events from there on, where the event before was enabled
 abbrev pub go_from : Option StoryView → List Noted → (StoryView → List Noted → List Event) → List Event
 go_from None inputs rest = []
 go_from (Some t) inputs rest = rest t inputs
 
+-- the event that comes next, if one does, and those behind it
 abbrev pub go_by : Option Event → StoryView → List Noted → (StoryView → List Noted → List Event) → List Event
 go_by None t inputs rest = []
 go_by (Some e) t inputs rest = e ∷ go_from (next_of t e) (left_after inputs e) rest
 
+-- the events on the way from t to s, at most so many, where these inputs are left
 abbrev pub events_from : StoryView → ℕ → StoryView → List Noted → List Event
 events_from s zero t inputs = []
 events_from s (suc k) t inputs = go_by (toward s t inputs) t inputs (events_from s k)
 
+-- how many entries some trails have together
 abbrev pub entries : List (List Entry) → ℕ
 entries [] = 0
 entries (trail ∷ trails) = length trail + entries trails
 
+-- the events of a story in one order, from its beginning on
 unfoldable pub events_of : StoryView → List Event
 events_of s = events_from s (length s.journal + entries s.trails + 1) (begin s.settings s.logs s.from) (inputs_of s.journal)

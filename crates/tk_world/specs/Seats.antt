@@ -50,32 +50,37 @@ are_links_empty sent seat = nat_le sent seat.taken && nat_le (length (sent_by se
 abbrev pub is_quiet_seat : ℕ → Seat → Bool
 is_quiet_seat sent seat = are_links_empty sent seat && not (is_broken seat.monitor.setup seat.monitor.trail)
 
--- each seat of these is quiet beside a journal; one of them is not
+-- whether the seat of monitor k + 1 is quiet beside a journal
 abbrev pub is_quiet_at : List Noted → List Seat → ℕ → Seat → Bool
 is_quiet_at journal seats k d = is_quiet_seat (length (frames_to (k + 1) journal)) (slice_index_or seats k d)
 
+-- each of these seats is quiet beside a journal
 abbrev pub AreQuiet : List Noted → List Seat → Type 0
 AreQuiet journal seats = (k : ℕ) (d : Seat) → k < length seats → is_quiet_at journal seats k d ≡ true
 
+-- one of these seats is not quiet beside a journal
 abbrev pub IsOneUnquiet : List Noted → List Seat → Type 0
 IsOneUnquiet journal seats = (k : ℕ) × (d : Seat) × (k < length seats) × (is_quiet_at journal seats k d ≡ false)
 
--- nothing is on the links of a seat, and a check sends nothing there
+-- whether a check sends nothing
 abbrev pub sends_nothing : Checked → Bool
 sends_nothing Reported = false
 sends_nothing ToldEnd = false
 sends_nothing Nothing = true
 
+-- nothing is on the links of a seat, and a check sends nothing there
 abbrev pub is_resting_seat : ℕ → Seat → Bool
 is_resting_seat sent seat = are_links_empty sent seat && sends_nothing (checked_at seat.monitor.setup seat.monitor.trail)
 
--- each of these seats that is of a set rests beside a journal; one of them does not
+-- whether the seat of monitor k + 1 rests beside a journal
 abbrev pub is_resting_at : List Noted → List Seat → ℕ → Seat → Bool
 is_resting_at journal seats k d = is_resting_seat (length (frames_to (k + 1) journal)) (slice_index_or seats k d)
 
+-- each of these seats that is of a set rests beside a journal
 abbrev pub AreResting : List Noted → Work → List Seat → Type 0
 AreResting journal work seats = (k : ℕ) (d : Seat) → k < length seats → has work (k + 1) ≡ true → is_resting_at journal seats k d ≡ true
 
+-- one of these seats that is of a set does not rest beside a journal
 abbrev pub IsOneAtWork : List Noted → Work → List Seat → Type 0
 IsOneAtWork journal work seats = (k : ℕ) × (d : Seat) × (k < length seats) × (has work (k + 1) ≡ true) × (is_resting_at journal seats k d ≡ false)
 
@@ -109,5 +114,6 @@ pub record Holds (settings : Setup) (logs : LogSet) (from : List (List ℕ)) (jo
   pub resting : (mon : ℕ) → IsMonitor settings mon → has work mon ≡ false
       → IsResting (setup_of (story_in settings logs from journal seats) mon) (trail_of (story_in settings logs from journal seats) mon) journal mon
 
+-- the same of nodes
 abbrev pub HoldsWith : NodesView → LogSet → List (List ℕ) → ℕ → Work → Type 0
 HoldsWith nodes logs from raises work = Holds nodes.coordinator.settings logs from nodes.coordinator.journal nodes.seats raises work

@@ -15,12 +15,13 @@ use Rattle.tk_story.specs.Story.{IsStory, StoryView, trail_of}
 use Rattle.tk_world.specs.declared.serializing.Walk.{Walk}
 use Rattle.tk_world.specs.Runs.{RunsBy, Walks, walked, walked_story, wants_answer}
 
--- whether the event of an entry sends a frame, and how many entries it uses
+-- whether the event of an entry sends a frame
 abbrev pub sends : Entry → Bool
 sends (Raised g) = false
 sends (Took frame) = wants_answer frame
 sends (Sent frame) = true
 
+-- how many entries the event of an entry uses: a taken frame goes with its direct answer
 abbrev pub uses : Entry → ℕ
 uses (Raised g) = 1
 uses (Took frame) = if wants_answer frame then 2 else 1

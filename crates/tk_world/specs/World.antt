@@ -29,6 +29,7 @@ abbrev pub Moves : KeptStory → Event → Moved → KeptStory → Type 0
 Moves old event Yes new = (next_of old.story event ≡ Some new.story) × (new.events ≡ old.events ++ event ∷ [])
 Moves old event Idle new = (next_of old.story event ≡ None) × (new ≡ old)
 
+-- whether an event is a raise
 abbrev pub is_raise : Event → Bool
 is_raise (Raise mon feeder) = true
 is_raise (Check mon) = false

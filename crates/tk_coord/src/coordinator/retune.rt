@@ -67,7 +67,8 @@ impl Coordinator {
     /// Costs the objects times the monitors, which the Collects of that round name.
     pub fn retune(&mut self, k: u64, epsilon: u128) -> Result<(), RetuneRefusal>
         ensures ok { OnOk result (retune_refusal_of self.old.settings self.old.journal k epsilon ≡ None) }
-        ensures turn { OnOk result (self.new.journal ≡ self.old.journal ++ turn_of self.old.settings self.old.journal (Tuned k (pos epsilon))) }
+        ensures turn { OnOk result (self.new.journal
+            ≡ self.old.journal ++ turn_of self.old.settings self.old.journal (Tuned k (pos epsilon))) }
         ensures refused { IfErr result (IsRefusal NoRoomToTune (retune_refusal_of self.old.settings self.old.journal k epsilon)) }
         ensures err { IfErr result (λ _. self.new ≡ self.old) }
         ensures settings { self.new.settings ≡ self.old.settings }

@@ -43,7 +43,8 @@ impl Coordinator {
         requires monitor { mon.0 ≤ self.old.settings.monitors }
         // a frame that is refused by no test is noted with all that it brings about
         ensures ok { OnOk result (refusal_of self.old.settings self.old.journal mon.0 frame ≡ None) }
-        ensures turn { OnOk result (self.new.journal ≡ self.old.journal ++ turn_of self.old.settings self.old.journal (Got mon frame)) }
+        ensures turn { OnOk result (self.new.journal
+            ≡ self.old.journal ++ turn_of self.old.settings self.old.journal (Got mon frame)) }
         // the first test that it does not pass refuses it; want of memory, only what passes all
         ensures refused { IfErr result (λ e. IsRefusal NoRoom (refusal_of self.old.settings self.old.journal mon.0 frame) e.0) }
         ensures err { IfErr result (λ e. (e.1 ≡ frame) × (self.new ≡ self.old)) }
@@ -277,7 +278,8 @@ impl Coordinator {
         requires monitor { IsMonitor self.old.settings mon.0 }
         requires taken { refusal_of self.old.settings self.old.journal mon.0 frame ≡ None }
         requires step { IsStep self.old.settings self.old.journal mon frame step }
-        ensures ok { OnOk result (self.new.journal ≡ self.old.journal ++ turn_of self.old.settings self.old.journal (Got mon frame)) }
+        ensures ok { OnOk result (self.new.journal
+            ≡ self.old.journal ++ turn_of self.old.settings self.old.journal (Got mon frame)) }
         ensures err { IfErr result (λ e. (e.0 ≡ NoRoom) × (e.1 ≡ frame) × (self.new ≡ self.old)) }
         ensures settings { self.new.settings ≡ self.old.settings }
     {

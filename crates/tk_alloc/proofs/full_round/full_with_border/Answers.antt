@@ -16,13 +16,14 @@ use Rattle.tk_alloc.specs.Rounds.{AreValues, KeepsLevels, KeepsOwn, chosen, tota
 use Rattle.tk_alloc.specs.Terms.{parts_of}
 use Rattle.tk_alloc.proofs.AskedLemmas.{IsSet, err_so, ok_given, ok_so, ok_within, set_round, set_terms, terms_of}
 use Rattle.tk_alloc.proofs.FullLemmas.{called_order, full_ends, held_length}
-use Rattle.tk_alloc.proofs.GatheredLemmas.{IsGathered, enough, first_over, gathered_called, gathered_members, gathered_set, report_count}
+use Rattle.tk_alloc.proofs.GatheredLemmas.{IsGathered, enough, first_over, gathered_called, gathered_members, gathered_set}
 use Rattle.tk_alloc.proofs.RoundLemmas.{IsEnded, ended_keeps_levels, ended_keeps_own, ended_replaces, is_even}
 use Rattle.tk_alloc.proofs.full_round.full_with_border.Goals as goal
+use Rattle.tk_alloc.proofs.WideLemmas.{reports_count}
 
 pub bounds-reports-0 : goal.bounds-reports-0
 bounds-reports-0 c =
-    let some : 0 < length c.args.reports.now = omega (arith, report_count c.args.settings.now.monitors (objects_over c.args.reports.now) c.args.reports.now c.requires.reports, c.k-k.ensures.limits.some_monitor) in
+    let some : 0 < length c.args.reports.now = omega (arith, reports_count c.args.settings.now.monitors (objects_over c.args.reports.now) c.args.reports.now c.requires.reports, c.k-k.ensures.limits.some_monitor) in
     some
 
 pub totals-requires-clause-values : goal.totals-requires-clause-values
@@ -32,7 +33,7 @@ totals-requires-clause-values c =
     subst (λ all. All (λ (r : Reported). AreValues all r.values) c.args.reports.now) here c.requires.reports.values
 
 pub totals-requires-clause-count : goal.totals-requires-clause-count
-totals-requires-clause-count c = omega (arith, report_count c.args.settings.now.monitors (objects_over c.args.reports.now) c.args.reports.now c.requires.reports, c.k-k.ensures.limits.monitors)
+totals-requires-clause-count c = omega (arith, reports_count c.args.settings.now.monitors (objects_over c.args.reports.now) c.args.reports.now c.requires.reports, c.k-k.ensures.limits.monitors)
 
 pub pick-requires-clause-enough : goal.pick-requires-clause-enough
 pick-requires-clause-enough c =
@@ -70,7 +71,7 @@ set_before c =
 
 pub reallocated-requires : goal.reallocated-requires
 reallocated-requires c =
-    let count = report_count c.args.settings.now.monitors (objects_over c.args.reports.now) c.args.reports.now c.requires.reports in
+    let count = reports_count c.args.settings.now.monitors (objects_over c.args.reports.now) c.args.reports.now c.requires.reports in
     let limits = c.k-k.ensures.limits in
     set_terms c.args.settings.now c.args.table.now c.args.members.now (chosen c.args.settings.now c.args.members.now c.args.reports.now (objects_over c.args.reports.now)) (objects_over c.args.reports.now) c.args.reports.now c.own_weight.result (to_z w128 (of_z w128 c.args.own_border)) c.in_ok-own_values.field-0
     (set_before c) c.requires.ready limits c.promise.ensures c.requires.borders (omega (arith, count, limits.some_monitor)) (omega (arith, count, limits.monitors))

@@ -5,7 +5,8 @@ use Rattle.std.proofs.lemmas.Int.{to_z-of_z}
 use Rattle.tk_base.specs.Pairs.{objects_of}
 use Rattle.tk_alloc.specs.Resolving.{objects_over, round_border}
 use Rattle.tk_alloc.specs.declared.reported.Reported.{Reported}
-use Rattle.tk_alloc.proofs.GatheredLemmas.{first_over, report_count}
+use Rattle.tk_alloc.proofs.GatheredLemmas.{first_over}
+use Rattle.tk_alloc.proofs.WideLemmas.{reports_count}
 use Rattle.tk_journal.specs.Deciding.{full_decides}
 use Rattle.tk_coord.proofs.OutcomesLemmas.{dealt_named}
 use Rattle.tk_coord.proofs.outcomes.end_full.Goals as goal
@@ -15,7 +16,7 @@ bounds-reports-0 c =
     let settings = c.args.grounds.phase.settings in
     let reports = c.args.reports.now in
     let some = c.monitors.ensures.limits.some_monitor in
-    let count = report_count settings.monitors (objects_over reports) reports c.requires.order in
+    let count = reports_count settings.monitors (objects_over reports) reports c.requires.order in
     omega (arith, some, count)
 
 pub border_over-requires : goal.border_over-requires

@@ -1,11 +1,11 @@
 use Rattle.std.proofs.Common.{◌≡◌, ◌+◌, ◌++◌, ◌∷◌, [], map, sym, ◌∙◌, ap, arith}
 use Rattle.std.specs.List.{range_with_len}
 use Rattle.std.proofs.lemmas.List.{map-append}
-use Rattle.tk_world.proofs.RangeLemmas.{listed_more}
 use Rattle.tk_live.specs.Crew.{made_in}
 use Rattle.tk_live.specs.Made.{made_of}
 use Rattle.tk_live.proofs.HostLemmas.{gone_on}
 use Rattle.tk_live.proofs.stage.make_berths.Goals as goal
+use Rattle.tk_coord.proofs.RangeLemmas.{counted_more}
 
 pub returns-in-Err-clause-gone : goal.returns-in-Err-clause-gone
 returns-in-Err-clause-gone g c = gone_on _ _ _ c.loop-j.invariant.gone c.make_berth.ensures.gone
@@ -22,7 +22,7 @@ loop-j-preserved g c =
           ∙ map-append (λ b. made_in b.port.monitor b.version) c.loop-j.berths.items (c.in-Ok.berth ∷ [])
           ∙ ap (λ xs. xs ++ made_in c.in-Ok.berth.port.monitor c.in-Ok.berth.version ∷ []) before.made
           ∙ ap (λ x. map of_ (range_with_len 1 c.loop-j.j) ++ x ∷ []) c.in-Ok.ensures.made
-          ∙ sym (listed_more of_ c.loop-j.j);
+          ∙ sym (counted_more of_ c.loop-j.j);
       gone = gone_on _ _ _ before.gone c.make_berth.ensures.gone;
       links = c.in-Ok.ensures.links ∙ ap (λ n. n + 1) before.links;
     }

@@ -2,9 +2,10 @@ use Rattle.std.proofs.Common.{◌≡◌, ℕ, ◌<◌, ◌∙◌, List, length, 
 use Rattle.std.specs.Prelude.{replicate}
 use Rattle.std.proofs.lemmas.Bool.{cases_eq}
 use Rattle.std.proofs.lemmas.List.{length-set, length-replicate, get_or-set_same, get_or-set_other}
+use Rattle.std.proofs.lemmas.Grind.{same_number_lists}
 use Rattle.tk_input.specs.Logs.{AreParts}
 use Rattle.tk_monitor.specs.Start.{StandsAt}
-use Rattle.tk_monitor.proofs.StartLemmas.{stands_size, zero_place, zero_values, same_places}
+use Rattle.tk_monitor.proofs.StartLemmas.{stands_size, zero_place, zero_values}
 use Rattle.tk_monitor.proofs.start.start.Goals as goal
 
 pub loop-i-init : goal.loop-i-init
@@ -57,7 +58,7 @@ loop-i-preserved c =
 
 pub returns-clause-next : goal.returns-clause-next
 returns-clause-next c =
-    same_places c.loop-i.next.items c.args.from.now (omega (arith, c.loop-i.invariant.shape, c.requires.places.shape))
+    same_number_lists c.loop-i.next.items c.args.from.now (omega (arith, c.loop-i.invariant.shape, c.requires.places.shape))
     (λ q within. c.loop-i.invariant.done q (omega (arith, c.loop-i.invariant.shape, c.loop-i-test.false)))
 
 pub returns-clause-board : goal.returns-clause-board

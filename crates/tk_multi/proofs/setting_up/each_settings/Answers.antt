@@ -3,8 +3,8 @@ use Rattle.std.proofs.lemmas.Result.{err_from_is_err_and}
 use Rattle.std.proofs.lemmas.List.{drop_all, length-append}
 use Rattle.tk_multi.specs.Alone.{settings_added}
 use Rattle.tk_multi.proofs.SetLemmas.{settings_fault, settings_more}
-use Rattle.tk_multi.proofs.ThroughLemmas.{through_none}
 use Rattle.tk_multi.proofs.setting_up.each_settings.Goals as goal
+use Rattle.tk_input.proofs.ThroughLemmas.{through-none}
 
 pub loop-query-preserved : goal.loop-query-preserved
 loop-query-preserved c =
@@ -30,4 +30,4 @@ returns-in_err-settings_of-clause-err c =
 pub returns-clause-ok : goal.returns-clause-ok
 returns-clause-ok c =
     sym c.loop-query.invariant.same
-    ∙ through_none (settings_added c.args.names.now c.args.monitors) c.loop-query.list.items (drop c.loop-query.query-index c.args.queries.now) (drop_all c.loop-query.query-index c.args.queries.now c.loop-query-test.false)
+    ∙ through-none (settings_added c.args.names.now c.args.monitors) c.loop-query.list.items (drop c.loop-query.query-index c.args.queries.now) (drop_all c.loop-query.query-index c.args.queries.now c.loop-query-test.false)

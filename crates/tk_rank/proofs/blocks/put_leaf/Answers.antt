@@ -1,10 +1,11 @@
 use Rattle.std.proofs.Common.{◌≡◌, ◌≢◌, ◌∙◌, ◌+◌, ◌-◌, ◌*◌, ◌/◌, ◌<◌, min, sym, ap, subst, arith, length, map, set, get_or, None, length-set}
 use Rattle.std.specs.List.{range_with_len}
 use Rattle.std.proofs.lemmas.List.{length-map, map-set}
+use Rattle.std.proofs.lemmas.Bool.{both_ways}
 use Rattle.tk_border.specs.Levels.{greatest_of}
 use Rattle.tk_rank.specs.Blocks.{AreBlocks}
 use Rattle.tk_rank.specs.Tree.{greater, leaves_of, standing}
-use Rattle.tk_rank.proofs.BlockLemmas.{block_end, block_new, block_same, is_not, kept_blocks, put_blocks}
+use Rattle.tk_rank.proofs.BlockLemmas.{block_end, block_new, block_same, kept_blocks, put_blocks}
 use Rattle.tk_rank.proofs.NodeLemmas.{read_node}
 use Rattle.tk_rank.proofs.blocks.put_leaf.Goals as goal
 
@@ -59,7 +60,7 @@ returns-else-is_same-2-clause-blocks g c =
     let x = number c.args.number in
     let within : place < length leaves = omega (arith, c.requires.within, length-map c.args.leaves.now number) in
     let old = read_node number c.args.leaves.now place c.index-leaves-place.result c.requires.within c.index-leaves-place.is in
-    let low : x ≢ greater (get_or (leaves_of nodes) (place / 64) None) x = λ most. is_not c.is_same.result c.if-is_same.false (c.is_same.ensures.1 (most ∙ sym (c.greater.ensures ∙ ap (λ a. greater a x) c.leaf-top.ensures))) in
-    let other : get_or leaves place None ≢ get_or (leaves_of nodes) (place / 64) None = λ same. is_not c.is_same-else-is_same.result c.if-is_same-2.false (c.is_same-else-is_same.ensures.1 (old ∙ same ∙ sym c.leaf-top.ensures)) in
+    let low : x ≢ greater (get_or (leaves_of nodes) (place / 64) None) x = λ most. both_ways c.is_same.result c.if-is_same.false (c.is_same.ensures.1 (most ∙ sym (c.greater.ensures ∙ ap (λ a. greater a x) c.leaf-top.ensures))) in
+    let other : get_or leaves place None ≢ get_or (leaves_of nodes) (place / 64) None = λ same. both_ways c.is_same-else-is_same.result c.if-is_same-2.false (c.is_same-else-is_same.ensures.1 (old ∙ same ∙ sym c.leaf-top.ensures)) in
     subst (λ list. AreBlocks list nodes) (sym (map-set number c.args.leaves.now place c.args.number))
     (kept_blocks leaves nodes place x c.requires.blocks (block_same leaves nodes place x c.requires.blocks within other low))

@@ -2,8 +2,9 @@ use Rattle.std.proofs.Common.{◌≡◌, ◌∙◌, ℕ, List, Option, None, IfO
 use Rattle.tk_session.specs.Chain.{IsChainOf}
 use Rattle.tk_session.specs.declared.session_line.SessionLine.{SessionLine}
 use Rattle.tk_run.specs.Sessions.{lines_in}
-use Rattle.tk_run.proofs.SessionsLemmas.{empty_order, none_of}
+use Rattle.tk_run.proofs.SessionsLemmas.{empty_order}
 use Rattle.tk_run.proofs.sessions.tell_by.Goals as goal
+use Rattle.tk_load.proofs.RetuneLemmas.{none_of}
 
 pub returns-in-Ok : goal.returns-in-Ok
 returns-in-Ok c =

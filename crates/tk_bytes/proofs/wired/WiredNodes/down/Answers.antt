@@ -4,8 +4,9 @@ use Rattle.tk_journal.specs.Links.{frames_to}
 use Rattle.tk_world.specs.Nodes.{AtSeat, CanGoDown, GoesDown, HasSeat, NodesView}
 use Rattle.tk_world.proofs.EnabledLemmas.{on_err}
 use Rattle.tk_bytes.specs.Wired.{seen_of}
-use Rattle.tk_bytes.proofs.WiredLemmas.{comes_to, down_seen, down_wired, of_walked, stays_seen, stays_wired, walked_at, within_sent}
+use Rattle.tk_bytes.proofs.WiredLemmas.{comes_to, down_seen, down_wired, of_walked, stays_seen, stays_wired, walked_at}
 use Rattle.tk_bytes.proofs.wired.WiredNodes.down.Goals as goal
+use Rattle.tk_bytes.proofs.WayLemmas.{within_at}
 
 pub carry_down-requires-clause-line : goal.carry_down-requires-clause-line
 carry_down-requires-clause-line c =
@@ -55,7 +56,7 @@ prove-unreachable-requires c =
     let go = of_walked w.hub w.lines.items mon (CanGoDown (seen_of w.hub w.lines.items) mon) c.index_mut-walked.result.now has at (subst (λ (v : NodesView). AtSeat v mon (CanGoDown v mon)) (sym c.self.view_is) c.requires.accepted) in
     let comes = comes_to mon w.hub w.lines.items c.index_mut-walked.result.now here go in
     let fault = c.if-prove.true in
-    let below = within_sent (frames_to mon w.hub.coordinator.journal) c.index_mut-walked.result.now.taken go.frame go.next in
+    let below = within_at (frames_to mon w.hub.coordinator.journal) c.index_mut-walked.result.now.taken go.frame go.next in
     let count : c.sent.result ≡ length (frames_to mon w.hub.coordinator.journal) = c.sent.ensures ∙ ap (λ (k : CoordinatorView). length (frames_to mon k.journal)) (c.coordinator.ensures.value ∙ c.carry_down.ensures.coordinator) in
     absurd (omega (arith, fault, below, count))
 

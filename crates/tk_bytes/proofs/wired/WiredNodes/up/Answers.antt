@@ -4,8 +4,9 @@ use Rattle.tk_trail.specs.Readings.{sent_by}
 use Rattle.tk_world.specs.Nodes.{AtSeat, CanGoUp, GoesUp, HasSeat, NodesView}
 use Rattle.tk_world.proofs.EnabledLemmas.{on_err}
 use Rattle.tk_bytes.specs.Wired.{seen_of}
-use Rattle.tk_bytes.proofs.WiredLemmas.{comes_up, up_seen, up_wired, of_walked, stays_seen, stays_wired, walked_at, within_sent}
+use Rattle.tk_bytes.proofs.WiredLemmas.{comes_up, up_seen, up_wired, of_walked, stays_seen, stays_wired, walked_at}
 use Rattle.tk_bytes.proofs.wired.WiredNodes.up.Goals as goal
+use Rattle.tk_bytes.proofs.WayLemmas.{within_at}
 
 pub carry_up-requires-clause-line : goal.carry_up-requires-clause-line
 carry_up-requires-clause-line c =
@@ -55,7 +56,7 @@ prove-unreachable-requires c =
     let go = of_walked w.hub w.lines.items mon (CanGoUp (seen_of w.hub w.lines.items) mon) c.index_mut-walked.result.now has at (subst (λ (v : NodesView). AtSeat v mon (CanGoUp v mon)) (sym c.self.view_is) c.requires.accepted) in
     let comes = comes_up mon w.hub w.lines.items c.index_mut-walked.result.now here go in
     let fault = c.if-prove.true in
-    let below = within_sent (sent_by c.index_mut-walked.result.now.line.port.monitor.trail) c.index_mut-walked.result.now.got go.frame go.next in
+    let below = within_at (sent_by c.index_mut-walked.result.now.line.port.monitor.trail) c.index_mut-walked.result.now.got go.frame go.next in
     let count : c.sent.result ≡ length (sent_by c.index_mut-walked.result.now.line.port.monitor.trail) = c.sent.ensures ∙ ap (λ (m : MonitorView). length (sent_by m.trail)) (c.monitor.ensures.value ∙ c.carry_up.ensures.port) in
     absurd (omega (arith, fault, below, count))
 

@@ -7,12 +7,12 @@ use Rattle.tk_journal.specs.Legal.{inputs_of}
 use Rattle.tk_wire.specs.SureWire.{SureView}
 use Rattle.tk_world.specs.Nodes.{fresh_seat}
 use Rattle.tk_world.specs.declared.seat.Seat.{Seat}
-use Rattle.tk_world.proofs.RangeLemmas.{listed_more}
 use Rattle.tk_bytes.specs.Greeting.{AreMade}
 use Rattle.tk_bytes.specs.Wired.{seat_of}
 use Rattle.tk_bytes.specs.declared.walked.Walked.{Walked}
 use Rattle.tk_bytes.proofs.MakingLemmas.{can_join, made_more}
 use Rattle.tk_bytes.proofs.wired.making.new_lines.Goals as goal
+use Rattle.tk_coord.proofs.RangeLemmas.{counted_more}
 
 pub loop-j-init : goal.loop-j-init
 loop-j-init c =
@@ -44,7 +44,7 @@ loop-j-preserved c =
           ap (λ (ls : List Walked). map seat_of ls) c.in_ok-push.ensures.items
           ∙ map-append seat_of l.lines.items (new.field-0 ∷ [])
           ∙ ap₂ (λ (seats : List Seat) (seat : Seat). seats ++ seat ∷ []) l.invariant.seats new.ensures.seat
-          ∙ sym (listed_more of_ l.j);
+          ∙ sym (counted_more of_ l.j);
       coordinator = ap (λ (h : HubView SureView). h.coordinator) new.ensures.seats.rest ∙ l.invariant.coordinator;
     }
 

@@ -3,15 +3,15 @@ use Rattle.std.proofs.lemmas.Result.{err_from_is_err_and}
 use Rattle.tk_input.specs.declared.order.OrderFault.{OrderFault}
 use Rattle.tk_multi.specs.Order.{IsFault, MultiOrderView, line_added}
 use Rattle.tk_multi.proofs.OrderLemmas.{event_fault}
-use Rattle.tk_multi.proofs.ThroughLemmas.{through_none, through_some}
 use Rattle.tk_multi.proofs.order.MultiOrder.read.Goals as goal
+use Rattle.tk_input.proofs.ThroughLemmas.{through-none, through-some}
 
 pub loop-number-preserved : goal.loop-number-preserved
 loop-number-preserved c =
     let before : MultiOrderView = record { events = c.loop-number.events.items; lines = c.loop-number.lines.items } in
     let after : MultiOrderView = record { events = c.take_line.new.events.items; lines = c.take_line.new.lines.items } in
     record {
-      same = sym (through_some line_added before after (c.in-Some.number, c.in-Some.line.now) c.next.new.self c.loop-number.left c.in-Some.ensures.some c.in_ok-take_line.ensures.ok)
+      same = sym (through-some line_added before after (c.in-Some.number, c.in-Some.line.now) c.next.new.self c.loop-number.left c.in-Some.ensures.some c.in_ok-take_line.ensures.ok)
           ∙ c.loop-number.invariant.same;
       pairs = c.in_ok-take_line.ensures.pairs c.loop-number.invariant.pairs;
     }
@@ -27,4 +27,4 @@ returns-in_err-take_line-clause-err c =
 pub returns-clause-ok : goal.returns-clause-ok
 returns-clause-ok c =
     let before : MultiOrderView = record { events = c.loop-number.events.items; lines = c.loop-number.lines.items } in
-    sym c.loop-number.invariant.same ∙ through_none line_added before c.loop-number.left (c.next.ensures.none c.in_default.is)
+    sym c.loop-number.invariant.same ∙ through-none line_added before c.loop-number.left (c.next.ensures.none c.in_default.is)

@@ -5,15 +5,15 @@ use Rattle.std.proofs.lemmas.Result.{err_from_is_err_and}
 use Rattle.csv.specs.Records.{fields_of}
 use Rattle.tk_multi.specs.Queries.{query_added}
 use Rattle.tk_multi.proofs.QueryLemmas.{none_is, read_all, record_fault, some_is}
-use Rattle.tk_multi.proofs.ThroughLemmas.{through_some}
 use Rattle.tk_multi.proofs.queries.Queries.read.Goals as goal
+use Rattle.tk_input.proofs.ThroughLemmas.{through-some}
 
 pub loop-list-preserved : goal.loop-list-preserved
 loop-list-preserved c =
     let next : c.loop-list.rows ≡ fields_of c.next.new.row ∷ c.next.new.self =
     subst (λ (found : Bool). MatchBool found (c.loop-list.rows ≡ fields_of c.next.new.row ∷ c.next.new.self) (c.loop-list.rows ≡ [])) c.if-branch.true c.in_ok-next.ensures in
     record {
-      same = sym (through_some query_added c.loop-list.list.items c.take_query.new.list.items (fields_of c.next.new.row) c.next.new.self c.loop-list.rows next c.in_ok-take_query.ensures.ok)
+      same = sym (through-some query_added c.loop-list.list.items c.take_query.new.list.items (fields_of c.next.new.row) c.next.new.self c.loop-list.rows next c.in_ok-take_query.ensures.ok)
           ∙ c.loop-list.invariant.same;
       few = c.in_ok-take_query.ensures.few;
     }

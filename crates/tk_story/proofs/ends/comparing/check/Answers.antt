@@ -1,7 +1,7 @@
 use Rattle.std.proofs.Common.{◌≡◌, ◌+◌, length, refl, sym, ap, ◌∙◌, subst, arith, inl, inr}
 use Rattle.std.specs.Prelude.{Err, slice_get}
 use Rattle.std.proofs.lemmas.Bool.{cases_lt}
-use Rattle.std.proofs.lemmas.Option.{slice_get_read, slice_get_within}
+use Rattle.std.proofs.lemmas.Option.{slice_get_read, slice_get_within, same_Some}
 use Rattle.std.proofs.lemmas.Result.{err_from_is_err_and}
 use Rattle.tk_base.specs.Settings.{Setup}
 use Rattle.tk_trail.specs.Legal.{IsLegal}
@@ -9,7 +9,7 @@ use Rattle.tk_story.specs.Comparing.{Finds}
 use Rattle.tk_story.specs.Ends.{IsOrdered, kept_by}
 use Rattle.tk_story.specs.declared.ends.join_fault.Direction.TheVariants.{UpLink, DownLink}
 use Rattle.tk_story.specs.declared.ends.mon_end.MonEnd.{MonEnd}
-use Rattle.tk_story.proofs.JoiningLemmas.{all_ordered, before_more, some_same, down_of, tells_down, tells_up, up_of}
+use Rattle.tk_story.proofs.JoiningLemmas.{all_ordered, before_more, down_of, tells_down, tells_up, up_of}
 use Rattle.tk_story.proofs.ends.comparing.check.Goals as goal
 
 pub returns-in_err-check_up-clause-err : goal.returns-in_err-check_up-clause-err
@@ -61,7 +61,7 @@ loop-j-preserved c =
         | inl lower ↦ c.loop-j.invariant.legal k e lower is
         | inr not' ↦
             let last : j ≡ k = omega (arith, not', less) in
-            let alike : end ≡ e = some_same end e (sym at ∙ ap (slice_get ends) last ∙ is) in
+            let alike : end ≡ e = same_Some end e (sym at ∙ ap (slice_get ends) last ∙ is) in
             subst (λ (x : MonEnd). IsLegal x.monitor.setup x.monitor.trail) alike c.in_ok-check_down.ensures.legal
       ];
     }

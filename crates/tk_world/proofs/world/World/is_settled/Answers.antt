@@ -1,9 +1,9 @@
 use Rattle.std.proofs.Common.{refl, subst, sym}
+use Rattle.std.proofs.lemmas.Bool.{true_from_ne_false}
 use Rattle.tk_story.specs.Kept.{KeptStory}
 use Rattle.tk_world.specs.Events.{CanOnlyChange}
 use Rattle.tk_world.specs.Seats.{story_with}
 use Rattle.tk_world.proofs.EnabledLemmas.{all_at_rest, one_at_work}
-use Rattle.tk_world.proofs.QuietLemmas.{not_refuted}
 use Rattle.tk_world.proofs.RestLemmas.{all_rest}
 use Rattle.tk_world.proofs.SeatLemmas.{seat_count}
 use Rattle.tk_world.proofs.WorldLemmas.{rests}
@@ -31,7 +31,7 @@ returns-clause-value g c =
     let v = g.N.Nodes.seen w.nodes in (
       λ is. subst (λ (k : KeptStory). CanOnlyChange k.story) c.self.view_is
           (all_at_rest v.coordinator.settings w.logs w.from v.coordinator.journal v.seats w.diary.raises w.work c.self.invariant (c.are_at_rest.ensures.yes is)),
-      λ only. not_refuted c.are_at_rest.result (λ refused.
+      λ only. true_from_ne_false c.are_at_rest.result (λ refused.
           one_at_work v.coordinator.settings w.logs w.from v.coordinator.journal v.seats w.diary.raises w.work c.self.invariant (c.are_at_rest.ensures.some refused)
           (subst (λ (k : KeptStory). CanOnlyChange k.story) (sym c.self.view_is) only)),
     )

@@ -1,10 +1,10 @@
 use Rattle.std.proofs.Common.{◌≡◌, true, sym, subst, ◌∙◌}
-use Rattle.std.proofs.lemmas.Bool.{true≢false}
+use Rattle.std.proofs.lemmas.Bool.{true≢false, true_from_ne_false}
 use Rattle.tk_story.specs.Kept.{KeptStory}
 use Rattle.tk_story.specs.Moments.{AreMembersValid, IsQuiet}
 use Rattle.tk_story.proofs.QuietLemmas.{quiet_holds}
 use Rattle.tk_world.specs.Seats.{story_with}
-use Rattle.tk_world.proofs.QuietLemmas.{all_quiet, not_refuted, told_quiet}
+use Rattle.tk_world.proofs.QuietLemmas.{all_quiet, told_quiet}
 use Rattle.tk_world.proofs.SeatLemmas.{seat_count}
 use Rattle.tk_world.proofs.world.World.quiet.Goals as goal
 
@@ -24,7 +24,7 @@ told g c is =
 pub returns-clause-value : goal.returns-clause-value
 returns-clause-value g c = (
   λ is. subst (λ (k : KeptStory). IsQuiet k.story) c.self.view_is (told g c is),
-  λ quiet. not_refuted c.are_quiet.result (λ refused.
+  λ quiet. true_from_ne_false c.are_quiet.result (λ refused.
       let w = c.self.inside in
       let v = g.N.Nodes.seen w.nodes in
       let some = c.are_quiet.ensures.some refused in

@@ -9,11 +9,12 @@ use Rattle.tk_world.specs.Seats.{story_with}
 use Rattle.tk_coord.specs.Coordinator.{CoordinatorView}
 use Rattle.tk_journal.specs.Entries.{IsEntryOf}
 use Rattle.tk_journal.specs.Refusal.{retune_refusal_of}
-use Rattle.tk_world.proofs.EnabledLemmas.{not_there, on_err, retune_enabled, there_is}
+use Rattle.tk_world.proofs.EnabledLemmas.{on_err, retune_enabled, there_is}
 use Rattle.tk_world.proofs.NodesLemmas.{retune_goes_on, retune_with}
 use Rattle.tk_world.proofs.TurnLemmas.{retune_stays}
 use Rattle.tk_world.proofs.WorldLemmas.{Leaves, adds_behind, few_behind}
 use Rattle.tk_world.proofs.world.World.retune.Goals as goal
+use Rattle.tk_input.proofs.CountLemmas.{not_some}
 
 pub returns-then-is_some-clause-ok : goal.returns-then-is_some-clause-ok
 returns-then-is_some-clause-ok g c =
@@ -36,7 +37,7 @@ returns-in_err-reserve-clause-enabled g c =
     ∙ retune_enabled (story_with v w.logs w.from) c.args.retuning
     (ap₂ (λ (k e : ℕ). retune_refusal_of v.coordinator.settings v.coordinator.journal k e) (sym c.k-k.ensures) (sym c.epsilon-epsilon.ensures)
     ∙ sym (c.retune_refusal.ensures ∙ ap (λ (x : CoordinatorView). retune_refusal_of x.settings x.journal c.k-k.result c.epsilon-epsilon.result) c.coordinator.ensures)
-    ∙ not_there c.retune_refusal.result (sym c.is_some.ensures ∙ c.if-is_some.false)))
+    ∙ not_some c.retune_refusal.result (sym c.is_some.ensures ∙ c.if-is_some.false)))
 
 pub returns-in_err-retune-clause-enabled : goal.returns-in_err-retune-clause-enabled
 returns-in_err-retune-clause-enabled g c =
@@ -47,7 +48,7 @@ returns-in_err-retune-clause-enabled g c =
     ∙ retune_enabled (story_with v w.logs w.from) c.args.retuning
     (ap₂ (λ (k e : ℕ). retune_refusal_of v.coordinator.settings v.coordinator.journal k e) (sym c.k-k.ensures) (sym c.epsilon-epsilon.ensures)
     ∙ sym (c.retune_refusal.ensures ∙ ap (λ (x : CoordinatorView). retune_refusal_of x.settings x.journal c.k-k.result c.epsilon-epsilon.result) c.coordinator.ensures)
-    ∙ not_there c.retune_refusal.result (sym c.is_some.ensures ∙ c.if-is_some.false)))
+    ∙ not_some c.retune_refusal.result (sym c.is_some.ensures ∙ c.if-is_some.false)))
 
 -- the journal before is a front of that behind
 pub slice_bounds-insert_sent-count : goal.slice_bounds-insert_sent-count
@@ -85,7 +86,7 @@ leaves g c =
     retune_with v v' w.logs w.from w.diary.raises c.note.new.self.raises w.work c.insert_sent.new.self c.args.retuning c.k-k.result c.epsilon-epsilon.result c.self.invariant
     c.k-k.ensures c.epsilon-epsilon.ensures
     (sym (c.retune_refusal.ensures ∙ ap (λ (x : CoordinatorView). retune_refusal_of x.settings x.journal c.k-k.result c.epsilon-epsilon.result) c.coordinator.ensures)
-    ∙ not_there c.retune_refusal.result (sym c.is_some.ensures ∙ c.if-is_some.false))
+    ∙ not_some c.retune_refusal.result (sym c.is_some.ensures ∙ c.if-is_some.false))
     c.in_ok-retune.ensures.ok
     (subst (λ (x : CoordinatorView). All (IsEntryOf x.settings.monitors x.settings.objects) x.journal) c.coordinator-3.ensures c.journal.ensures.entries)
     (adds_behind v'.coordinator.journal c.journal.result.now v.coordinator.journal c.journal-before.result.now w.work c.insert_sent.new.self
