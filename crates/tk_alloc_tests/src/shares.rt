@@ -1,29 +1,35 @@
+ghost use Rattle.std.specs.Prelude.{◌<◌, ◌^◌, unsigned_abs};
+
 use tk_share::deal;
+
+/// How a leeway is dealt to three of the weight 1.
+fn dealt(leeway: i128) -> [i128; 3]
+    requires { unsigned_abs leeway < 2 ^ 122 }
+{
+    let weights: [u32; 3] = [1, 1, 1];
+    [
+        deal(leeway, &weights, 0),
+        deal(leeway, &weights, 1),
+        deal(leeway, &weights, 2),
+    ]
+}
 
 #[test]
 fn dealing_table(rt: HostRuntime) {
-    for (leeway, first, second, third) in [
-        (3, 1, 1, 1),
-        (2, 1, 1, 0),
-        (0, 0, 0, 0),
-        (-2, 0, -1, -1),
-        (-4, -1, -1, -2),
-    ] {
-        let weights: [u32; 3] = [1, 1, 1];
-        let shares = (
-            deal(leeway, &weights, 0),
-            deal(leeway, &weights, 1),
-            deal(leeway, &weights, 2),
-        );
-        assert_eq!(rt; shares, (first, second, third), "at {leeway}");
-    }
+    assert!(rt; dealt(3) == [1, 1, 1]);
+    assert!(rt; dealt(2) == [1, 1, 0]);
+    assert!(rt; dealt(0) == [0, 0, 0]);
+    assert!(rt; dealt(-2) == [0, -1, -1]);
+    assert!(rt; dealt(-4) == [-1, -1, -2]);
+}
+
+#[test]
+fn no_weight_is_dealt_nothing(rt: HostRuntime) {
     let weights: [u32; 3] = [0, 1, 1];
-    assert_eq!(rt;
-        (
-            deal(1, &weights, 0),
-            deal(1, &weights, 1),
-            deal(1, &weights, 2)
-        ),
-        (0, 1, 0)
-    );
+    let shares = [
+        deal(1, &weights, 0),
+        deal(1, &weights, 1),
+        deal(1, &weights, 2),
+    ];
+    assert!(rt; shares == [0, 1, 0]);
 }

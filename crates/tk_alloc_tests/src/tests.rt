@@ -5,8 +5,9 @@ ghost use Rattle.tk_base.specs.Pairs.{objects_of};
 ghost use Rattle.tk_rows.specs.Factors.{factor_at};
 ghost use Rattle.tk_alloc.specs.Resolving.{CanTakePart, IsReady, objects_over, round_border};
 ghost use Rattle.tk_alloc.specs.Rounds.{AreReports, IsOfSize};
-ghost use Rattle.tk_alloc_tests.specs.Pairing.{at_both};
+ghost use Rattle.tk_alloc_tests.specs.Pairing.{at_both, of_both};
 
+use crate::borders::{Shown, shown};
 use std::alloc::Global;
 use std::test::Fail;
 use tk_alloc::{
@@ -32,33 +33,34 @@ fn pairs(alloc: Global, a: i128, b: i128) -> Result<Pairs, Fail>
     Ok(pairs)
 }
 
-fn totals(alloc: Global, a: i128, b: i128, c: i128) -> Result<Pairs, Fail>
+fn totals(alloc: Global, numbers: [i128; 3]) -> Result<Pairs, Fail>
     ensures { IfOk result (λ p. length p ≡ 3) }
 {
+    let [a, b, c] = numbers;
     let list = [(Obj(1), a), (Obj(2), b), (Obj(3), c)].to_vec(alloc)?;
     let totals = Pairs::new(list)?;
     Ok(totals)
 }
 
 /// How many are picked where this one was a member, and which of the three objects.
-fn picked(alloc: Global, old: u32, k: u32, totals: &Pairs) -> Result<(usize, [bool; 3]), Fail>
+fn picked(alloc: Global, old: u32, k: u32, numbers: [i128; 3]) -> Result<Shown, Fail>
     requires some { 0 < k }
-    requires enough { k ≤ length totals.now }
+    requires enough { k ≤ 3 }
 {
+    let totals = totals(alloc, numbers)?;
     let old = set_of(alloc, old)?;
-    let set = pick(alloc, totals, &old, k)?;
-    Ok((set.len(), [1, 2, 3].map(|o| set.has(Obj(o)))))
+    let set = pick(alloc, &totals, &old, k)?;
+    Ok(shown(&set))
 }
 
 #[test]
 fn picks(rt: HostRuntime) -> Result<(), Fail> {
-    let alloc = rt.alloc();
-    let third = picked(alloc, 3, 1, &totals(alloc, 3, 3, 3)?)?;
-    assert_eq!(rt; third, (1, [false, false, true]));
-    let first_two = picked(alloc, 2, 2, &totals(alloc, 3, 3, 3)?)?;
-    assert_eq!(rt; first_two, (2, [true, true, false]));
-    let greater = picked(alloc, 1, 1, &totals(alloc, 1, 5, 5)?)?;
-    assert_eq!(rt; greater, (1, [false, true, false]));
+    let third = picked(rt.alloc(), 3, 1, [3, 3, 3])?;
+    assert!(rt; third == (1, [false, false, true]));
+    let first_two = picked(rt.alloc(), 2, 2, [3, 3, 3])?;
+    assert!(rt; first_two == (2, [true, true, false]));
+    let greater = picked(rt.alloc(), 1, 1, [1, 5, 5])?;
+    assert!(rt; greater == (1, [false, true, false]));
     Ok(())
 }
 
@@ -75,26 +77,30 @@ fn reported(alloc: Global, mon: u32, border: i128, a: i128, b: i128) -> Result<R
     })
 }
 
-fn reallocation(
-    alloc: Global,
-    member: u32,
-    own: Pairs,
-    one: Pairs,
-    two: Pairs,
-) -> Result<Reallocation, Fail>
-    ensures own { IfOk result (λ r. r.own ≡ own) }
+/// These factors of both objects at monitors 1 and 2.
+fn changes_at_both(alloc: Global, one: i128, two: i128) -> Result<Vec<MonChange>, Fail>
+    ensures { IfOk result (λ v. v.items ≡ at_both one two) }
+{
+    let one = MonChange {
+        mon: Mon(1),
+        changes: pairs(alloc, one, one)?,
+    };
+    let two = MonChange {
+        mon: Mon(2),
+        changes: pairs(alloc, two, two)?,
+    };
+    let at = vec![in alloc; one, two]?;
+    Ok(at)
+}
+
+/// The same beside a member and its own factors, which are 0.
+fn reallocation(alloc: Global, one: i128, two: i128) -> Result<Reallocation, Fail>
+    ensures own { IfOk result (λ r. r.own ≡ of_both (pos 0)) }
     ensures at { IfOk result (λ r. r.at.items ≡ at_both one two) }
 {
-    let mut at = Vec::new(alloc);
-    at.push(MonChange {
-        mon: Mon(1),
-        changes: one,
-    })?;
-    at.push(MonChange {
-        mon: Mon(2),
-        changes: two,
-    })?;
-    let members = set_of(alloc, member)?;
+    let members = set_of(alloc, 1)?;
+    let own = pairs(alloc, 0, 0)?;
+    let at = changes_at_both(alloc, one, two)?;
     Ok(Reallocation { members, own, at })
 }
 
@@ -115,9 +121,7 @@ fn settings_of(k: u64, epsilon: u128) -> Result<Settings, Fail>
 fn two(alloc: Global, first: Reported, second: Reported) -> Result<Vec<Reported>, Fail>
     ensures { IfOk result (λ v. v.items ≡ first ∷ second ∷ []) }
 {
-    let mut list = Vec::new(alloc);
-    list.push(first)?;
-    list.push(second)?;
+    let list = vec![in alloc; first, second]?;
     Ok(list)
 }
 
@@ -130,10 +134,7 @@ fn limit_table(alloc: Global) -> Result<Table, Fail>
     ensures great { IfOk result (λ t. factor_at t 1 1 ≡ pos 5192296858534827628530496329220096) }
     ensures small { IfOk result (λ t. factor_at t 2 1 ≡ negsuc 5192296858534827628530496329220095) }
 {
-    let zeros = pairs(alloc, 0, 0)?;
-    let great = pairs(alloc, LIMIT, LIMIT)?;
-    let small = pairs(alloc, -LIMIT, -LIMIT)?;
-    let change = reallocation(alloc, 1, zeros, great, small)?;
+    let change = reallocation(alloc, LIMIT, -LIMIT)?;
     let mut table = Table::new(alloc, 2, 2)?;
     table.replace(&change);
     Ok(table)
@@ -151,7 +152,7 @@ fn are_pairs(pairs: &Pairs, numbers: [i128; 2]) -> bool {
     pairs.len() == 2 && pairs.at(0) == (Obj(1), numbers[0]) && pairs.at(1) == (Obj(2), numbers[1])
 }
 
-fn is_wanted(change: &Reallocation, wanted: Wanted) -> bool {
+fn is_wanted(change: &Reallocation, wanted: &Wanted<'_>) -> bool {
     let mut same = change.members.len() == 1
         && change.members.has(Obj(wanted.member))
         && are_pairs(&change.own, wanted.own)
@@ -162,7 +163,7 @@ fn is_wanted(change: &Reallocation, wanted: Wanted) -> bool {
     same
 }
 
-fn is_found(found: Result<Reallocation, AllocFault>, wanted: Wanted) -> bool {
+fn is_found(found: Result<Reallocation, AllocFault>, wanted: &Wanted<'_>) -> bool {
     match found {
         Ok(change) => is_wanted(&change, wanted),
         Err(_) => false,
@@ -175,7 +176,7 @@ fn is_wide(
     table: &Table,
     members: &ObjSet,
     reports: &[Reported],
-    wanted: Wanted,
+    wanted: &Wanted<'_>,
 ) -> bool
     requires size { IsOfSize settings.now table.now }
     requires reports { AreReports settings.now.monitors (objects_in settings.now.objects) reports.now }
@@ -194,7 +195,7 @@ fn is_full(
     members: &ObjSet,
     reports: &[Reported],
     border: i128,
-    wanted: Wanted,
+    wanted: &Wanted<'_>,
 ) -> bool
     requires ready { IsReady settings.now table.now members.now (objects_over reports.now) }
     requires reports { AreReports settings.now.monitors (objects_over reports.now) reports.now }
@@ -204,11 +205,22 @@ fn is_full(
     let found = full(alloc, settings, table, members, reports);
     let is_first = is_found(found, wanted);
     let again = full_with_border(alloc, settings, table, members, reports, border);
-    is_first && is_found(again, wanted)
+    let is_second = is_found(again, wanted);
+    is_first && is_second
 }
 
 #[test]
 fn wide_and_full_rounds(rt: HostRuntime) -> Result<(), Fail> {
+    static WIDE: Wanted<'static> = Wanted {
+        member: 1,
+        own: [2, 1],
+        at: &[(1, [-3, 1]), (2, [1, -2])],
+    };
+    static FULL: Wanted<'static> = Wanted {
+        member: 1,
+        own: [0, 0],
+        at: &[(1, [0, 4]), (2, [0, -4])],
+    };
     let alloc = rt.alloc();
     let settings = settings_of(1, 0)?;
     let first = reported(alloc, 1, 5, 5, 0)?;
@@ -217,19 +229,10 @@ fn wide_and_full_rounds(rt: HostRuntime) -> Result<(), Fail> {
     let table = Table::new(alloc, 2, 2)?;
     let members = set_of(alloc, 1)?;
     let list = reports.as_slice();
-    let wanted = Wanted {
-        member: 1,
-        own: [2, 1],
-        at: &[(1, [-3, 1]), (2, [1, -2])],
-    };
-    assert!(rt; is_wide(alloc, &settings, &table, &members, list, wanted));
-    let wanted = Wanted {
-        member: 1,
-        own: [0, 0],
-        at: &[(1, [0, 4]), (2, [0, -4])],
-    };
+    let wide = is_wide(alloc, &settings, &table, &members, list, &WIDE);
     let border = settings.epsilon();
-    assert!(rt; is_full(alloc, &settings, &table, &members, list, border, wanted));
+    let full = is_full(alloc, &settings, &table, &members, list, border, &FULL);
+    assert!(rt; wide && full);
     Ok(())
 }
 
@@ -250,6 +253,16 @@ fn full_fault(
 
 #[test]
 fn only_a_full_round_goes_past_the_limit(rt: HostRuntime) -> Result<(), Fail> {
+    static WIDE: Wanted<'static> = Wanted {
+        member: 2,
+        own: [0, 11],
+        at: &[(1, [0, 9]), (2, [0, -20])],
+    };
+    const PAST_LIMIT: AllocFault = AllocFault::PastLimit {
+        obj: Obj(2),
+        node: 1,
+        factor: LIMIT + 9,
+    };
     let alloc = rt.alloc();
     let settings = settings_of(1, 0)?;
     let first = reported(alloc, 1, LIMIT, 0, 1)?;
@@ -258,15 +271,9 @@ fn only_a_full_round_goes_past_the_limit(rt: HostRuntime) -> Result<(), Fail> {
     let table = limit_table(alloc)?;
     let members = set_of(alloc, 1)?;
     let list = reports.as_slice();
-    let wanted = Wanted {
-        member: 2,
-        own: [0, 11],
-        at: &[(1, [0, 9]), (2, [0, -20])],
-    };
-    assert!(rt; is_wide(alloc, &settings, &table, &members, list, wanted));
-    let (obj, node, factor) = (Obj(2), 1, LIMIT + 9);
+    let wide = is_wide(alloc, &settings, &table, &members, list, &WIDE);
     let fault = full_fault(alloc, &settings, &table, &members, list);
-    assert!(rt; fault == Some(AllocFault::PastLimit { obj, node, factor }));
+    assert!(rt; wide && fault == Some(PAST_LIMIT));
     Ok(())
 }
 
@@ -278,7 +285,7 @@ fn is_short(
     members: &ObjSet,
     report: &Reported,
     border: i128,
-    wanted: Wanted,
+    wanted: &Wanted<'_>,
 ) -> bool
     requires ready { IsReady settings.now table.now members.now (objects_of report.now.values) }
     requires report { CanTakePart table.now members.now (objects_of report.now.values) report.now }
@@ -290,25 +297,27 @@ fn is_short(
     let found = short(alloc, settings, table, members, report);
     let is_first = is_found(found, wanted);
     let again = short_with_border(alloc, settings, table, members, report, border);
-    is_first && is_found(again, wanted)
+    let is_second = is_found(again, wanted);
+    is_first && is_second
 }
 
 #[test]
 fn short_round(rt: HostRuntime) -> Result<(), Fail> {
+    static SHORT: Wanted<'static> = Wanted {
+        member: 1,
+        own: [0, 4],
+        at: &[(2, [0, -4])],
+    };
     let alloc = rt.alloc();
     let near = settings_of(1, 4)?;
     let far = settings_of(1, 2)?;
     let report = reported(alloc, 2, 0, 0, 3)?;
     let table = Table::new(alloc, 2, 2)?;
     let members = set_of(alloc, 1)?;
-    assert!(rt; !short_test(&far, &table, &members, &report));
-    let wanted = Wanted {
-        member: 1,
-        own: [0, 4],
-        at: &[(2, [0, -4])],
-    };
+    let passes = short_test(&far, &table, &members, &report);
     // No object is left out, so the border is the member's own factor, which is 0, and epsilon.
     let border = near.epsilon();
-    assert!(rt; is_short(alloc, &near, &table, &members, &report, border, wanted));
+    let is_found = is_short(alloc, &near, &table, &members, &report, border, &SHORT);
+    assert!(rt; !passes && is_found);
     Ok(())
 }

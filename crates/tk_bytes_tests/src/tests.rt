@@ -35,15 +35,21 @@ struct Input {
     ghost runs: { CanRun settings logs from },
 }
 
+/// The logs of a row.
+fn logs_of(alloc: Global, row: Row<'_>) -> Option<Logs> {
+    let names = Catalog::read(alloc, b"a\nb\n").ok()?;
+    let objects = names.len() as u32;
+    let first = Part::read(alloc, row.one, &names).ok();
+    let second = Part::read(alloc, row.two, &names).ok();
+    drop(names);
+    let parts = vec![in alloc; (Mon(1), first?), (Mon(2), second?)].ok()?;
+    Logs::new(alloc, parts, objects).ok()
+}
+
 /// What worlds of a row are made of.
 fn input_of(alloc: Global, row: Row<'_>) -> Option<Input> {
-    let names = Catalog::read(alloc, b"a\nb\n").ok()?;
-    let first = Part::read(alloc, row.one, &names).ok()?;
-    let second = Part::read(alloc, row.two, &names).ok()?;
-    let parts = vec![in alloc; (Mon(1), first), (Mon(2), second)].ok()?;
-    let logs = Logs::new(alloc, parts, names.len() as u32).ok()?;
-    let objects = u64::from(logs.objects());
-    let settings = Settings::new(1, row.epsilon, 1, objects, u64::from(logs.monitors())).ok()?;
+    let settings = Settings::new(1, row.epsilon, 1, 2, 2).ok()?;
+    let logs = logs_of(alloc, row)?;
     if settings.objects() != logs.objects() || settings.monitors() != logs.monitors() {
         return None;
     }
@@ -63,14 +69,16 @@ fn is_driven<N: Nodes>(alloc: Global, world: &mut World<N>, order: &[u8]) -> boo
     }
 }
 
-/// The story of an order that is driven to its end. Worlds and stories are dropped by name, since each place that drops one
-/// by itself is dear to prove.
+/// The story of a world that an order drives to its end. A world ends here in any case, and stories are dropped by name, since
+/// each place that drops one by itself is dear to prove.
 fn driven<N: Nodes + Drop>(alloc: Global, world: World<N>, order: &[u8]) -> Option<Story> {
     let mut world = world;
-    if is_driven(alloc, &mut world, order) {
-        world.into_story().ok()
+    let is_driven = is_driven(alloc, &mut world, order);
+    let story = world.into_story().ok()?;
+    if is_driven {
+        Some(story)
     } else {
-        drop(world);
+        drop(story);
         None
     }
 }

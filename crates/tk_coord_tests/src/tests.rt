@@ -6,7 +6,6 @@ mod retune;
 mod worked_rounds;
 
 use std::alloc::Global;
-use std::test::Fail;
 use tk_base::{Mon, Obj, ObjSet, Pairs, Places, Settings};
 use tk_coord::{CoordRefusal, Coordinator};
 use tk_frames::Frame;
@@ -23,31 +22,37 @@ enum Said<'a> {
     Values(u64, u64, i128, &'a [(u32, i128)]),
     /// A Settled's sequence number, whether it is the last, and its places.
     Settled(u64, bool, &'a [u32]),
+    /// A Hello of this monitor.
+    Hello(u32),
+    Stop,
 }
+
+/// A monitor, and what it says.
+type Turn<'a> = (u32, Said<'a>);
+
+/// The same, and what is answered to it.
+type Case<'a> = (u32, Said<'a>, Result<(), CoordRefusal>);
 
 /// A coordinator of the objects a and b, with k 1.
-fn coordinator(alloc: Global, monitors: u64, epsilon: u128) -> Result<Coordinator, Fail> {
-    let settings = Settings::new(1, epsilon, 1, 2, monitors)?;
-    let c = Coordinator::new(alloc, settings)?;
-    Ok(c)
+fn coordinator(alloc: Global, monitors: u64, epsilon: u128) -> Option<Coordinator> {
+    let settings = Settings::new(1, epsilon, 1, 2, monitors).ok()?;
+    Coordinator::new(alloc, settings).ok()
 }
 
-fn set(alloc: Global, numbers: &[u32]) -> Result<ObjSet, Fail> {
+fn set(alloc: Global, numbers: &[u32]) -> Option<ObjSet> {
     let mut list = Vec::new(alloc);
     for number in numbers {
-        list.push(Obj(*number))?;
+        list.push(Obj(*number)).ok()?;
     }
-    let set = ObjSet::new(list)?;
-    Ok(set)
+    ObjSet::new(list).ok()
 }
 
-fn pairs(alloc: Global, numbers: &[(u32, i128)]) -> Result<Pairs, Fail> {
+fn pairs(alloc: Global, numbers: &[(u32, i128)]) -> Option<Pairs> {
     let mut list = Vec::new(alloc);
     for (o, number) in numbers {
-        list.push((Obj(*o), *number))?;
+        list.push((Obj(*o), *number)).ok()?;
     }
-    let pairs = Pairs::new(list)?;
-    Ok(pairs)
+    Pairs::new(list).ok()
 }
 
 fn report(
@@ -56,10 +61,10 @@ fn report(
     border: i128,
     failed: &[u32],
     values: &[(u32, i128)],
-) -> Result<Frame, Fail> {
+) -> Option<Frame> {
     let failed = set(alloc, failed)?;
     let values = pairs(alloc, values)?;
-    Ok(Frame::Report {
+    Some(Frame::Report {
         seq,
         border,
         failed,
@@ -73,9 +78,9 @@ fn values(
     seq: u64,
     border: i128,
     values: &[(u32, i128)],
-) -> Result<Frame, Fail> {
+) -> Option<Frame> {
     let values = pairs(alloc, values)?;
-    Ok(Frame::Values {
+    Some(Frame::Values {
         round,
         seq,
         border,
@@ -83,62 +88,78 @@ fn values(
     })
 }
 
-fn settled(alloc: Global, seq: u64, last: bool, places: &[u32]) -> Result<Frame, Fail> {
-    let list = places.to_vec(alloc)?;
-    let places = Places::new(list);
-    Ok(Frame::Settled { seq, last, places })
+fn settled(alloc: Global, seq: u64, last: bool, places: &[u32]) -> Option<Frame> {
+    let places = Places::new(places.to_vec(alloc).ok()?);
+    Some(Frame::Settled { seq, last, places })
 }
 
-fn frame(alloc: Global, said: Said<'_>) -> Result<Frame, Fail> {
+fn hello(mon: u32) -> Frame {
+    Frame::Hello {
+        run: 1,
+        version: 1,
+        mon: Mon(mon),
+    }
+}
+
+fn frame(alloc: Global, said: Said<'_>) -> Option<Frame> {
     match said {
         Said::Report(seq, border, failed, shown) => report(alloc, seq, border, failed, shown),
         Said::Values(round, seq, border, shown) => values(alloc, round, seq, border, shown),
         Said::Settled(seq, last, places) => settled(alloc, seq, last, places),
+        Said::Hello(mon) => Some(hello(mon)),
+        Said::Stop => Some(Frame::Stop),
     }
 }
 
-/// Takes a frame of a monitor, and answers why not where it is refused.
-fn taken(c: &mut Coordinator, mon: u32, frame: Frame) -> Result<Option<CoordRefusal>, Fail> {
+/// What a coordinator answers to a frame of a monitor, if there is such a monitor.
+fn taken(c: &mut Coordinator, mon: u32, frame: Frame) -> Option<Result<(), CoordRefusal>> {
     if mon == 0 || mon > c.settings().monitors() {
-        return Err("no such monitor")?;
+        return None;
     }
     match c.take(Mon(mon), frame) {
-        Ok(()) => Ok(None),
-        Err((refusal, _)) => Ok(Some(refusal)),
+        Ok(()) => Some(Ok(())),
+        Err((refusal, frame)) => {
+            drop(frame);
+            Some(Err(refusal))
+        }
     }
 }
 
-/// What the coordinator answers to each of these in turn.
-fn refusal(
+/// What it answers to this.
+fn answer(
     alloc: Global,
     c: &mut Coordinator,
     mon: u32,
     said: Said<'_>,
-) -> Result<Option<CoordRefusal>, Fail> {
+) -> Option<Result<(), CoordRefusal>> {
     let frame = frame(alloc, said)?;
     taken(c, mon, frame)
 }
 
-/// Takes these in turn, none of which any test refuses.
-fn play(alloc: Global, c: &mut Coordinator, turns: &[(u32, Said<'_>)]) -> Result<(), Fail> {
+/// Whether it takes these in turn.
+fn takes(alloc: Global, c: &mut Coordinator, turns: &[Turn<'_>]) -> bool {
     for (mon, said) in turns {
-        match refusal(alloc, c, *mon, *said)? {
-            None => (),
-            Some(_) => return Err("refused")?,
+        if answer(alloc, c, *mon, *said) != Some(Ok(())) {
+            return false;
         }
     }
-    Ok(())
+    true
 }
 
-/// What was shown of a coordinator that ends here. Tests end one here alone, since each place that may drop one is dear to
-/// prove.
-fn ended<T: Drop>(c: Coordinator, shown: Result<T, Fail>) -> Result<T, Fail> {
-    drop(c);
-    shown
+/// Whether it answers so to each of these in turn.
+fn answers(alloc: Global, c: &mut Coordinator, cases: &[Case<'_>]) -> bool {
+    for (mon, said, wanted) in cases {
+        if answer(alloc, c, *mon, *said) != Some(*wanted) {
+            return false;
+        }
+    }
+    true
 }
 
 /// The factors of an object: the coordinator's own, and those of two monitors.
-fn factors(c: &Coordinator, o: u32) -> Option<(i128, i128, i128)> {
+type Factors = Option<(i128, i128, i128)>;
+
+fn factors(c: &Coordinator, o: u32) -> Factors {
     let settings = c.settings();
     if o == 0 || o > settings.objects() || settings.monitors() < 2 {
         return None;
@@ -158,4 +179,68 @@ fn own(c: &Coordinator) -> Option<(i128, i128)> {
 /// Whether an object is a member.
 fn leads(c: &Coordinator, o: u32) -> bool {
     c.members().has(Obj(o))
+}
+
+/// What stands at a coordinator of a and b.
+#[derive(Clone, Copy)]
+struct Standing {
+    /// How many entries its journal has.
+    entries: usize,
+    /// Whether no round is open.
+    idle: bool,
+    /// Its own factors of a and of b.
+    own: Option<(i128, i128)>,
+    /// Those of two monitors beside its own, of a and of b.
+    factors: (Factors, Factors),
+    /// Whether b leads.
+    leads: bool,
+}
+
+fn seen(c: &Coordinator) -> Standing {
+    Standing {
+        entries: c.journal().len(),
+        idle: c.idle(),
+        own: own(c),
+        factors: (factors(c, 1), factors(c, 2)),
+        leads: leads(c, 2),
+    }
+}
+
+/// What stands at a coordinator that takes these turns and then answers so to those cases.
+fn seen_after(
+    alloc: Global,
+    c: &mut Coordinator,
+    turns: &[Turn<'_>],
+    cases: &[Case<'_>],
+) -> Option<Standing> {
+    if !takes(alloc, c, turns) || !answers(alloc, c, cases) {
+        return None;
+    }
+    Some(seen(c))
+}
+
+/// The same of one that ends here. Tests end one here where they can, since each place that drops one is dear to prove.
+fn last_seen(
+    alloc: Global,
+    c: Coordinator,
+    turns: &[Turn<'_>],
+    cases: &[Case<'_>],
+) -> Option<Standing> {
+    let mut c = c;
+    let seen = seen_after(alloc, &mut c, turns, cases);
+    drop(c);
+    seen
+}
+
+/// The same, if there is one.
+fn after(
+    alloc: Global,
+    c: Option<Coordinator>,
+    turns: &[Turn<'_>],
+    cases: &[Case<'_>],
+) -> Option<Standing> {
+    match c {
+        Some(c) => last_seen(alloc, c, turns, cases),
+        None => None,
+    }
 }

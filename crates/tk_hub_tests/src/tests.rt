@@ -1,6 +1,6 @@
 //! Connections in plain bytes, and what a hub of run 5 makes of them, over two monitors and the objects a and b, with k 1.
 
-ghost use Rattle.std.specs.Prelude.{◌≡◌, ◌≤◌, IfOk, IfSome, true};
+ghost use Rattle.std.specs.Prelude.{◌≡◌, ◌≤◌, IfOk, IfSome, length, true};
 ghost use Rattle.tk_hub.specs.declared.course.Course.TheVariants as on;
 ghost use Rattle.tk_hub.specs.Visitor.{IsUnused};
 
@@ -11,7 +11,7 @@ use tk_coord::{CoordRefusal, Coordinator};
 use tk_frames::{BadFrame, Frame, Kind};
 use tk_hub::{Admitted, Hub, HubTurn, an_opening_has_no_input};
 use tk_input::{Catalog, VecSink};
-use tk_story::{CoordEnd, Received};
+use tk_story::Received;
 use tk_wire::{Pipe, PipeWire, Piped, Pushed, Wire};
 
 /// A length that no Hello has.
@@ -90,14 +90,21 @@ fn came(bytes: &[u8]) -> Connection<'_> {
     }
 }
 
+/// A wire of such a connection before its bytes.
+fn empty_wire(alloc: Global, came: Connection<'_>) -> Option<PipeWire>
+    ensures { IfSome result (λ wire. IsUnused true wire.traffic) }
+{
+    let fails = vec![in alloc; came.fails].ok()?;
+    let piece = if came.is_slow { 1 } else { 64 };
+    PipeWire::new(alloc, 256, piece, fails).ok()
+}
+
 /// A wire of such a connection.
 fn wire(alloc: Global, came: Connection<'_>) -> Option<PipeWire>
     ensures { IfSome result (λ wire. IsUnused true wire.traffic) }
 {
     let mut pipe = Pipe::new(alloc, 256).ok()?;
-    let fails = vec![in alloc; came.fails].ok()?;
-    let piece = if came.is_slow { 1 } else { 64 };
-    let mut wire = PipeWire::new(alloc, 256, piece, fails).ok()?;
+    let mut wire = empty_wire(alloc, came)?;
     pipe.put(came.bytes);
     for _ in 0..came.bytes.len() {
         wire.fill(&mut pipe);
@@ -130,34 +137,39 @@ fn let_in(hub: &mut Hub<PipeWire>, alloc: Global, came: Connection<'_>) -> Optio
     hub.admit(wire).ok()
 }
 
-/// What two turns answer, and whether they wrote this.
-fn two_turns(
-    hub: &mut Hub<PipeWire>,
-    alloc: Global,
-    text: &[u8],
-) -> Option<(HubTurn, HubTurn, bool)>
+/// What two turns answer, and whether they wrote this; none where the first one cannot write.
+type Turns = Option<(HubTurn, HubTurn, bool)>;
+
+fn both_turns(hub: &mut Hub<PipeWire>, names: &Catalog, out: &mut VecSink, text: &[u8]) -> Turns
     requires course { hub.old.course ≡ on.Open }
-    requires objects { hub.old.coordinator.settings.objects ≤ 2 }
+    requires named { hub.old.coordinator.settings.objects ≤ length names.now }
 {
-    let names = Catalog::read(alloc, b"a\nb\n").ok()?;
-    let mut out = VecSink::new(alloc, 64, Vec::new(alloc)).ok()?;
-    if names.len() < 2 {
-        return None;
-    }
-    let first = hub.turn(&names, &mut out);
+    let first = hub.turn(names, out);
     if first == HubTurn::WriteFailed {
         return None;
     }
-    let second = hub.turn(&names, &mut out);
-    Some((first, second, out.written() == text))
+    Some((first, hub.turn(names, out), out.written() == text))
+}
+
+/// The same with names and a sink of their own.
+fn two_turns(hub: &mut Hub<PipeWire>, alloc: Global, text: &[u8]) -> Turns
+    requires course { hub.old.course ≡ on.Open }
+    requires objects { hub.old.coordinator.settings.objects ≤ 2 }
+{
+    let mut out = VecSink::new(alloc, 64, Vec::new(alloc)).ok()?;
+    let names = Catalog::read(alloc, b"a\nb\n").ok()?;
+    let turns = if names.len() < 2 {
+        None
+    } else {
+        both_turns(hub, &names, &mut out, text)
+    };
+    drop(names);
+    drop(out);
+    turns
 }
 
 /// Lets one connection in, and answers what two turns do over it.
-fn over_one(
-    hub: &mut Hub<PipeWire>,
-    alloc: Global,
-    came: Connection<'_>,
-) -> Option<(HubTurn, HubTurn, bool)>
+fn over_one(hub: &mut Hub<PipeWire>, alloc: Global, came: Connection<'_>) -> Turns
     requires course { hub.old.course ≡ on.Open }
     requires objects { hub.old.coordinator.settings.objects ≤ 2 }
 {
@@ -173,122 +185,127 @@ fn taken(wires: &[PipeWire]) -> Option<u64> {
     }
 }
 
-/// What is seen of a hub: what two turns answered and whether they wrote nothing, how many were strangers, what was not
-/// taken, and how many bytes the only wire that was admitted took.
-#[derive(Drop)]
-struct Seen {
-    turns: Option<(HubTurn, HubTurn, bool)>,
-    strangers: u64,
-    odd: Option<(Mon, Received)>,
-    taken: Option<u64>,
+/// What a hub does not take: a Hello of a run, a version and a monitor, the kind of a payload, or anything else.
+#[derive(Clone, Copy, Debug, PartialEq)]
+enum Odd {
+    Hello(u64, u8, Mon),
+    Kind(u8),
+    Else,
 }
+
+fn odd_of(received: &Received) -> Odd {
+    match received {
+        Received::Frame(Frame::Hello { run, version, mon }) => Odd::Hello(*run, *version, *mon),
+        Received::Bytes(bytes) => match bytes.as_slice() {
+            [kind] => Odd::Kind(*kind),
+            _ => Odd::Else,
+        },
+        _ => Odd::Else,
+    }
+}
+
+/// What was not taken, and of which monitor.
+type Left = Option<(Mon, Odd)>;
 
 /// What a hub leaves that it did not take, and how many bytes its only wire took. Hubs are dropped by calls of `drop` alone,
 /// since each place that drops one by itself is dear to prove.
-fn left_by(hub: Hub<PipeWire>) -> (Option<(Mon, Received)>, Option<u64>) {
+fn left_by(hub: Hub<PipeWire>) -> (Left, Option<u64>) {
     let (end, wires) = hub.into_end();
     let taken = taken(&wires);
     drop(wires);
-    let CoordEnd {
-        coordinator,
-        odd,
-        ..
-    } = end;
-    drop(coordinator);
-    (odd, taken)
+    let left = match &end.odd {
+        Some((mon, received)) => Some((*mon, odd_of(received))),
+        None => None,
+    };
+    drop(end);
+    (left, taken)
 }
 
-/// What is seen of a hub to which one connection came.
-fn seen_of(alloc: Global, came: Connection<'_>) -> Result<Seen, Fail> {
+/// What two turns of a hub answer and whether they write nothing, how many were strangers, and how many bytes the only wire
+/// that was admitted took.
+type Played = (Turns, u64, Option<u64>);
+
+/// These of a hub to which one connection came, and what is left of that.
+fn seen_of(alloc: Global, came: Connection<'_>) -> Result<(Played, Left), Fail> {
     let mut hub = hub(alloc)?;
     let turns = over_one(&mut hub, alloc, came);
     let strangers = hub.strangers();
     hub.halt();
-    let (odd, taken) = left_by(hub);
-    Ok(Seen {
-        turns,
-        strangers,
-        odd,
-        taken,
-    })
+    let (left, taken) = left_by(hub);
+    Ok(((turns, strangers, taken), left))
 }
 
-/// What two turns answer that write nothing, how many were strangers, and how many bytes the only wire took.
-fn played(
+/// These of a hub for each of four connections.
+fn played_each(
     alloc: Global,
-    came: Connection<'_>,
-) -> Result<(HubTurn, HubTurn, u64, Option<u64>), Fail> {
-    let seen = seen_of(alloc, came)?;
-    match seen.turns {
-        Some((first, second, true)) => Ok((first, second, seen.strangers, seen.taken)),
-        _ => Err("no two turns that write nothing")?,
-    }
+    first: Connection<'_>,
+    second: Connection<'_>,
+    third: Connection<'_>,
+    fourth: Connection<'_>,
+) -> Result<[Played; 4], Fail> {
+    let (first, _) = seen_of(alloc, first)?;
+    let (second, _) = seen_of(alloc, second)?;
+    let (third, _) = seen_of(alloc, third)?;
+    let (fourth, _) = seen_of(alloc, fourth)?;
+    Ok([first, second, third, fourth])
 }
 
 #[test]
 fn strangers_are_closed_and_counted(rt: HostRuntime) -> Result<(), Fail> {
-    let alloc = rt.alloc();
-    let turned_away = (HubTurn::Quiet, HubTurn::Quiet, 1, None);
-    assert_eq!(rt; played(alloc, came(&LONG))?, turned_away);
-    assert_eq!(rt; played(alloc, came(&HELLO_OF_3))?, turned_away);
-    assert_eq!(rt; played(alloc, came(&HELLO_IN_3))?, turned_away);
-    assert_eq!(rt; played(alloc, came(&HELLO_TO_6))?, turned_away);
+    let played = played_each(
+        rt.alloc(),
+        came(&LONG),
+        came(&HELLO_OF_3),
+        came(&HELLO_IN_3),
+        came(&HELLO_TO_6),
+    )?;
+    let turns = Some((HubTurn::Quiet, HubTurn::Quiet, true));
+    assert_eq!(rt; played, [(turns, 1, None); 4]);
     Ok(())
 }
 
 /// A hub that monitor 2 closed, by so many bytes.
-fn closed(turn: HubTurn, taken: u64) -> (HubTurn, HubTurn, u64, Option<u64>) {
-    (turn, turn, 0, Some(taken))
+fn closed(turn: HubTurn, taken: u64) -> Played {
+    (Some((turn, turn, true)), 0, Some(taken))
 }
 
 #[test]
 fn what_is_wrong_behind_a_hello_closes_the_hub(rt: HostRuntime) -> Result<(), Fail> {
-    let alloc = rt.alloc();
-    let hello = HubTurn::Refused(Mon(2), CoordRefusal::NotForCoordinator(Kind::Hello));
-    let kind = HubTurn::Bad(Mon(2), BadFrame::BadKind { kind: 9 });
-    let why = CoordRefusal::BadBorder {
-        border: 1,
-        least: 0,
-    };
-    let border = HubTurn::Refused(Mon(2), why);
     let cut_off = Connection {
         has_ended: true,
         ..came(&SETTLED[..28])
     };
-    assert_eq!(rt; played(alloc, came(&TWICE))?, closed(hello, 36));
-    assert_eq!(rt; played(alloc, came(&NO_KIND))?, closed(kind, 23));
-    assert_eq!(rt; played(alloc, came(&BORDER_1))?, closed(border, 99));
-    assert_eq!(rt; played(alloc, cut_off)?, closed(HubTurn::Failed, 28));
+    let played = played_each(
+        rt.alloc(),
+        came(&TWICE),
+        came(&NO_KIND),
+        came(&BORDER_1),
+        cut_off,
+    )?;
+    let hello = CoordRefusal::NotForCoordinator(Kind::Hello);
+    let border = CoordRefusal::BadBorder {
+        border: 1,
+        least: 0,
+    };
+    let wanted = [
+        closed(HubTurn::Refused(Mon(2), hello), 36),
+        closed(HubTurn::Bad(Mon(2), BadFrame::BadKind { kind: 9 }), 23),
+        closed(HubTurn::Refused(Mon(2), border), 99),
+        closed(HubTurn::Failed, 28),
+    ];
+    assert_eq!(rt; played, wanted);
     Ok(())
-}
-
-/// Whether this frame of monitor 2 was not taken, where these bytes came.
-fn leaves_frame(alloc: Global, bytes: &[u8], wanted: &Frame) -> Result<bool, Fail> {
-    match seen_of(alloc, came(bytes))?.odd {
-        Some((Mon(2), Received::Frame(frame))) => Ok(frame == *wanted),
-        _ => Ok(false),
-    }
-}
-
-/// Whether these bytes of monitor 2, which are no frame, were not taken.
-fn leaves_bytes(alloc: Global, bytes: &[u8], wanted: &[u8]) -> Result<bool, Fail> {
-    match seen_of(alloc, came(bytes))?.odd {
-        Some((Mon(2), Received::Bytes(odd))) => Ok(odd.as_slice() == wanted),
-        _ => Ok(false),
-    }
 }
 
 #[test]
 fn what_was_not_taken_is_left_at_the_end(rt: HostRuntime) -> Result<(), Fail> {
-    let hello = Frame::Hello {
-        run: 5,
-        version: 1,
-        mon: Mon(2),
-    };
-    let is_left = leaves_frame(rt.alloc(), &TWICE, &hello)?;
-    assert!(rt; is_left);
-    let is_left = leaves_bytes(rt.alloc(), &NO_KIND, &[9])?;
-    assert!(rt; is_left);
+    let (_, twice) = seen_of(rt.alloc(), came(&TWICE))?;
+    let (_, kind) = seen_of(rt.alloc(), came(&NO_KIND))?;
+    let hello = Odd::Hello(5, 1, Mon(2));
+    assert_eq!(rt;
+        (twice, kind),
+        (Some((Mon(2), hello)), Some((Mon(2), Odd::Kind(9))))
+    );
     Ok(())
 }
 
@@ -304,15 +321,21 @@ fn failing(call: u64) -> Connection<'static>
     }
 }
 
+/// The first such call whose failure is not the answer of both turns, up to the call 21.
+fn first_late(alloc: Global) -> Result<u64, Fail> {
+    for call in 1..21 {
+        let (played, _) = seen_of(alloc, failing(call))?;
+        if played != closed(HubTurn::Failed, 18) {
+            return Ok(call);
+        }
+    }
+    Ok(21)
+}
+
 #[test]
 fn a_failed_call_is_answered_at_every_turn(rt: HostRuntime) -> Result<(), Fail> {
-    for call in 1..21 {
-        assert_eq!(rt;
-            played(rt.alloc(), failing(call))?,
-            closed(HubTurn::Failed, 18),
-            "{call}"
-        );
-    }
+    let late = first_late(rt.alloc())?;
+    assert_eq!(rt; late, 21);
     Ok(())
 }
 
@@ -383,10 +406,10 @@ fn finished(
     requires course { hub.old.course ≡ on.Open }
     requires objects { hub.old.coordinator.settings.objects ≤ 2 }
 {
-    let mut pipe = Pipe::new(alloc, 256).ok()?;
     let_in(hub, alloc, came(&SECOND))?;
     let_in(hub, alloc, came(&FIRST))?;
     let turns = two_turns(hub, alloc, b"final 1 cut 1:0 2:0 members a\n")?;
+    let mut pipe = Pipe::new(alloc, 256).ok()?;
     let first = gives(hub, &mut pipe, Mon(1), &TO_FIRST);
     Some((turns, first, gives(hub, &mut pipe, Mon(2), &TO_SECOND)))
 }
@@ -427,10 +450,7 @@ fn a_frame_is_taken_at_a_time(rt: HostRuntime) -> Result<(), Fail> {
     let greeted = greeted(&mut hub, alloc, &SETTLED);
     let answers = by_hand(&mut hub);
     drop(hub);
-    assert_eq!(rt; greeted, Some((0, true)));
-    assert_eq!(rt;
-        answers,
-        Some((Pushed::Empty, HubTurn::More, HubTurn::Quiet))
-    );
+    let wanted = (Pushed::Empty, HubTurn::More, HubTurn::Quiet);
+    assert_eq!(rt; (greeted, answers), (Some((0, true)), Some(wanted)));
     Ok(())
 }

@@ -1,4 +1,4 @@
-ghost use Rattle.std.specs.Prelude.{◌≡◌, false};
+ghost use Rattle.std.specs.Prelude.{◌≡◌, false, IfSome};
 
 use crate::case::{Case, one_monitor, two_feeders, two_monitors};
 use crate::meeting::Meeting;
@@ -7,7 +7,6 @@ use std::marker::Sync;
 use std::sync::Wait;
 use std::test::Fail;
 use std::thread::Threads;
-use tk_input::VecSink;
 use tk_live::live;
 use tk_net::{LoopNet, MemNet};
 use tk_serve::{Gate, OpenGate};
@@ -15,9 +14,6 @@ use tk_wire::Net;
 
 /// The call at which each net in memory fails, so that no run waits for ever: one that needs so many ends with status 8.
 const MOST: u64 = 10_000_000;
-
-/// How much text a run may write.
-const ROOM: usize = 1_000;
 
 /// Whether some bytes stand in a text.
 fn has(text: &[u8], bytes: &[u8]) -> bool {
@@ -29,56 +25,97 @@ fn has(text: &[u8], bytes: &[u8]) -> bool {
     false
 }
 
-/// The status with which a case ends over a net. Here and below what is run is dropped by name, and tests look at plain answers,
-/// since each place that drops a net or a case by itself is dear to prove.
+/// The status with which a case ends over a net. Here and below what is run is lent or dropped by name, and tests look at plain
+/// answers, since each place that drops a net or a case by itself is dear to prove.
 fn status_over<R: Threads + Wait + Sync, N: Net, G: Gate + Sync>(
     rt: &R,
     alloc: Global,
-    case: Option<Case>,
+    case: &mut Case,
     net: &mut N,
     gate: &G,
-    out: &mut VecSink,
-) -> Option<u8>
+) -> u8
     requires listens { (N.state net.old).listens ≡ false }
     requires links { (N.state net.old).links ≡ 0 }
 {
-    let mut case = case?;
-    let words = case.words.as_slice();
-    let outcome = live(rt, alloc, words, &mut case.files, net, 5, gate, out);
-    drop(case);
-    Some(outcome.into_status().number())
+    let Case { words, files, out } = case;
+    let outcome = live(rt, alloc, words.as_slice(), files, net, 5, gate, out);
+    let status = outcome.into_status();
+    let number = status.number();
+    drop(status);
+    number
 }
 
-/// The status of a run of two feeders that meet at a gate, and whether its last set is a over both whole logs.
-fn run_feeders<R: Threads + Wait + Sync>(
+/// A net in memory that fails a call and turns a byte.
+fn memory(alloc: Global, call: u64, flip: Option<u64>) -> Option<MemNet>
+    ensures listens { IfSome result (λ net. net.state.listens ≡ false) }
+    ensures links { IfSome result (λ net. net.state.links ≡ 0) }
+{
+    let fails = Vec::from_slice(alloc, &[call, MOST]).ok()?;
+    MemNet::new(alloc, fails, flip).ok()
+}
+
+/// The status of a run over a net in memory that fails a call and turns a byte.
+fn over_memory<R: Threads + Wait + Sync, G: Gate + Sync>(
     rt: &R,
     alloc: Global,
-    gate: &Meeting,
-) -> Option<(u8, bool)> {
-    let mut out = VecSink::new(alloc, ROOM, Vec::new(alloc)).ok()?;
-    let fails = Vec::from_slice(alloc, &[MOST]).ok()?;
-    let mut net = MemNet::new(alloc, fails, None).ok()?;
-    let status = status_over(rt, alloc, two_feeders(alloc), &mut net, gate, &mut out);
+    case: &mut Case,
+    call: u64,
+    flip: Option<u64>,
+    gate: &G,
+) -> Option<u8> {
+    let mut net = memory(alloc, call, flip)?;
+    let status = status_over(rt, alloc, case, &mut net, gate);
     drop(net);
-    let is_whole = has(out.written(), b" cut 1:1,2 members a\n");
-    drop(out);
-    Some((status?, is_whole))
+    Some(status)
+}
+
+/// The status of such a run, whether nothing was written, and whether its last set is a over both whole logs of two feeders.
+fn in_memory<R: Threads + Wait + Sync, G: Gate + Sync>(
+    rt: &R,
+    alloc: Global,
+    case: Option<Case>,
+    call: u64,
+    flip: Option<u64>,
+    gate: &G,
+) -> Option<(u8, bool, bool)> {
+    let mut case = case?;
+    let status = over_memory(rt, alloc, &mut case, call, flip, gate);
+    let text = case.out.written();
+    let (is_empty, is_whole) = (text.is_empty(), has(text, b" cut 1:1,2 members a\n"));
+    drop(case);
+    Some((status?, is_empty, is_whole))
 }
 
 #[test]
 fn two_feeders_of_a_monitor_run_at_once(rt: HostRuntime) -> Result<(), Fail> {
+    let alloc = rt.alloc();
     let gate = Meeting::new();
-    let seen = run_feeders(&rt, rt.alloc(), &gate);
-    assert_eq!(rt; seen, Some((0, true)));
-    assert!(rt; !gate.missed());
+    let seen = in_memory(&rt, alloc, two_feeders(alloc), MOST, None, &gate);
+    assert_eq!(rt; (seen, gate.missed()), (Some((0, false, true)), false));
     Ok(())
 }
 
-/// Whether a text ends with the set a over the whole logs of two monitors, and tells so many bytes of frames, where this is how
-/// many came over the links: a Hello of 18 of each monitor stands in front of its frames.
-fn is_whole(alloc: Global, text: &[u8], taken: u64) -> Option<bool> {
+/// The status of a run, and whether its text ends with the set a over the whole logs of two monitors and tells how many bytes of
+/// frames came over the links: of all bytes those but a Hello of 18 of each monitor, which stands in front of its frames.
+fn with_text(alloc: Global, seen: Option<(u8, u64)>, text: &[u8]) -> Option<(u8, bool)> {
+    let (status, taken) = seen?;
     let line = format!(in alloc; "\nbytes {}\n", taken.checked_sub(36)?).ok()?;
-    Some(has(text, b" cut 1:1 2:1 members a\n") && has(text, line.as_bytes()))
+    let is_whole = has(text, b" cut 1:1 2:1 members a\n") && has(text, line.as_bytes());
+    drop(line);
+    Some((status, is_whole))
+}
+
+/// The status of a run over sockets, and how many bytes came over the links.
+fn over_sockets<R: Threads + Wait + Sync + std::net::Net>(
+    rt: &R,
+    alloc: Global,
+    case: &mut Case,
+) -> Option<(u8, u64)> {
+    let mut net = LoopNet::new(alloc, rt).ok()?;
+    let status = status_over(rt, alloc, case, &mut net, &OpenGate);
+    let taken = net.taken();
+    drop(net);
+    Some((status, taken))
 }
 
 /// The status of a run of two monitors over sockets, and whether its text is whole.
@@ -86,21 +123,11 @@ fn run_sockets<R: Threads + Wait + Sync + std::net::Net>(
     rt: &R,
     alloc: Global,
 ) -> Option<(u8, bool)> {
-    let mut out = VecSink::new(alloc, ROOM, Vec::new(alloc)).ok()?;
-    let mut net = LoopNet::new(alloc, rt).ok()?;
-    let status = status_over(
-        rt,
-        alloc,
-        two_monitors(alloc),
-        &mut net,
-        &OpenGate,
-        &mut out,
-    );
-    let taken = net.taken();
-    drop(net);
-    let is_whole = is_whole(alloc, out.written(), taken);
-    drop(out);
-    Some((status?, is_whole?))
+    let mut case = two_monitors(alloc)?;
+    let seen = over_sockets(rt, alloc, &mut case);
+    let ended = with_text(alloc, seen, case.out.written());
+    drop(case);
+    ended
 }
 
 #[test]
@@ -110,58 +137,52 @@ fn two_monitors_over_sockets(rt: HostRuntime) -> Result<(), Fail> {
     Ok(())
 }
 
-/// The status of a run over a net in memory that fails a call and turns a byte, and whether nothing was written.
-fn status_of<R: Threads + Wait + Sync>(
-    rt: &R,
-    alloc: Global,
-    case: Option<Case>,
-    call: u64,
-    flip: Option<u64>,
-) -> Option<(u8, bool)> {
-    let mut out = VecSink::new(alloc, ROOM, Vec::new(alloc)).ok()?;
-    let fails = Vec::from_slice(alloc, &[call, MOST]).ok()?;
-    let mut net = MemNet::new(alloc, fails, flip).ok()?;
-    let status = status_over(rt, alloc, case, &mut net, &OpenGate, &mut out);
-    drop(net);
-    let is_empty = out.written().is_empty();
-    drop(out);
-    Some((status?, is_empty))
+// The first byte is one of the length of a Hello, so who sends it is a stranger.
+#[test]
+fn a_net_that_does_not_listen_or_turns_the_first_byte_is_a_failed_link(
+    rt: HostRuntime,
+) -> Result<(), Fail> {
+    let alloc = rt.alloc();
+    let deaf = in_memory(&rt, alloc, two_monitors(alloc), 1, None, &OpenGate);
+    let turned = in_memory(&rt, alloc, two_monitors(alloc), MOST, Some(0), &OpenGate);
+    let failed = Some((8, true, false));
+    assert_eq!(rt; (deaf, turned), (failed, failed));
+    Ok(())
 }
 
-#[test]
-fn a_net_that_does_not_listen_is_a_failed_link(rt: HostRuntime) -> Result<(), Fail> {
-    let alloc = rt.alloc();
-    let status = status_of(&rt, alloc, two_monitors(alloc), 1, None);
-    assert_eq!(rt; status, Some((8, true)));
-    Ok(())
+/// The first of 20 calls whose failure ends a run otherwise than as a failed link or too late.
+fn odd_call<R: Threads + Wait + Sync>(rt: &R, alloc: Global) -> Option<u64> {
+    for call in 1..21 {
+        match in_memory(rt, alloc, two_monitors(alloc), call, None, &OpenGate) {
+            Some((8 | 0, _, _)) => {}
+            _ => return Some(call),
+        }
+    }
+    None
+}
+
+/// Behind the Hello of 18 bytes come the four of the length of the first Assign, its kind, its number, and its members.
+const BYTES: [u64; 5] = [18, 22, 30, 34, 38];
+
+/// The first of these bytes that ends a run otherwise than as a difference once it is turned.
+fn odd_byte<R: Threads + Wait + Sync>(rt: &R, alloc: Global) -> Option<u64> {
+    for byte in BYTES {
+        match in_memory(rt, alloc, one_monitor(alloc), MOST, Some(byte), &OpenGate) {
+            Some((9, true, _)) => {}
+            _ => return Some(byte),
+        }
+    }
+    None
 }
 
 #[test]
 fn a_call_that_fails_is_a_failed_link_or_too_late(rt: HostRuntime) -> Result<(), Fail> {
-    let alloc = rt.alloc();
-    for call in 1..21 {
-        let status = status_of(&rt, alloc, two_monitors(alloc), call, None).map(|told| told.0);
-        assert!(rt; status == Some(8) || status == Some(0), "{call}");
-    }
+    assert_eq!(rt; odd_call(&rt, rt.alloc()), None);
     Ok(())
 }
 
-// The first byte is one of the length of a Hello, so who sends it is a stranger.
-#[test]
-fn a_turned_first_byte_is_a_failed_link(rt: HostRuntime) -> Result<(), Fail> {
-    let alloc = rt.alloc();
-    let status = status_of(&rt, alloc, two_monitors(alloc), MOST, Some(0));
-    assert_eq!(rt; status, Some((8, true)));
-    Ok(())
-}
-
-// Behind the Hello of 18 bytes come the four of the length of the first Assign, its kind, its number, and its members.
 #[test]
 fn a_turned_byte_of_a_frame_is_a_difference(rt: HostRuntime) -> Result<(), Fail> {
-    let alloc = rt.alloc();
-    for byte in [18, 22, 30, 34, 38] {
-        let status = status_of(&rt, alloc, one_monitor(alloc), MOST, Some(byte));
-        assert_eq!(rt; status, Some((9, true)), "{byte}");
-    }
+    assert_eq!(rt; odd_byte(&rt, rt.alloc()), None);
     Ok(())
 }

@@ -1,11 +1,14 @@
 //! Whether a new world that steps the events of a story has the same story.
 
+ghost use Rattle.std.specs.Prelude.{◌≡◌, IfSome};
+ghost use Rattle.tk_load.specs.Whole.{AreAgreed};
+
 use crate::cases::Case;
 use std::alloc::Global;
 use std::marker::Sync;
 use std::thread::Threads;
-use tk_base::Mon;
-use tk_input::Event;
+use tk_base::{Mon, Settings};
+use tk_input::{Event, Logs};
 use tk_journal::Noted;
 use tk_load::{Input, load};
 use tk_story::{Story, is_same_entry, is_same_noted};
@@ -13,25 +16,41 @@ use tk_trail::Entry;
 use tk_words::{Command, read};
 use tk_world::{Moved, World};
 
+/// The input of a live run.
+fn input_of<R: Threads + Sync>(rt: &R, alloc: Global, case: &mut Case) -> Option<Input>
+    ensures { IfSome result (λ input. AreAgreed input.names input.settings input.logs) }
+{
+    let Case { words, files, .. } = case;
+    let command = read(alloc, words.as_slice()).ok()?;
+    let input = match &command {
+        Command::Live(live) => load(rt, alloc, &live.sources, files).ok(),
+        _ => None,
+    };
+    drop(command);
+    input
+}
+
+/// The settings and the logs of an input. The rest of it is dropped here alone.
+fn basis_of(input: Input) -> (Settings, Logs)
+    ensures settings { result.0 ≡ input.settings }
+    ensures logs { result.1 ≡ input.logs }
+{
+    let Input { settings, logs, .. } = input;
+    (settings, logs)
+}
+
 /// A new world over the input of a live run.
 fn new_world<R: Threads + Sync>(rt: &R, alloc: Global, case: &mut Case) -> Option<World> {
-    let Ok(Command::Live(words)) = read(alloc, case.words.as_slice()) else {
-        return None;
-    };
-    let Ok(input) = load(rt, alloc, &words.sources, &mut case.files) else {
-        return None;
-    };
-    let Input { settings, logs, .. } = input;
-    match logs.start(alloc) {
-        Ok(from) => World::new(alloc, settings, logs, from).ok(),
-        Err(_) => None,
-    }
+    let input = input_of(rt, alloc, case)?;
+    let (settings, logs) = basis_of(input);
+    let from = logs.start(alloc).ok()?;
+    World::new(alloc, settings, logs, from).ok()
 }
 
 /// Whether each of these events moves a world.
 fn moves(world: &mut World, events: &[Event]) -> Option<bool> {
-    for event in events {
-        let event = event.try_clone().ok()?;
+    for i in 0..events.len() {
+        let event = events[i].try_clone().ok()?;
         if world.step(event).ok()? == Moved::Idle {
             return Some(false);
         }
@@ -39,14 +58,15 @@ fn moves(world: &mut World, events: &[Event]) -> Option<bool> {
     Some(true)
 }
 
-/// The story of a world, once these events have moved it.
+/// The story of a world, where each of its events moved it. It ends in any case, since each place that drops a world is dear to
+/// prove.
 fn story_of(world: World, moved: Option<bool>) -> Option<Story> {
-    match moved {
-        Some(true) => world.into_story().ok(),
-        _ => {
-            drop(world);
-            None
-        }
+    let story = world.into_story().ok()?;
+    if moved == Some(true) {
+        Some(story)
+    } else {
+        drop(story);
+        None
     }
 }
 

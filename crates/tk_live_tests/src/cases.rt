@@ -3,13 +3,18 @@
 ghost use Rattle.std.specs.Prelude.{◌<◌};
 
 use std::alloc::Global;
-use tk_input::MapFiles;
+use std::fmt::Write;
+use tk_input::{MapFiles, VecSink};
 
-/// The words of a live run, and its files.
+/// How much text a run may write.
+const ROOM: usize = 1_000_000;
+
+/// The words of a live run, its files, and its text.
 #[derive(Drop)]
 pub struct Case {
     pub words: Vec<String>,
     pub files: MapFiles,
+    pub out: VecSink,
 }
 
 /// The words of a text, which spaces part.
@@ -21,22 +26,32 @@ fn words_of(alloc: Global, text: &str) -> Option<Vec<String>> {
     Some(words)
 }
 
-fn file(alloc: Global, name: &str, text: &str) -> Option<(String, Vec<u8>)> {
+/// A case of these words and files.
+fn case_of(alloc: Global, words: &str, files: Vec<(String, Vec<u8>)>) -> Option<Case> {
+    let files = MapFiles::new(alloc, files, Vec::new(alloc));
+    let words = words_of(alloc, words)?;
+    let out = VecSink::new(alloc, ROOM, Vec::new(alloc)).ok()?;
+    Some(Case { words, files, out })
+}
+
+fn add_file(
+    alloc: Global,
+    files: &mut Vec<(String, Vec<u8>)>,
+    name: &str,
+    text: &str,
+) -> Option<()> {
     let name = String::from_str(alloc, name).ok()?;
     let bytes = Vec::from_slice(alloc, text.as_bytes()).ok()?;
-    Some((name, bytes))
+    files.push((name, bytes)).ok()
 }
 
 /// The objects a and b, and a change or two in each of two logs.
 fn of_two_logs(alloc: Global, words: &str, one: &str, two: &str) -> Option<Case> {
     let mut files = Vec::new(alloc);
-    files.push(file(alloc, "objects.csv", "a\nb\n")?).ok()?;
-    files.push(file(alloc, "one.csv", one)?).ok()?;
-    files.push(file(alloc, "two.csv", two)?).ok()?;
-    Some(Case {
-        words: words_of(alloc, words)?,
-        files: MapFiles::new(alloc, files, Vec::new(alloc)),
-    })
+    add_file(alloc, &mut files, "objects.csv", "a\nb\n")?;
+    add_file(alloc, &mut files, "one.csv", one)?;
+    add_file(alloc, &mut files, "two.csv", two)?;
+    case_of(alloc, words, files)
 }
 
 /// At the first monitor a rises by 5, at the second b by 3.
@@ -55,8 +70,7 @@ pub fn two_monitors_in_version_2(alloc: Global) -> Option<Case> {
 fn names(alloc: Global) -> Option<String> {
     let mut text = String::new(alloc);
     for page in 1..41 {
-        let line = format!(in alloc; "/page/{}.html\n", page).ok()?;
-        text.push_str(line.as_str()).ok()?;
+        write!(text, "/page/{}.html\n", page).ok()?;
     }
     Some(text)
 }
@@ -69,26 +83,28 @@ fn hits(alloc: Global, first: u32) -> Option<String>
     for round in 0..625u32 {
         let hit = 8 * round + first;
         let page = 1 + (hit * hit + 7 * hit) % 40;
-        let line = format!(in alloc; "/page/{}.html,{}\n", page, 1 + hit % 5).ok()?;
-        text.push_str(line.as_str()).ok()?;
+        write!(text, "/page/{}.html,{}\n", page, 1 + hit % 5).ok()?;
     }
     Some(text)
+}
+
+/// The names of the pages, and the log of each of 8 feeders.
+fn add_pages(alloc: Global, files: &mut Vec<(String, Vec<u8>)>) -> Option<()> {
+    let names = names(alloc)?;
+    add_file(alloc, files, "pages", names.as_str())?;
+    drop(names);
+    for first in 0..8u32 {
+        let name = format!(in alloc; "{}", first).ok()?;
+        let text = hits(alloc, first)?;
+        add_file(alloc, files, name.as_str(), text.as_str())?;
+    }
+    Some(())
 }
 
 /// 40 pages at 4 servers with 2 workers each, and 5,000 hits.
 pub fn pages(alloc: Global) -> Option<Case> {
     let words = "live --k 10 --epsilon 20 --objects pages 1=0 2=1 3=2 4=3 1=4 2=5 3=6 4=7";
     let mut files = Vec::new(alloc);
-    files
-        .push(file(alloc, "pages", names(alloc)?.as_str())?)
-        .ok()?;
-    for first in 0..8u32 {
-        let name = format!(in alloc; "{}", first).ok()?;
-        let text = hits(alloc, first)?;
-        files.push(file(alloc, name.as_str(), text.as_str())?).ok()?;
-    }
-    Some(Case {
-        words: words_of(alloc, words)?,
-        files: MapFiles::new(alloc, files, Vec::new(alloc)),
-    })
+    add_pages(alloc, &mut files)?;
+    case_of(alloc, words, files)
 }

@@ -11,15 +11,14 @@ use std::marker::Sync;
 use std::sync::Wait;
 use std::thread::Threads;
 use tk_frames::encode;
-use tk_input::VecSink;
 use tk_journal::Noted;
-use tk_live::{Outcome, live};
+use tk_live::live;
 use tk_net::MemNet;
 use tk_serve::OpenGate;
 use tk_story::Story;
 
 /// What a live run left. Without a story all but the status is false or 0.
-#[derive(Clone, Copy, Debug, PartialEq, Eq)]
+#[derive(Clone, Copy)]
 pub struct Told {
     /// The exit status.
     pub status: u8,
@@ -36,8 +35,8 @@ fn bytes_of(alloc: Global, journal: &[Noted], version: u8) -> Option<u64>
     requires { IsVersion version }
 {
     let mut bytes = Vec::new(alloc);
-    for noted in journal {
-        match noted {
+    for i in 0..journal.len() {
+        match &journal[i] {
             Noted::Got(_, frame) => encode(alloc, frame.get(), version, &mut bytes).ok()?,
             Noted::Sent(_, frame) => encode(alloc, frame.get(), version, &mut bytes).ok()?,
             Noted::Published(_) => {}
@@ -61,29 +60,28 @@ fn seen<R: Threads + Sync>(
     Some((right, again, [long, short]))
 }
 
-/// Runs a case over a net. None where there was no memory for it, or to see what it left.
+/// Runs a case over a net. None where there was no memory to see what it left.
 pub fn ended<R: Threads + Wait + Sync>(
     rt: &R,
     alloc: Global,
-    case: Option<Case>,
+    case: &mut Case,
     net: &mut MemNet,
-    out: &mut VecSink,
 ) -> Option<Told>
     requires listens { net.old.state.listens ≡ false }
     requires links { net.old.state.links ≡ 0 }
 {
-    let mut case = case?;
-    let words = case.words.as_slice();
-    let outcome = live(rt, alloc, words, &mut case.files, net, 5, &OpenGate, out);
+    let Case { words, files, out } = case;
+    let outcome = live(rt, alloc, words.as_slice(), files, net, 5, &OpenGate, out);
     let seen = match &outcome.story {
-        Some(story) => seen(rt, alloc, &mut case, story),
+        Some(story) => seen(rt, alloc, case, story),
         None => Some((false, false, [0, 0])),
     };
-    drop(case);
-    let status = outcome.into_status().number();
+    let status = outcome.into_status();
+    let number = status.number();
+    drop(status);
     let (right, again, bytes) = seen?;
     Some(Told {
-        status,
+        status: number,
         right,
         again,
         bytes,

@@ -1,4 +1,4 @@
-ghost use Rattle.std.specs.Prelude.{◌<◌};
+ghost use Rattle.std.specs.Prelude.{◌<◌, ◌≡◌, false, IfSome};
 
 use crate::cases::{Case, pages, two_monitors, two_monitors_in_version_2};
 use crate::ended::{Told, ended};
@@ -7,15 +7,11 @@ use std::marker::Sync;
 use std::sync::Wait;
 use std::test::Fail;
 use std::thread::Threads;
-use tk_input::VecSink;
 use tk_net::MemNet;
 use tk_wire::Net;
 
 /// The call at which the net of a run fails, so that none waits for ever: one that needs so many ends with status 8.
 const MOST: u64 = 10_000_000;
-
-/// How much text a run may write.
-const ROOM: usize = 1_000_000;
 
 /// Whether some bytes stand in a text.
 fn has(text: &[u8], bytes: &[u8]) -> bool {
@@ -28,24 +24,27 @@ fn has(text: &[u8], bytes: &[u8]) -> bool {
 }
 
 /// What is seen of a run over a net in memory, and how many bytes were given to its links and taken from them.
-#[derive(Clone, Copy, Debug, PartialEq, Eq)]
+#[derive(Clone, Copy)]
 struct Carried {
     told: Told,
     given: u64,
     taken: u64,
 }
 
-/// A run over a net in memory. Tests drop by name what they run and look at plain answers, since each place that drops a net or a
-/// case by itself is dear to prove.
-fn in_memory<R: Threads + Wait + Sync>(
-    rt: &R,
-    alloc: Global,
-    case: Option<Case>,
-    out: &mut VecSink,
-) -> Option<Carried> {
+/// A net in memory.
+fn memory(alloc: Global) -> Option<MemNet>
+    ensures listens { IfSome result (λ net. net.state.listens ≡ false) }
+    ensures links { IfSome result (λ net. net.state.links ≡ 0) }
+{
     let fails = Vec::from_slice(alloc, &[MOST]).ok()?;
-    let mut net = MemNet::new(alloc, fails, None).ok()?;
-    let told = ended(rt, alloc, case, &mut net, out);
+    MemNet::new(alloc, fails, None).ok()
+}
+
+/// A run over a net in memory. What is run is lent or dropped by name, and tests look at plain answers, since each place that
+/// drops a net or a case by itself is dear to prove.
+fn in_memory<R: Threads + Wait + Sync>(rt: &R, alloc: Global, case: &mut Case) -> Option<Carried> {
+    let mut net = memory(alloc)?;
+    let told = ended(rt, alloc, case, &mut net);
     let (given, taken) = (net.given(), net.taken());
     drop(net);
     Some(Carried {
@@ -83,10 +82,10 @@ fn is_done<R: Threads + Wait + Sync>(
 ) -> Option<bool>
     requires { version < 2 }
 {
-    let mut out = VecSink::new(alloc, ROOM, Vec::new(alloc)).ok()?;
-    let run = in_memory(rt, alloc, case, &mut out);
-    let whole = is_whole(alloc, run, version, out.written());
-    drop(out);
+    let mut case = case?;
+    let run = in_memory(rt, alloc, &mut case);
+    let whole = is_whole(alloc, run, version, case.out.written());
+    drop(case);
     whole
 }
 
@@ -110,11 +109,10 @@ fn run_pages<R: Threads + Wait + Sync>(
     alloc: Global,
     text: &[u8],
 ) -> Option<((u8, bool, bool), bool)> {
-    let case = pages(alloc);
-    let mut out = VecSink::new(alloc, ROOM, Vec::new(alloc)).ok()?;
-    let run = in_memory(rt, alloc, case, &mut out);
-    let is_there = has(out.written(), text);
-    drop(out);
+    let mut case = pages(alloc)?;
+    let run = in_memory(rt, alloc, &mut case);
+    let is_there = has(case.out.written(), text);
+    drop(case);
     Some((marks(run?.told), is_there))
 }
 

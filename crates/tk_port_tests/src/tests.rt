@@ -1,6 +1,6 @@
 //! Monitor 1 over a log of the objects a and b, at its end of a connection of run 5 over which these bytes come.
 
-ghost use Rattle.std.specs.Prelude.{◌≡◌, ◌<◌, ◌≤◌, [], IfOk, length};
+ghost use Rattle.std.specs.Prelude.{◌≡◌, ◌<◌, ◌≤◌, [], IfSome, length};
 ghost use Rattle.tk_frames.specs.Spelling.{IsVersion};
 ghost use Rattle.tk_trail.specs.Setup.{IsSetup};
 ghost use Rattle.tk_port.specs.declared.course.Course.TheVariants as on;
@@ -69,56 +69,62 @@ const GREETED_2: [u8; 27] = [
 ];
 
 /// Logs of the objects a and b, with one part of these records.
-fn logs_of(alloc: Global, records: &[u8]) -> Result<Logs, Fail> {
-    let names = Catalog::read(alloc, b"a\nb\n")?;
-    let part = Part::read(alloc, records, &names)?;
+fn logs_of(alloc: Global, records: &[u8]) -> Option<Logs> {
+    let names = Catalog::read(alloc, b"a\nb\n").ok()?;
+    let part = Part::read(alloc, records, &names);
     let objects = names.len() as u32;
     drop(names);
-    let logs = Logs::new(alloc, vec![in alloc; (Mon(1), part)]?, objects)?;
-    Ok(logs)
+    let part = part.ok()?;
+    let parts = vec![in alloc; (Mon(1), part)].ok()?;
+    Logs::new(alloc, parts, objects).ok()
 }
 
 /// Monitor 1 over these records of the objects a and b.
-fn monitor(alloc: Global, records: &[u8]) -> Result<Monitor, Fail>
-    ensures setup { IfOk result (λ m. IsSetup m.setup) }
-    ensures number { IfOk result (λ m. m.setup.number ≡ 1) }
-    ensures feeder { IfOk result (λ m. length m.setup.parts ≡ 1) }
-    ensures trail { IfOk result (λ m. m.trail ≡ []) }
+fn monitor(alloc: Global, records: &[u8]) -> Option<Monitor>
+    ensures { IfSome result (λ m. (IsSetup m.setup) × (m.setup.number ≡ 1) × (length m.setup.parts ≡ 1) × (m.trail ≡ [])) }
 {
+    let settings = Settings::new(1, 0, 1, 2, 1).ok()?;
     let logs = logs_of(alloc, records)?;
-    let settings = Settings::new(1, 0, 1, 2, 1)?;
     if settings.objects() == 2
         && logs.objects() == 2
         && logs.monitors() == 1
         && logs.feeders(Mon(1)) == 1
     {
-        let parts = logs.parts(alloc, Mon(1))?;
+        let parts = logs.parts(alloc, Mon(1));
         drop(logs);
-        let from = Places::new(vec![in alloc; 0]?);
-        let monitor = Monitor::new(alloc, &settings, Mon(1), parts, &from)?;
-        Ok(monitor)
+        let parts = parts.ok()?;
+        let from = Places::new(vec![in alloc; 0].ok()?);
+        Monitor::new(alloc, &settings, Mon(1), parts, &from).ok()
     } else {
-        Err("other logs")?
+        drop(logs);
+        None
     }
 }
 
-/// A port of run 5 over a wire whose calls move so many bytes: monitor 1 over these records of the objects a and b.
+/// A wire whose calls move so many bytes and of which one fails, if there is such a call.
+fn wire(alloc: Global, piece: usize, call: u64) -> Option<PipeWire>
+    requires { (0 < piece) × (piece ≤ 65536) }
+    ensures { IfSome result (λ wire. (wire.traffic.came ≡ []) × (wire.traffic.went ≡ [])) }
+{
+    let fails = vec![in alloc; call].ok()?;
+    PipeWire::new(alloc, 256, piece, fails).ok()
+}
+
+/// A port of run 5 over such a wire: monitor 1 over these records of the objects a and b.
 fn port(
     alloc: Global,
     records: &[u8],
     version: u8,
     piece: usize,
-    fails: Vec<u64>,
-) -> Result<Port<PipeWire>, Fail>
+    call: u64,
+) -> Option<Port<PipeWire>>
     requires version { IsVersion version }
     requires piece { (0 < piece) × (piece ≤ 65536) }
-    ensures course { IfOk result (λ port. port.course ≡ on.Open) }
-    ensures feeder { IfOk result (λ port. length port.monitor.setup.parts ≡ 1) }
+    ensures { IfSome result (λ port. (port.course ≡ on.Open) × (length port.monitor.setup.parts ≡ 1)) }
 {
-    let wire = PipeWire::new(alloc, 256, piece, fails)?;
+    let wire = wire(alloc, piece, call)?;
     let monitor = monitor(alloc, records)?;
-    let port = Port::new(alloc, wire, monitor, 5, version)?;
-    Ok(port)
+    Port::new(alloc, wire, monitor, 5, version).ok()
 }
 
 /// Puts bytes on their way to the port, as far as its wire lets them in.
@@ -132,47 +138,83 @@ fn send(port: &mut Port<PipeWire>, pipe: &mut Pipe, bytes: &[u8])
     }
 }
 
+/// A port of version 1 over such a wire, to which these bytes came.
+fn fed(
+    alloc: Global,
+    records: &[u8],
+    bytes: &[u8],
+    piece: usize,
+    call: u64,
+) -> Option<Port<PipeWire>>
+    requires { (0 < piece) × (piece ≤ 65536) }
+    ensures { IfSome result (λ port. (port.course ≡ on.Open) × (length port.monitor.setup.parts ≡ 1)) }
+{
+    let mut pipe = Pipe::new(alloc, 256).ok()?;
+    let mut port = port(alloc, records, 1, piece, call)?;
+    send(&mut port, &mut pipe, bytes);
+    Some(port)
+}
+
 /// What a turn answers, and how many entries the trail then has.
-fn turned(port: &mut Port<PipeWire>) -> (Turn, usize)
+type Turned = (Turn, usize);
+
+fn turned(port: &mut Port<PipeWire>) -> Turned
     requires { port.old.course ≡ on.Halted → ⊥ }
     ensures { port.new.course ≡ on.Halted → ⊥ }
 {
     (port.turn(), port.monitor().trail().len())
 }
 
-/// What is seen of a port: what three turns answered and how many entries the trail had behind each, whether the wire is
-/// shut, what was not taken, and how many bytes the wire took.
-#[derive(Drop)]
+/// What a port does not take: Stop, the kind of a payload or a length that no frame has, or anything else.
+#[derive(Clone, Copy, Debug, PartialEq)]
+enum Odd {
+    Stop,
+    Kind(u8),
+    Length([u8; 4]),
+    Else,
+}
+
+fn odd_of(received: Option<&Received>) -> Odd {
+    match received {
+        Some(Received::Frame(Frame::Stop)) => Odd::Stop,
+        Some(Received::Bytes(bytes)) => match bytes.as_slice() {
+            [kind] => Odd::Kind(*kind),
+            [a, b, c, d] => Odd::Length([*a, *b, *c, *d]),
+            _ => Odd::Else,
+        },
+        _ => Odd::Else,
+    }
+}
+
+/// What is seen of a port: what three turns answered, whether the wire is shut, what was not taken, and how many bytes the
+/// wire took.
+#[derive(Clone, Copy)]
 struct Seen {
-    turns: [(Turn, usize); 3],
+    turns: [Turned; 3],
     is_shut: bool,
-    odd: Option<Received>,
+    odd: Odd,
     taken: u64,
 }
 
-/// What a port leaves that it did not take, and how many bytes its wire took. Ports are dropped by such calls alone, since
-/// each place that drops one by itself is dear to prove.
-fn left_by(port: Port<PipeWire>) -> (Option<Received>, u64) {
+/// What a port leaves that it did not take, and how many bytes its wire took. Ports are dropped by calls alone, since each
+/// place that drops one by itself is dear to prove.
+fn left_by(port: Port<PipeWire>) -> (Odd, u64) {
     let (end, wire) = port.into_end();
-    let taken = wire.taken();
+    let left = (odd_of(end.odd.as_ref()), wire.taken());
     drop(wire);
-    let MonEnd { monitor, odd, .. } = end;
-    drop(monitor);
-    (odd, taken)
+    drop(end);
+    left
 }
 
 /// What is seen of a port over a wire whose calls move so many bytes and of which one fails, once these bytes came.
-fn played(alloc: Global, bytes: &[u8], piece: usize, call: u64) -> Result<Seen, Fail>
+fn played(alloc: Global, bytes: &[u8], piece: usize, call: u64) -> Option<Seen>
     requires { (0 < piece) × (piece ≤ 65536) }
 {
-    let mut pipe = Pipe::new(alloc, 256)?;
-    let fails = vec![in alloc; call]?;
-    let mut port = port(alloc, b"a,5\n", 1, piece, fails)?;
-    send(&mut port, &mut pipe, bytes);
+    let mut port = fed(alloc, b"a,5\n", bytes, piece, call)?;
     let turns = [turned(&mut port), turned(&mut port), turned(&mut port)];
     let is_shut = port.halted();
     let (odd, taken) = left_by(port);
-    Ok(Seen {
+    Some(Seen {
         turns,
         is_shut,
         odd,
@@ -180,103 +222,108 @@ fn played(alloc: Global, bytes: &[u8], piece: usize, call: u64) -> Result<Seen, 
     })
 }
 
-/// What three turns answer and how many entries the trail has behind each, once these bytes came in such pieces.
-fn turns(alloc: Global, bytes: &[u8], piece: usize) -> Result<[(Turn, usize); 3], Fail>
+/// What three turns answer, once these bytes came in such pieces.
+fn turns(alloc: Global, bytes: &[u8], piece: usize) -> Option<[Turned; 3]>
     requires { (0 < piece) × (piece ≤ 65536) }
 {
     let seen = played(alloc, bytes, piece, 0)?;
-    let turns = seen.turns;
-    Ok(turns)
+    Some(seen.turns)
 }
 
-/// What three turns answer where this call of the wire fails, and whether the wire is shut. The first gives 18 bytes and
-/// takes once, each other takes once.
-fn failing(alloc: Global, call: u64) -> Result<([(Turn, usize); 3], bool), Fail> {
-    let seen = played(alloc, b"", 1, call)?;
-    let turns = seen.turns;
-    Ok((turns, seen.is_shut))
-}
-
-/// The same answer at each turn, behind so many entries.
-fn thrice(turn: Turn, entries: usize) -> [(Turn, usize); 3] {
-    [(turn, entries); 3]
+/// The same answer at each of three turns, behind so many entries.
+fn thrice(turn: Turn, entries: usize) -> Option<[Turned; 3]> {
+    Some([(turn, entries); 3])
 }
 
 #[test]
 fn what_a_port_does_not_take_closes_it(rt: HostRuntime) -> Result<(), Fail> {
     let alloc = rt.alloc();
-    let twice = Turn::Refused(MonitorRefusal::WrongSequence { has: 1, got: 1 });
-    let change = Turn::Refused(MonitorRefusal::BadChange(Obj(1)));
-    let collect = Turn::Refused(MonitorRefusal::BadCollect);
-    let stop = Turn::Refused(MonitorRefusal::EarlyStop);
-    let length = Turn::Bad(BadFrame::BadLength { length: 0 });
-    let kind = Turn::Bad(BadFrame::BadKind { kind: 9 });
-    assert_eq!(rt; turns(alloc, &TWICE, 64)?, thrice(twice, 2));
-    assert_eq!(rt; turns(alloc, &ASSIGN_PAST_LIMIT, 64)?, thrice(change, 0));
-    assert_eq!(rt; turns(alloc, &ASKED_PAST, 64)?, thrice(collect, 2));
-    assert_eq!(rt; turns(alloc, &STOPPED, 64)?, thrice(stop, 2));
-    assert_eq!(rt; turns(alloc, &[0, 0, 0, 0], 64)?, thrice(length, 0));
-    assert_eq!(rt; turns(alloc, &NO_KIND, 64)?, thrice(kind, 2));
+    let found = [
+        turns(alloc, &TWICE, 64),
+        turns(alloc, &ASSIGN_PAST_LIMIT, 64),
+        turns(alloc, &ASKED_PAST, 64),
+        turns(alloc, &STOPPED, 64),
+        turns(alloc, &[0, 0, 0, 0], 64),
+        turns(alloc, &NO_KIND, 64),
+    ];
+    let wanted = [
+        thrice(
+            Turn::Refused(MonitorRefusal::WrongSequence { has: 1, got: 1 }),
+            2,
+        ),
+        thrice(Turn::Refused(MonitorRefusal::BadChange(Obj(1))), 0),
+        thrice(Turn::Refused(MonitorRefusal::BadCollect), 2),
+        thrice(Turn::Refused(MonitorRefusal::EarlyStop), 2),
+        thrice(Turn::Bad(BadFrame::BadLength { length: 0 }), 0),
+        thrice(Turn::Bad(BadFrame::BadKind { kind: 9 }), 2),
+    ];
+    assert_eq!(rt; found, wanted);
     Ok(())
+}
+
+/// What three turns answer where this call of the wire fails, and whether the wire is shut. The first gives 18 bytes and
+/// takes once, each other takes once.
+fn failing(alloc: Global, call: u64) -> Option<([Turned; 3], bool)> {
+    let seen = played(alloc, b"", 1, call)?;
+    let turns = seen.turns;
+    Some((turns, seen.is_shut))
+}
+
+/// The first call of the wire whose failure is not the answer of all three turns, up to the call 20.
+fn first_late(alloc: Global) -> u64 {
+    let failed = Some(([(Turn::Failed, 0); 3], true));
+    for call in 1..20 {
+        if failing(alloc, call) != failed {
+            return call;
+        }
+    }
+    20
 }
 
 #[test]
 fn a_failed_call_is_answered_at_every_turn(rt: HostRuntime) -> Result<(), Fail> {
-    let failed = thrice(Turn::Failed, 0);
-    for call in 1..20 {
-        assert_eq!(rt; failing(rt.alloc(), call)?, (failed, true), "{call}");
-    }
-    let [_, second, third] = failed;
-    let late = [(Turn::Quiet, 0), second, third];
-    assert_eq!(rt; failing(rt.alloc(), 20)?, (late, true));
+    let found = (first_late(rt.alloc()), failing(rt.alloc(), 20));
+    let late = [(Turn::Quiet, 0), (Turn::Failed, 0), (Turn::Failed, 0)];
+    assert_eq!(rt; found, (20, Some((late, true))));
     Ok(())
 }
 
-/// Whether Stop is odd at a port's end once these bytes came, and how many its wire took.
-fn leaves_stop(alloc: Global, bytes: &[u8]) -> Result<(bool, u64), Fail> {
+/// What is left of these bytes at a port's end, and how many its wire took.
+fn left_of(alloc: Global, bytes: &[u8]) -> Option<(Odd, u64)> {
     let seen = played(alloc, bytes, 64, 0)?;
-    let taken = seen.taken;
-    match seen.odd {
-        Some(Received::Frame(Frame::Stop)) => Ok((true, taken)),
-        _ => Ok((false, taken)),
-    }
-}
-
-/// Whether these bytes, which are no frame, are odd there, and how many its wire took.
-fn leaves_bytes(alloc: Global, bytes: &[u8], wanted: &[u8]) -> Result<(bool, u64), Fail> {
-    let seen = played(alloc, bytes, 64, 0)?;
-    let taken = seen.taken;
-    match seen.odd {
-        Some(Received::Bytes(odd)) => Ok((odd.as_slice() == wanted, taken)),
-        _ => Ok((false, taken)),
-    }
+    Some((seen.odd, seen.taken))
 }
 
 #[test]
 fn what_was_not_taken_is_left_at_the_end(rt: HostRuntime) -> Result<(), Fail> {
     let alloc = rt.alloc();
-    assert_eq!(rt; leaves_stop(alloc, &STOPPED)?, (true, 30));
-    assert_eq!(rt; leaves_bytes(alloc, &NO_KIND, &[9])?, (true, 30));
-    assert_eq!(rt; leaves_bytes(alloc, &[0, 0, 0, 0, 7], &[0; 4])?, (true, 5));
+    let found = [
+        left_of(alloc, &STOPPED),
+        left_of(alloc, &NO_KIND),
+        left_of(alloc, &[0, 0, 0, 0, 7]),
+    ];
+    let wanted = [
+        Some((Odd::Stop, 30)),
+        Some((Odd::Kind(9), 30)),
+        Some((Odd::Length([0; 4]), 5)),
+    ];
+    assert_eq!(rt; found, wanted);
     Ok(())
 }
 
 #[test]
 fn a_turn_takes_64_pieces(rt: HostRuntime) -> Result<(), Fail> {
-    let alloc = rt.alloc();
+    let found = (turns(rt.alloc(), &THREE, 1), turns(rt.alloc(), &THREE, 64));
     let (more, quiet) = ((Turn::More, 4), (Turn::Quiet, 6));
-    assert_eq!(rt; turns(alloc, &THREE, 1)?, [more, quiet, quiet]);
-    assert_eq!(rt; turns(alloc, &THREE, 64)?, [quiet, quiet, quiet]);
+    assert_eq!(rt; found, (Some([more, quiet, quiet]), Some([quiet; 3])));
     Ok(())
 }
 
-/// An exchange over an empty log: an Assign comes, and later Stop. What the two turns answer, and whether this went out.
-fn exchanged(
-    port: &mut Port<PipeWire>,
-    pipe: &mut Pipe,
-    assign: &[u8],
-    out: &[u8],
-) -> (Turn, Turn, bool)
+/// What both turns of an exchange answer, and whether what went out between them is what was wanted.
+type Exchanged = (Turn, Turn, bool);
+
+/// An exchange over an empty log: an Assign comes, this goes out, and later Stop comes.
+fn exchanged(port: &mut Port<PipeWire>, pipe: &mut Pipe, assign: &[u8], out: &[u8]) -> Exchanged
     requires { port.old.course ≡ on.Open }
 {
     let mut bytes = [0; 64];
@@ -289,32 +336,29 @@ fn exchanged(
 }
 
 /// Such an exchange with a new port that speaks this version.
-fn greeted(
-    alloc: Global,
-    version: u8,
-    assign: &[u8],
-    out: &[u8],
-) -> Result<(Turn, Turn, bool), Fail>
+fn greeted(alloc: Global, version: u8, assign: &[u8], out: &[u8]) -> Option<Exchanged>
     requires { IsVersion version }
 {
-    let mut pipe = Pipe::new(alloc, 256)?;
-    let mut port = port(alloc, b"", version, 64, Vec::new(alloc))?;
+    let mut pipe = Pipe::new(alloc, 256).ok()?;
+    let mut port = port(alloc, b"", version, 64, 0)?;
     let answers = exchanged(&mut port, &mut pipe, assign, out);
     drop(port);
-    Ok(answers)
+    Some(answers)
 }
 
 #[test]
 fn a_port_greets_and_stops_in_each_version(rt: HostRuntime) -> Result<(), Fail> {
-    let first = greeted(rt.alloc(), 1, &STOPPED[..25], &GREETED_1)?;
-    let second = greeted(rt.alloc(), 2, &ASSIGN_2, &GREETED_2)?;
-    let answer = (Turn::Quiet, Turn::Stopped, true);
+    let first = greeted(rt.alloc(), 1, &STOPPED[..25], &GREETED_1);
+    let second = greeted(rt.alloc(), 2, &ASSIGN_2, &GREETED_2);
+    let answer = Some((Turn::Quiet, Turn::Stopped, true));
     assert_eq!(rt; (first, second), (answer, answer));
     Ok(())
 }
 
-/// What the calls beside a turn answer: a check, a push, a turn of one frame and, once the port is halted, two raises.
-fn by_hand(port: &mut Port<PipeWire>) -> Option<(Checked, Pushed, Option<Turn>, Raised, Raised)>
+/// What a check, a push, a turn of one frame and, once the port is halted, two raises answer.
+type Answers = (Checked, Pushed, Option<Turn>, Raised, Raised);
+
+fn by_hand(port: &mut Port<PipeWire>) -> Option<Answers>
     requires course { port.old.course ≡ on.Open }
     requires feeder { length port.old.monitor.setup.parts ≡ 1 }
 {
@@ -330,23 +374,25 @@ fn by_hand(port: &mut Port<PipeWire>) -> Option<(Checked, Pushed, Option<Turn>, 
     Some((checked, pushed, taken, first, port.raise(Feeder(1))))
 }
 
-#[test]
-fn a_raise_is_counted_whatever_the_wire_does(rt: HostRuntime) -> Result<(), Fail> {
-    let alloc = rt.alloc();
-    let mut pipe = Pipe::new(alloc, 256)?;
-    let mut port = port(alloc, b"b,5\n", 1, 64, Vec::new(alloc))?;
-    send(&mut port, &mut pipe, &TWICE);
-    let seen = by_hand(&mut port);
+/// These answers of a port to which two Assigns came, and how many entries its trail then has.
+fn raised(alloc: Global) -> Option<(Option<Answers>, usize)> {
+    let mut port = fed(alloc, b"b,5\n", &TWICE, 64, 0)?;
+    let answers = by_hand(&mut port);
     let entries = port.monitor().trail().len();
     drop(port);
-    let done = Raised::Done { broken: true };
+    Some((answers, entries))
+}
+
+#[test]
+fn a_raise_is_counted_whatever_the_wire_does(rt: HostRuntime) -> Result<(), Fail> {
+    let seen = raised(rt.alloc());
     let answers = (
         Checked::Nothing,
         Pushed::Empty,
         Some(Turn::More),
-        done,
+        Raised::Done { broken: true },
         Raised::Ended,
     );
-    assert_eq!(rt; (seen, entries), (Some(answers), 3));
+    assert_eq!(rt; seen, Some((Some(answers), 3)));
     Ok(())
 }

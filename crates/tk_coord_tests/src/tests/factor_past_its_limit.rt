@@ -2,9 +2,9 @@
 
 ghost use Rattle.std.specs.Prelude.{◌≡◌, ◌≤ℤ◌, pos, [], ◌∷◌, length, IfOk};
 ghost use Rattle.tk_rows.specs.Factors.{factor_at};
-ghost use Rattle.tk_coord_tests.specs.Pairing.{at_both};
+ghost use Rattle.tk_coord_tests.specs.Pairing.{at_both, of_both};
 
-use super::{Said, ended, factors, leads, play};
+use super::{Factors, Said, Turn, factors, leads, takes};
 use std::alloc::Global;
 use std::test::Fail;
 use tk_base::{Mon, Obj, ObjSet, Pairs, Settings};
@@ -16,7 +16,7 @@ const FACTOR: i128 = 5_192_296_858_534_827_628_530_496_329_220_096;
 
 /// The factors of a and of b.
 fn both(alloc: Global, factor: i128) -> Result<Pairs, Fail>
-    ensures { IfOk result (λ p. p ≡ (1, factor) ∷ (2, factor) ∷ []) }
+    ensures { IfOk result (λ p. p ≡ of_both factor) }
 {
     let list = [(Obj(1), factor), (Obj(2), factor)].to_vec(alloc)?;
     let pairs = Pairs::new(list)?;
@@ -30,21 +30,30 @@ fn only_a(alloc: Global) -> Result<ObjSet, Fail>
     Ok(set)
 }
 
-/// These factors at the coordinator and at two monitors.
-fn reallocation(alloc: Global, own: Pairs, one: Pairs, two: Pairs) -> Result<Reallocation, Fail>
-    ensures own { IfOk result (λ r. r.own ≡ own) }
+/// These factors of a and of b at two monitors.
+fn changes(alloc: Global, one: i128, two: i128) -> Result<Vec<MonChange>, Fail>
+    ensures { IfOk result (λ v. v.items ≡ at_both one two) }
+{
+    let one = MonChange {
+        mon: Mon(1),
+        changes: both(alloc, one)?,
+    };
+    let two = MonChange {
+        mon: Mon(2),
+        changes: both(alloc, two)?,
+    };
+    let at = vec![in alloc; one, two]?;
+    Ok(at)
+}
+
+/// The same beside the own factors, which are 0.
+fn reallocation(alloc: Global, one: i128, two: i128) -> Result<Reallocation, Fail>
+    ensures own { IfOk result (λ r. r.own ≡ of_both (pos 0)) }
     ensures at { IfOk result (λ r. r.at.items ≡ at_both one two) }
 {
-    let mut at = Vec::new(alloc);
-    at.push(MonChange {
-        mon: Mon(1),
-        changes: one,
-    })?;
-    at.push(MonChange {
-        mon: Mon(2),
-        changes: two,
-    })?;
     let members = only_a(alloc)?;
+    let own = both(alloc, 0)?;
+    let at = changes(alloc, one, two)?;
     Ok(Reallocation { members, own, at })
 }
 
@@ -55,11 +64,9 @@ fn far_table(alloc: Global) -> Result<Table, Fail>
     ensures first { IfOk result (λ t. factor_at t 0 1 ≡ pos 0) }
     ensures second { IfOk result (λ t. factor_at t 0 2 ≡ pos 0) }
 {
+    let change = reallocation(alloc, FACTOR, -FACTOR)?;
     let mut table = Table::new(alloc, 2, 2)?;
-    let zeros = both(alloc, 0)?;
-    let great = both(alloc, FACTOR)?;
-    let small = both(alloc, -FACTOR)?;
-    table.replace(&reallocation(alloc, zeros, great, small)?);
+    table.replace(&change);
     Ok(table)
 }
 
@@ -87,38 +94,57 @@ fn far(alloc: Global) -> Result<Coordinator, Fail> {
 }
 
 /// The Report of monitor 1 that opens a full round, and the Values of monitor 2 that end it.
-const FULL: [(u32, Said<'static>); 2] = [
+static FULL: [Turn<'static>; 2] = [
     (1, Said::Report(1, FACTOR, &[2], &[(1, 0), (2, 1)])),
     (2, Said::Values(1, 1, -FACTOR, &[(1, 0), (2, 30)])),
 ];
 
 /// The Values of both monitors that end the wide round.
-const WIDE: [(u32, Said<'static>); 2] = [
+static WIDE: [Turn<'static>; 2] = [
     (1, Said::Values(2, 1, FACTOR, &[(1, 0), (2, 1)])),
     (2, Said::Values(2, 1, -FACTOR, &[(1, 0), (2, 30)])),
 ];
 
 /// Whether no round is open, and the factors of a and of b.
-type Dealt = (bool, Option<(i128, i128, i128)>, Option<(i128, i128, i128)>);
+type Dealt = (bool, Factors, Factors);
 
 fn dealt(c: &Coordinator) -> Dealt {
     (c.idle(), factors(c, 1), factors(c, 2))
 }
 
-/// What stands after the Values to the full round, and after those to the wide one, in which b leads.
-fn both_rounds(alloc: Global, c: &mut Coordinator) -> Result<(Dealt, Dealt, bool), Fail> {
-    play(alloc, c, &FULL)?;
+/// What stands after the Values to the full round, and after those to the wide one, in which b leads, if it takes them.
+fn both_rounds(alloc: Global, c: &mut Coordinator) -> Option<(Dealt, Dealt, bool)> {
+    if !takes(alloc, c, &FULL) {
+        return None;
+    }
     let full = dealt(c);
-    play(alloc, c, &WIDE)?;
-    Ok((full, dealt(c), leads(c, 2)))
+    if !takes(alloc, c, &WIDE) {
+        return None;
+    }
+    Some((full, dealt(c), leads(c, 2)))
+}
+
+/// The same of one that ends here.
+fn last_rounds(alloc: Global, c: Coordinator) -> Option<(Dealt, Dealt, bool)> {
+    let mut c = c;
+    let rounds = both_rounds(alloc, &mut c);
+    drop(c);
+    rounds
+}
+
+/// The same of the coordinator with such a table.
+fn far_rounds(alloc: Global) -> Result<Option<(Dealt, Dealt, bool)>, Fail> {
+    match far(alloc) {
+        Ok(c) => Ok(last_rounds(alloc, c)),
+        Err(fail) => Err(fail),
+    }
 }
 
 #[test]
 fn a_wide_round_in_its_place(rt: HostRuntime) -> Result<(), Fail> {
-    let mut c = far(rt.alloc())?;
-    let shown = both_rounds(rt.alloc(), &mut c);
     let far = Some((0, FACTOR, -FACTOR));
     let wide = (true, Some((0, 0, 0)), Some((11, 9, -20)));
-    assert_eq!(rt; ended(c, shown)?, ((false, far, far), wide, true));
+    let found = far_rounds(rt.alloc())?;
+    assert!(rt; found == Some(((false, far, far), wide, true)));
     Ok(())
 }

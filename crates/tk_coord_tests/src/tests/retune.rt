@@ -1,67 +1,109 @@
 //! When another k and epsilon are taken, and from when they hold.
 
-use super::{GREATEST, Said, coordinator, ended, leads, play};
+use super::{GREATEST, Said, Turn, coordinator, leads, takes};
 use std::alloc::Global;
-use std::test::Fail;
 use tk_coord::{Coordinator, RetuneRefusal};
 
-/// What a coordinator of so many monitors answers to a retune after these turns.
+/// What comes of a retune.
+#[derive(Clone, Copy)]
+struct Outcome {
+    answer: Result<(), RetuneRefusal>,
+    /// The k and epsilon in force then, and whether no round is open.
+    in_force: (u32, i128, bool),
+    /// Whether a and b lead then.
+    both_lead: bool,
+}
+
+/// What comes of it at a coordinator that takes these turns before it, and those behind it.
+fn tuned(
+    alloc: Global,
+    c: &mut Coordinator,
+    before: &[Turn<'_>],
+    to: (u64, u128),
+    behind: &[Turn<'_>],
+) -> Option<Outcome> {
+    if !takes(alloc, c, before) {
+        return None;
+    }
+    let answer = c.retune(to.0, to.1);
+    if !takes(alloc, c, behind) {
+        return None;
+    }
+    Some(Outcome {
+        answer,
+        in_force: (c.k(), c.epsilon(), c.idle()),
+        both_lead: leads(c, 1) && leads(c, 2),
+    })
+}
+
+/// The same at one that ends here.
+fn last_tuned(
+    alloc: Global,
+    c: Coordinator,
+    before: &[Turn<'_>],
+    to: (u64, u128),
+    behind: &[Turn<'_>],
+) -> Option<Outcome> {
+    let mut c = c;
+    let outcome = tuned(alloc, &mut c, before, to, behind);
+    drop(c);
+    outcome
+}
+
+/// The same at a new coordinator of so many monitors.
+fn new_tuned(
+    alloc: Global,
+    monitors: u64,
+    before: &[Turn<'_>],
+    to: (u64, u128),
+    behind: &[Turn<'_>],
+) -> Option<Outcome> {
+    match coordinator(alloc, monitors, 0) {
+        Some(c) => last_tuned(alloc, c, before, to, behind),
+        None => None,
+    }
+}
+
+/// What it answers to a retune after these turns.
 fn retuned(
     alloc: Global,
     monitors: u64,
-    turns: &[(u32, Said<'_>)],
+    turns: &[Turn<'_>],
     k: u64,
     epsilon: u128,
-) -> Result<Result<(), RetuneRefusal>, Fail> {
-    let mut c = coordinator(alloc, monitors, 0)?;
-    let shown = match play(alloc, &mut c, turns) {
-        Ok(()) => Ok(c.retune(k, epsilon)),
-        Err(fail) => Err(fail),
-    };
-    ended(c, shown)
+) -> Option<Result<(), RetuneRefusal>> {
+    let outcome = new_tuned(alloc, monitors, turns, (k, epsilon), &[])?;
+    Some(outcome.answer)
 }
 
 #[test]
-fn refused_retunes(rt: HostRuntime) -> Result<(), Fail> {
-    let past = GREATEST as u128 + 1;
-    let no_k = retuned(rt.alloc(), 2, &[], 0, 0)?;
-    let far = retuned(rt.alloc(), 2, &[], 1, past)?;
-    assert_eq!(rt;
-        (no_k, far),
-        (Err(RetuneRefusal::BadK), Err(RetuneRefusal::BadEpsilon))
-    );
-    let opens = (2, Said::Report(1, 0, &[2], &[(1, 0), (2, 3)]));
-    let during = retuned(rt.alloc(), 2, &[opens], 1, 4)?;
-    let last = (1, Said::Settled(1, true, &[0]));
-    let after = retuned(rt.alloc(), 1, &[last], 1, 0)?;
-    assert_eq!(rt;
-        (during, after),
-        (Err(RetuneRefusal::RoundOpen), Err(RetuneRefusal::AfterStop))
-    );
-    Ok(())
+fn refused_retunes(rt: HostRuntime) {
+    const PAST: u128 = GREATEST as u128 + 1;
+    let no_k = retuned(rt.alloc(), 2, &[], 0, 0);
+    assert!(rt; no_k == Some(Err(RetuneRefusal::BadK)));
+    let far = retuned(rt.alloc(), 2, &[], 1, PAST);
+    assert!(rt; far == Some(Err(RetuneRefusal::BadEpsilon)));
+    const OPENS: Turn<'static> = (2, Said::Report(1, 0, &[2], &[(1, 0), (2, 3)]));
+    let during = retuned(rt.alloc(), 2, &[OPENS], 1, 4);
+    assert!(rt; during == Some(Err(RetuneRefusal::RoundOpen)));
+    const LAST: Turn<'static> = (1, Said::Settled(1, true, &[0]));
+    let after = retuned(rt.alloc(), 1, &[LAST], 1, 0);
+    assert!(rt; after == Some(Err(RetuneRefusal::AfterStop)));
 }
 
-/// The k and epsilon in force, and whether no round is open.
-fn in_force(c: &Coordinator) -> (u32, i128, bool) {
-    (c.k(), c.epsilon(), c.idle())
-}
-
-/// What is in force in a retune's round and at its end, where a and b lead.
-fn over_a_round(alloc: Global, c: &mut Coordinator) -> Result<[(u32, i128, bool); 2], Fail> {
-    c.retune(2, 4)?;
-    play(alloc, c, &[(1, Said::Values(1, 1, 0, &[(1, 0), (2, 0)]))])?;
-    let before = in_force(c);
-    play(alloc, c, &[(2, Said::Values(1, 1, 0, &[(1, 0), (2, 3)]))])?;
-    if !leads(c, 1) || !leads(c, 2) {
-        return Err("another set")?;
+/// What is in force at a coordinator of two monitors that is retuned and takes these turns, and whether a and b lead.
+fn in_force(alloc: Global, turns: &[Turn<'_>]) -> Option<((u32, i128, bool), bool)> {
+    let outcome = new_tuned(alloc, 2, &[], (2, 4), turns)?;
+    match outcome.answer {
+        Ok(()) => Some((outcome.in_force, outcome.both_lead)),
+        Err(_) => None,
     }
-    Ok([before, in_force(c)])
 }
 
 #[test]
-fn in_force_from_the_end_of_its_round(rt: HostRuntime) -> Result<(), Fail> {
-    let mut c = coordinator(rt.alloc(), 2, 0)?;
-    let shown = over_a_round(rt.alloc(), &mut c);
-    assert_eq!(rt; ended(c, shown)?, [(1, 0, false), (2, 4, true)]);
-    Ok(())
+fn in_force_from_the_end_of_its_round(rt: HostRuntime) {
+    const FIRST: Turn<'static> = (1, Said::Values(1, 1, 0, &[(1, 0), (2, 0)]));
+    const SECOND: Turn<'static> = (2, Said::Values(1, 1, 0, &[(1, 0), (2, 3)]));
+    assert!(rt; in_force(rt.alloc(), &[FIRST]) == Some(((1, 0, false), false)));
+    assert!(rt; in_force(rt.alloc(), &[FIRST, SECOND]) == Some(((2, 4, true), true)));
 }

@@ -3,7 +3,6 @@
 use std::alloc::Global;
 use std::io;
 use std::io::{Read, Write};
-use std::test::Fail;
 use tk_input::{FileFault, PutFailed, put_all, take_all};
 
 /// A reader that fails at once.
@@ -43,22 +42,23 @@ fn taken(alloc: Global, kind: io::ErrorKind) -> Result<(), FileFault> {
 
 #[test]
 fn a_read_error_is_no_end(rt: HostRuntime) {
-    let cases = [
-        (io::ErrorKind::Other, FileFault::Failed),
-        (io::ErrorKind::UnexpectedEof, FileFault::Failed),
-        (io::ErrorKind::OutOfMemory, FileFault::NoMemory),
+    let alloc = rt.alloc();
+    let taken = [
+        taken(alloc, io::ErrorKind::Other),
+        taken(alloc, io::ErrorKind::UnexpectedEof),
+        taken(alloc, io::ErrorKind::OutOfMemory),
     ];
-    for (kind, fault) in cases {
-        assert_eq!(rt; taken(rt.alloc(), kind), Err(fault));
-    }
+    let failed = Err(FileFault::Failed);
+    assert!(rt; taken == [failed, failed, Err(FileFault::NoMemory)]);
 }
 
 #[test]
 fn a_short_read_is_no_end(rt: HostRuntime) {
     let mut bytes = Vec::new(rt.alloc());
     let outcome = take_all(Trickle { left: 100 }, &mut bytes);
-    assert_eq!(rt; outcome, Ok(()));
-    assert_eq!(rt; bytes.len(), 100);
+    let many = bytes.len();
+    drop(bytes);
+    assert!(rt; outcome == Ok(()) && many == 100);
 }
 
 /// A writer that takes one byte at a time, until it has no room.
@@ -91,8 +91,6 @@ fn written(room: usize) -> (Result<(), PutFailed>, usize) {
 
 #[test]
 fn a_short_write_is_gone_on_with(rt: HostRuntime) {
-    let cases = [(8, Ok(()), 5), (5, Ok(()), 5), (4, Err(PutFailed), 4)];
-    for (room, outcome, taken) in cases {
-        assert_eq!(rt; written(room), (outcome, taken));
-    }
+    let written = [written(8), written(5), written(4)];
+    assert!(rt; written == [(Ok(()), 5), (Ok(()), 5), (Err(PutFailed), 4)]);
 }

@@ -2,27 +2,21 @@
 
 use std::alloc::Global;
 use std::fs;
-use std::test::Fail;
 use tk_input::{FileFault, Files, MapFiles, PutFailed, Sink, StdSink, TrueFiles, VecSink};
 
 /// A file in memory of so many letters.
-fn file(alloc: Global, name: &str, length: usize) -> Result<(String, Vec<u8>), Fail> {
-    let bytes = vec![in alloc; b'a'; length]?;
-    Ok((String::from_str(alloc, name)?, bytes))
+fn file(alloc: Global, name: &str, length: usize) -> Option<(String, Vec<u8>)> {
+    let bytes = vec![in alloc; b'a'; length].ok()?;
+    Some((String::from_str(alloc, name).ok()?, bytes))
 }
 
 /// Two files in memory, of so many letters each, and the reads that fail.
-fn two_files(
-    alloc: Global,
-    first: (&str, usize),
-    second: (&str, usize),
-    fails: &[u64],
-) -> Result<MapFiles, Fail> {
-    let fails = Vec::from_slice(alloc, fails)?;
-    let mut files = Vec::new(alloc);
-    files.push(file(alloc, first.0, first.1)?)?;
-    files.push(file(alloc, second.0, second.1)?)?;
-    Ok(MapFiles::new(alloc, files, fails))
+fn two_files(alloc: Global, sizes: [(&str, usize); 2], fails: &[u64]) -> Option<MapFiles> {
+    let first = file(alloc, sizes[0].0, sizes[0].1)?;
+    let second = file(alloc, sizes[1].0, sizes[1].1)?;
+    let files = vec![in alloc; first, second].ok()?;
+    let fails = Vec::from_slice(alloc, fails).ok()?;
+    Some(MapFiles::new(alloc, files, fails))
 }
 
 /// How many bytes a file has, or why it was not read.
@@ -35,61 +29,127 @@ fn counts_of(files: &impl Files, name: &str) -> (u64, u64) {
     (files.faults(name), files.longest(name))
 }
 
-#[test]
-fn files_in_memory_fail_where_they_are_told_to(rt: HostRuntime) -> Result<(), Fail> {
-    let mut files = two_files(rt.alloc(), ("one", 1), ("two", 2), &[2, 5])?;
-    let lengths = [
-        length_of(rt.alloc(), &mut files, "one"),
-        length_of(rt.alloc(), &mut files, "one"),
-        length_of(rt.alloc(), &mut files, "three"),
-        length_of(rt.alloc(), &mut files, "two"),
-        length_of(rt.alloc(), &mut files, "two"),
-        length_of(rt.alloc(), &mut files, "one"),
-    ];
-    let failed = Err(FileFault::Failed);
-    assert_eq!(rt; lengths, [Ok(1), failed, failed, Ok(2), failed, Ok(1)]);
-    let counts = [
-        counts_of(&files, "one"),
-        counts_of(&files, "two"),
-        counts_of(&files, "three"),
-        counts_of(&files, "four"),
-    ];
-    assert_eq!(rt; counts, [(1, 1), (1, 2), (1, 0), (0, 0)]);
-    Ok(())
+/// A file's name, and what a read of it gives.
+type Reading<'a> = (&'a str, Result<usize, FileFault>);
+
+/// Whether reads of these files in turn give this.
+fn are_read(alloc: Global, files: &mut MapFiles, readings: &[Reading<'_>]) -> bool {
+    for (name, wanted) in readings {
+        if length_of(alloc, files, name) != *wanted {
+            return false;
+        }
+    }
+    true
+}
+
+/// A file's name, and its faults and the most bytes that were taken of it.
+type Counts<'a> = (&'a str, (u64, u64));
+
+/// Whether these files have these counts.
+fn have_counts(files: &MapFiles, wanted: &[Counts<'_>]) -> bool {
+    for (name, counts) in wanted {
+        if counts_of(files, name) != *counts {
+            return false;
+        }
+    }
+    true
+}
+
+/// Whether these files give this to reads in turn, and then have these counts.
+fn behave(alloc: Global, files: MapFiles, readings: &[Reading<'_>], counts: &[Counts<'_>]) -> bool {
+    let mut files = files;
+    let as_wanted = are_read(alloc, &mut files, readings) && have_counts(&files, counts);
+    drop(files);
+    as_wanted
+}
+
+/// Whether two files in memory, of so many letters each, give this to reads in turn, and then have these counts.
+fn are_as_wanted(
+    alloc: Global,
+    sizes: [(&str, usize); 2],
+    fails: &[u64],
+    readings: &[Reading<'_>],
+    counts: &[Counts<'_>],
+) -> bool {
+    match two_files(alloc, sizes, fails) {
+        Some(files) => behave(alloc, files, readings, counts),
+        None => false,
+    }
 }
 
 #[test]
-fn a_file_may_have_64_mebibytes(rt: HostRuntime) -> Result<(), Fail> {
-    let sizes = (("full", 67_108_864), ("over", 67_108_865));
-    let mut files = two_files(rt.alloc(), sizes.0, sizes.1, &[])?;
-    let full = length_of(rt.alloc(), &mut files, "full");
-    let over = length_of(rt.alloc(), &mut files, "over");
-    assert_eq!(rt; (full, over), (Ok(67_108_864), Err(FileFault::TooLong)));
-    assert_eq!(rt; counts_of(&files, "over"), (0, 67_108_865));
-    Ok(())
-}
-
-/// What comes of giving bytes, and the faults so far.
-fn put(sink: &mut VecSink, bytes: &[u8]) -> (Result<(), PutFailed>, u64) {
-    let outcome = sink.put(bytes);
-    (outcome, sink.faults())
+fn files_in_memory_fail_where_they_are_told_to(rt: HostRuntime) {
+    const FAILED: Result<usize, FileFault> = Err(FileFault::Failed);
+    const READINGS: [Reading<'static>; 6] = [
+        ("one", Ok(1)),
+        ("one", FAILED),
+        ("three", FAILED),
+        ("two", Ok(2)),
+        ("two", FAILED),
+        ("one", Ok(1)),
+    ];
+    const COUNTS: [Counts<'static>; 4] = [
+        ("one", (1, 1)),
+        ("two", (1, 2)),
+        ("three", (1, 0)),
+        ("four", (0, 0)),
+    ];
+    let sizes = [("one", 1), ("two", 2)];
+    assert!(rt; are_as_wanted(rt.alloc(), sizes, &[2, 5], &READINGS, &COUNTS));
 }
 
 #[test]
-fn a_sink_in_memory_fails_where_it_is_told_to(rt: HostRuntime) -> Result<(), Fail> {
-    let alloc = rt.alloc();
-    let mut sink = VecSink::new(alloc, 4, vec![in alloc; 2]?)?;
-    let puts = [
-        put(&mut sink, b"ab"),
-        put(&mut sink, b"c"),
-        put(&mut sink, b"cde"),
-        put(&mut sink, b"cd"),
-        put(&mut sink, b""),
+fn a_file_may_have_64_mebibytes(rt: HostRuntime) {
+    const READINGS: [Reading<'static>; 2] = [
+        ("full", Ok(67_108_864)),
+        ("over", Err(FileFault::TooLong)),
     ];
-    let (one, two) = ((Err(PutFailed), 1), (Err(PutFailed), 2));
-    assert_eq!(rt; puts, [(Ok(()), 0), one, two, (Ok(()), 2), (Ok(()), 2)]);
-    assert_eq!(rt; sink.written(), b"abcd".as_slice());
-    Ok(())
+    const COUNTS: [Counts<'static>; 1] = [("over", (0, 67_108_865))];
+    let sizes = [("full", 67_108_864), ("over", 67_108_865)];
+    assert!(rt; are_as_wanted(rt.alloc(), sizes, &[], &READINGS, &COUNTS));
+}
+
+/// Bytes that are given, what comes of that, and the faults so far.
+type Put<'a> = (&'a [u8], Result<(), PutFailed>, u64);
+
+/// Whether it comes so of giving these bytes in turn.
+fn are_put(sink: &mut VecSink, puts: &[Put<'_>]) -> bool {
+    for (bytes, outcome, faults) in puts {
+        if sink.put(bytes) != *outcome || sink.faults() != *faults {
+            return false;
+        }
+    }
+    true
+}
+
+/// A sink of four bytes whose second call fails.
+fn small_sink(alloc: Global) -> Option<VecSink> {
+    let fails = vec![in alloc; 2].ok()?;
+    VecSink::new(alloc, 4, fails).ok()
+}
+
+/// Whether it comes so of giving these bytes in turn, and those are then written.
+fn is_filled(sink: VecSink, puts: &[Put<'_>], written: &[u8]) -> bool {
+    let mut sink = sink;
+    let is_filled = are_put(&mut sink, puts) && sink.written() == written;
+    drop(sink);
+    is_filled
+}
+
+#[test]
+fn a_sink_in_memory_fails_where_it_is_told_to(rt: HostRuntime) {
+    const PUTS: [Put<'static>; 5] = [
+        (b"ab", Ok(()), 0),
+        (b"c", Err(PutFailed), 1),
+        (b"cde", Err(PutFailed), 2),
+        (b"cd", Ok(()), 2),
+        (b"", Ok(()), 2),
+    ];
+    let is_filled = match small_sink(rt.alloc()) {
+        Some(sink) => is_filled(sink, &PUTS, b"abcd"),
+        None => false,
+    };
+    assert!(rt; is_filled);
 }
 
 const NAME: &str = "tk_input_test.csv";
@@ -99,24 +159,34 @@ fn has_bytes(alloc: Global, files: &mut impl Files, wanted: &[u8]) -> Result<boo
     Ok(files.read_all(alloc, NAME)?.as_slice() == wanted)
 }
 
+/// The same, with the file's counts then.
+fn read(
+    alloc: Global,
+    files: &mut impl Files,
+    wanted: &[u8],
+) -> (Result<bool, FileFault>, (u64, u64)) {
+    let is_read = has_bytes(alloc, files, wanted);
+    (is_read, counts_of(files, NAME))
+}
+
 #[test]
-fn true_files_are_read(rt: HostRuntime) -> Result<(), Fail> {
-    fs::write(&rt, NAME, "a\nb\n")?;
+fn true_files_are_read(rt: HostRuntime) {
     let mut files = TrueFiles::new(rt.alloc(), &rt);
-    let is_read = has_bytes(rt.alloc(), &mut files, b"a\nb\n");
-    assert_eq!(rt; (is_read, counts_of(&files, NAME)), (Ok(true), (0, 4)));
-    assert!(rt; fs::remove_file(&rt, NAME).is_ok());
-    let is_read = has_bytes(rt.alloc(), &mut files, b"");
-    assert_eq!(rt;
-        (is_read, counts_of(&files, NAME)),
-        (Err(FileFault::Failed), (1, 4))
-    );
-    Ok(())
+    let is_written = fs::write(&rt, NAME, "a\nb\n").is_ok();
+    let before = read(rt.alloc(), &mut files, b"a\nb\n");
+    let is_removed = fs::remove_file(&rt, NAME).is_ok();
+    let after = read(rt.alloc(), &mut files, b"");
+    drop(files);
+    assert!(rt; is_written && is_removed);
+    assert!(rt; before == (Ok(true), (0, 4)));
+    assert!(rt; after == (Err(FileFault::Failed), (1, 4)));
 }
 
 #[test]
 fn standard_output_is_written(rt: HostRuntime) {
     let mut sink = StdSink::new(&rt);
-    assert_eq!(rt; sink.put(b"to standard output\n"), Ok(()));
-    assert_eq!(rt; sink.faults(), 0);
+    let outcome = sink.put(b"to standard output\n");
+    let faults = sink.faults();
+    drop(sink);
+    assert!(rt; (outcome, faults) == (Ok(()), 0));
 }

@@ -1,48 +1,61 @@
 //! What catalogues and logs mean, and where they are refused.
 
 use std::alloc::Global;
-use std::test::Fail;
 use tk_base::Obj;
 use tk_input::{Catalog, CatalogFault, Change, Part, PartFault};
 
-#[test]
-fn a_catalogue_names_its_objects(rt: HostRuntime) -> Result<(), Fail> {
-    let names = Catalog::read(rt.alloc(), b"\xef\xbb\xbfa\r\n\n\"b,c\"\rd\"e")?;
-    assert_eq!(rt; names.len(), 3);
+/// How many names there are, and which objects three of them are.
+fn found_in(names: &Catalog) -> (usize, [Option<Obj>; 3]) {
     let found = [names.find(b"b,c"), names.find(b"d\"e"), names.find(b"d")];
-    assert_eq!(rt; found, [Some(Obj(2)), Some(Obj(3)), None]);
-    Ok(())
+    (names.len(), found)
 }
 
-/// Why these bytes are no catalogue.
-fn fault_of(alloc: Global, bytes: &[u8]) -> Option<CatalogFault> {
-    Catalog::read(alloc, bytes).err()
+/// The same of the names that these bytes are.
+fn found(alloc: Global, bytes: &[u8]) -> Option<(usize, [Option<Obj>; 3])> {
+    match Catalog::read(alloc, bytes) {
+        Ok(names) => Some(found_in(&names)),
+        Err(_) => None,
+    }
+}
+
+#[test]
+fn a_catalogue_names_its_objects(rt: HostRuntime) {
+    let bytes = b"\xef\xbb\xbfa\r\n\n\"b,c\"\rd\"e".as_slice();
+    let found = found(rt.alloc(), bytes);
+    assert!(rt; found == Some((3, [Some(Obj(2)), Some(Obj(3)), None])));
+}
+
+/// Whether these bytes make no catalogue for this reason, or make one.
+fn is_fault(alloc: Global, bytes: &[u8], fault: Option<CatalogFault>) -> bool {
+    Catalog::read(alloc, bytes).err() == fault
+}
+
+/// The same of each of some bytes.
+fn are_faults(alloc: Global, cases: &[(&[u8], Option<CatalogFault>)]) -> bool {
+    for (bytes, fault) in cases {
+        if !is_fault(alloc, bytes, *fault) {
+            return false;
+        }
+    }
+    true
 }
 
 #[test]
 fn a_catalogue_is_refused_at_its_first_fault(rt: HostRuntime) {
-    let long = [b'a'; 256];
-    let cases = [
-        (&long[..255], None),
-        (long.as_slice(), Some(CatalogFault::BadName(1))),
-        (b"".as_slice(), Some(CatalogFault::Empty)),
-        (b"\n\r\n".as_slice(), Some(CatalogFault::Empty)),
-        (b"a\nb,c\na\n".as_slice(), Some(CatalogFault::BadRow(2))),
-        (
-            b"a\n\n\nb c\na\n".as_slice(),
-            Some(CatalogFault::BadName(2)),
-        ),
-        (b"\"\"\n".as_slice(), Some(CatalogFault::BadName(1))),
-        (b"a\n\x7f\n".as_slice(), Some(CatalogFault::BadName(2))),
-        (
-            b"a\nb\nc\xc3\xa4\n".as_slice(),
-            Some(CatalogFault::BadName(3)),
-        ),
-        (b"a\nb\na\nb\n".as_slice(), Some(CatalogFault::Repeated(3))),
+    const LONG: [u8; 256] = [b'a'; 256];
+    const CASES: [(&'static [u8], Option<CatalogFault>); 8] = [
+        (b"", Some(CatalogFault::Empty)),
+        (b"\n\r\n", Some(CatalogFault::Empty)),
+        (b"a\nb,c\na\n", Some(CatalogFault::BadRow(2))),
+        (b"a\n\n\nb c\na\n", Some(CatalogFault::BadName(2))),
+        (b"\"\"\n", Some(CatalogFault::BadName(1))),
+        (b"a\n\x7f\n", Some(CatalogFault::BadName(2))),
+        (b"a\nb\nc\xc3\xa4\n", Some(CatalogFault::BadName(3))),
+        (b"a\nb\na\nb\n", Some(CatalogFault::Repeated(3))),
     ];
-    for (bytes, fault) in cases {
-        assert_eq!(rt; fault_of(rt.alloc(), bytes), fault);
-    }
+    let is_full = is_fault(rt.alloc(), &LONG[..255], None);
+    let is_over = is_fault(rt.alloc(), &LONG, Some(CatalogFault::BadName(1)));
+    assert!(rt; is_full && is_over && are_faults(rt.alloc(), &CASES));
 }
 
 /// How many names begin with a prefix, and which object a name is among them.
@@ -58,40 +71,47 @@ fn among(
     }
 }
 
-#[test]
-fn a_catalogue_of_names_has_those_of_a_prefix(rt: HostRuntime) -> Result<(), Fail> {
-    let alloc = rt.alloc();
-    let names = Catalog::read(alloc, b"/a\n/img/b\n/img\n")?;
-    let found = [
-        among(alloc, &names, b"/img", b"/img"),
-        among(alloc, &names, b"/img", b"/a"),
-        among(alloc, &names, b"/img/bc", b"/img"),
-    ];
-    let wanted = [Some((2, Some(Obj(2)))), Some((2, None)), Some((0, None))];
-    assert_eq!(rt; found, wanted);
-    Ok(())
+/// The same of three names.
+fn among_three(alloc: Global, prefix: &[u8], name: &[u8]) -> Option<(usize, Option<Obj>)> {
+    match Catalog::read(alloc, b"/a\n/img/b\n/img\n") {
+        Ok(names) => among(alloc, &names, prefix, name),
+        Err(_) => None,
+    }
 }
 
-/// Whether so many equal names make no catalogue, and why.
-fn fault_of_equal(alloc: Global, many: usize) -> Result<Option<CatalogFault>, Fail> {
+#[test]
+fn a_catalogue_of_names_has_those_of_a_prefix(rt: HostRuntime) {
+    let alloc = rt.alloc();
+    assert!(rt; among_three(alloc, b"/img", b"/img") == Some((2, Some(Obj(2)))));
+    assert!(rt; among_three(alloc, b"/img", b"/a") == Some((2, None)));
+    assert!(rt; among_three(alloc, b"/img/bc", b"/img") == Some((0, None)));
+}
+
+/// So many equal names.
+fn equal_names(alloc: Global, many: usize) -> Option<Vec<Vec<u8>>> {
     let mut list = Vec::new(alloc);
     for _ in 0..many {
-        list.push(Vec::from_slice(alloc, b"a,b")?)?;
+        list.push(Vec::from_slice(alloc, b"a,b").ok()?).ok()?;
     }
-    Ok(Catalog::from_names(alloc, list.as_slice()).err())
+    Some(list)
+}
+
+/// Why so many equal names make no catalogue, or that they do.
+fn fault_of_equal(alloc: Global, many: usize) -> Option<Option<CatalogFault>> {
+    let list = equal_names(alloc, many)?;
+    Some(Catalog::from_names(alloc, list.as_slice()).err())
 }
 
 #[test]
-fn names_are_a_catalogue_by_the_rules_of_a_file(rt: HostRuntime) -> Result<(), Fail> {
-    let cases = [
-        (0, Some(CatalogFault::Empty)),
-        (1, None),
-        (2, Some(CatalogFault::Repeated(2))),
+fn names_are_a_catalogue_by_the_rules_of_a_file(rt: HostRuntime) {
+    let alloc = rt.alloc();
+    let faults = [
+        fault_of_equal(alloc, 0),
+        fault_of_equal(alloc, 1),
+        fault_of_equal(alloc, 2),
     ];
-    for (many, fault) in cases {
-        assert_eq!(rt; fault_of_equal(rt.alloc(), many)?, fault);
-    }
-    Ok(())
+    let (empty, repeated) = (CatalogFault::Empty, CatalogFault::Repeated(2));
+    assert!(rt; faults == [Some(Some(empty)), Some(None), Some(Some(repeated))]);
 }
 
 /// Whether a log has these changes, each an object and a number.
@@ -146,28 +166,33 @@ fn a_log_keeps_its_changes_past_four_bytes(rt: HostRuntime) {
 
 /// Why these bytes are no log.
 fn log_fault_of(alloc: Global, bytes: &[u8]) -> Option<PartFault> {
-    match log_of(alloc, bytes) {
-        Some(Err(fault)) => Some(fault),
-        _ => None,
+    log_of(alloc, bytes)?.err()
+}
+
+/// Whether each of these is no log for its reason.
+fn are_refused(alloc: Global, cases: &[(&[u8], PartFault)]) -> bool {
+    for (bytes, fault) in cases {
+        if log_fault_of(alloc, bytes) != Some(*fault) {
+            return false;
+        }
     }
+    true
 }
 
 #[test]
 fn a_log_is_refused_at_its_first_fault(rt: HostRuntime) {
-    let great = b"a,100000000000000000000000000000000000000\n";
-    let cases = [
-        (b"a,1\nb,2\nc,3\n".as_slice(), PartFault::UnknownName(3)),
-        (b"c,x\n".as_slice(), PartFault::UnknownName(1)),
-        (b"a,12x\nc,1\n".as_slice(), PartFault::BadNumber(1)),
-        (b"a,1\na\n".as_slice(), PartFault::BadRow(2)),
-        (b"c,1,2\n".as_slice(), PartFault::BadRow(1)),
-        (b"a,1\n\na,\n".as_slice(), PartFault::BadNumber(2)),
-        (b"a,-\n".as_slice(), PartFault::BadNumber(1)),
-        (b"a,+-1\n".as_slice(), PartFault::BadNumber(1)),
-        (b"a, 1\n".as_slice(), PartFault::BadNumber(1)),
-        (great.as_slice(), PartFault::BadNumber(1)),
+    const GREAT: &'static [u8] = b"a,100000000000000000000000000000000000000\n";
+    const CASES: [(&'static [u8], PartFault); 10] = [
+        (b"a,1\nb,2\nc,3\n", PartFault::UnknownName(3)),
+        (b"c,x\n", PartFault::UnknownName(1)),
+        (b"a,12x\nc,1\n", PartFault::BadNumber(1)),
+        (b"a,1\na\n", PartFault::BadRow(2)),
+        (b"c,1,2\n", PartFault::BadRow(1)),
+        (b"a,1\n\na,\n", PartFault::BadNumber(2)),
+        (b"a,-\n", PartFault::BadNumber(1)),
+        (b"a,+-1\n", PartFault::BadNumber(1)),
+        (b"a, 1\n", PartFault::BadNumber(1)),
+        (GREAT, PartFault::BadNumber(1)),
     ];
-    for (bytes, fault) in cases {
-        assert_eq!(rt; log_fault_of(rt.alloc(), bytes), Some(fault));
-    }
+    assert!(rt; are_refused(rt.alloc(), &CASES));
 }

@@ -5,8 +5,8 @@ use Rattle.tk_alloc.specs.Resolving.{objects_over}
 use Rattle.tk_alloc_tests.proofs.TestLemmas.{both_reports, both_take, over_both, two_ready, two_reports, two_take}
 use Rattle.tk_alloc_tests.proofs.tests.only_a_full_round_goes_past_the_limit.Goals as goal
 
-pub is_wide-requires-clause-reports : goal.is_wide-requires-clause-reports
-is_wide-requires-clause-reports g c =
+pub is_wide-wide-requires-clause-reports : goal.is_wide-wide-requires-clause-reports
+is_wide-wide-requires-clause-reports g c =
     two_reports c.as_slice-list.result.now c.in_ok-first.first c.in_ok-second.second (pos 0) (pos 1) (pos 0) (pos 30) c.in_ok-settings.settings.monitors c.in_ok-settings.settings.objects c.in_ok-settings.ensures.monitors c.in_ok-settings.ensures.objects
     (c.as_slice-list.ensures.value ∙ c.in_ok-reports.ensures) c.in_ok-first.ensures.mon c.in_ok-second.ensures.mon c.in_ok-first.ensures.values c.in_ok-second.ensures.values
     (omega arith) (omega arith) (omega arith) (omega arith)
