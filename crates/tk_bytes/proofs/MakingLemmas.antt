@@ -7,7 +7,6 @@ use Rattle.tk_coord.specs.Coordinator.{CoordinatorView}
 use Rattle.tk_frames.specs.declared.frame.Frame.{Frame}
 use Rattle.tk_journal.specs.Links.{frames_from}
 use Rattle.tk_journal.specs.Legal.{inputs_of}
-use Rattle.tk_journal.specs.Readings.{monitors}
 use Rattle.tk_monitor.specs.Monitored.{MonitorView}
 use Rattle.tk_trail.specs.Readings.{taken_by}
 use Rattle.tk_trail.specs.declared.entry.Entry.{Entry}

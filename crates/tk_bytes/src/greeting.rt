@@ -59,8 +59,13 @@ fn begin(alloc: Global, monitor: Monitor, piece: usize, version: u8) -> Result<L
     let mut port = Port::new(alloc, wire, monitor, RUN, version)?;
     // The wire is read for its clause, that nothing has passed it.
     let _ = port.wire();
-    say(&mut port)?;
-    Ok(Line { port, up, down })
+    match say(&mut port) {
+        Ok(()) => Ok(Line { port, up, down }),
+        Err(NoMemory) => {
+            drop(port);
+            Err(NoMemory)
+        }
+    }
 }
 
 /// Moves the Hello of a line to a wire at its other end, piece by piece.
@@ -82,17 +87,16 @@ fn carry_hello(line: &mut Line, wire: &mut SureWire)
 }
 
 /// Carries the Hello of a line to the hub, which admits its monitor.
-fn introduce(hub: &mut Hub<SureWire>, line: &mut Line, wire: SureWire) -> Result<(), NoMemory>
+fn introduce(alloc: Global, hub: &mut Hub<SureWire>, line: &mut Line) -> Result<(), NoMemory>
     requires can { CanJoin line.old.port.monitor.setup.number hub.old }
     requires opening { IsOpening line.old }
     requires held { line.old.port.link.traffic.held ≡ hello_in line.old.port }
-    requires unused { wire.traffic ≡ waiting_on 4096 [] }
     ensures line { OnOk result (IsLine line.old.port.monitor.setup.number hub.new line.new) }
     ensures seats { OnOk result (SeatsOne line.old.port.monitor.setup.number hub.old hub.new) }
     ensures monitor { line.new.port.monitor ≡ line.old.port.monitor }
     ensures over { (piece version : ℕ) → IsOver piece version line.old → IsOver piece version line.new }
 {
-    let mut wire = wire;
+    let mut wire = SureWire::new(alloc, ROOM)?;
     carry_hello(line, &mut wire);
     hub.admit(wire)?;
     hub.greet()?;
@@ -118,8 +122,12 @@ pub fn join(
     ensures over { IfOk result (IsOver piece version) }
     ensures seats { OnOk result (SeatsOne monitor.setup.number hub.old hub.new) }
 {
-    let wire = SureWire::new(alloc, ROOM)?;
     let mut line = begin(alloc, monitor, piece, version)?;
-    introduce(hub, &mut line, wire)?;
-    Ok(line)
+    match introduce(alloc, hub, &mut line) {
+        Ok(()) => Ok(line),
+        Err(NoMemory) => {
+            drop(line);
+            Err(NoMemory)
+        }
+    }
 }

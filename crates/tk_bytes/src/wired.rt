@@ -35,19 +35,40 @@ impl Model for Wired {
     ghost invariant = { λ w. AreWired w.hub w.lines.items };
 }
 
+/// The monitor of a line. Here and below what is left is dropped by name: a place that drops the end of a wire by itself is
+/// dear to prove.
+fn monitor_of(walked: Walked) -> Monitor
+    ensures { result ≡ walked.line.port.monitor }
+{
+    let Walked { line, .. } = walked;
+    let Line { port, .. } = line;
+    let (end, wire) = port.into_end();
+    drop(wire);
+    let MonEnd { monitor, odd } = end;
+    drop(odd);
+    monitor
+}
+
 /// The monitors of some lines.
 fn monitors_of(alloc: Global, lines: Vec<Walked>) -> Result<Vec<Monitor>, NoMemory>
     ensures { IfOk result (λ monitors. monitors.items ≡ map (λ w. w.line.port.monitor) lines.items) }
 {
     let mut monitors = Vec::with_capacity(alloc, lines.len())?;
     for walked in lines {
-        let Walked { line, .. } = walked;
-        let Line { port, .. } = line;
-        let (end, _) = port.into_end();
-        let MonEnd { monitor, .. } = end;
-        monitors.push(monitor)?;
+        monitors.push(monitor_of(walked))?;
     }
     Ok(monitors)
+}
+
+/// The coordinator of a hub.
+fn coordinator_of(hub: Hub<SureWire>) -> Coordinator
+    ensures { result ≡ hub.coordinator }
+{
+    let (end, wires) = hub.into_end();
+    drop(wires);
+    let CoordEnd { coordinator, odd } = end;
+    drop(odd);
+    coordinator
 }
 
 impl Nodes for Wired {
@@ -105,9 +126,13 @@ impl Nodes for Wired {
 
     fn into_parts(self, alloc: Global) -> Result<(Coordinator, Vec<Monitor>), NoMemory> {
         let Wired { hub, lines } = self;
-        let monitors = monitors_of(alloc, lines)?;
-        let (end, _) = hub.into_end();
-        let CoordEnd { coordinator, .. } = end;
-        Ok((coordinator, monitors))
+        let coordinator = coordinator_of(hub);
+        match monitors_of(alloc, lines) {
+            Ok(monitors) => Ok((coordinator, monitors)),
+            Err(NoMemory) => {
+                drop(coordinator);
+                Err(NoMemory)
+            }
+        }
     }
 }

@@ -1,6 +1,6 @@
 -- What is kept of a journal that has only begun.
-use Rattle.std.proofs.Common.{◌≡◌, ℕ, suc, Bool, false, ◌+◌, ◌≤◌, ◌<◌, ℤ, List, [], ◌∷◌, length, Option, Some, None, refl, sym, ap, ◌∙◌, subst, arith}
-use Rattle.std.specs.Prelude.{IfOk, Result, slice_get}
+use Rattle.std.proofs.Common.{◌≡◌, ℕ, suc, Bool, false, ◌+◌, ◌≤◌, ◌<◌, ℤ, List, [], ◌∷◌, length, Option, None, refl, sym, ap, ◌∙◌, subst, arith}
+use Rattle.std.specs.Prelude.{IfOk, Result}
 use Rattle.std.specs.List.{All, range_with_len, enumerate_from}
 use Rattle.std.proofs.lemmas.Bool.{true≢false}
 use Rattle.std.proofs.lemmas.List.Elements.{All-cons, All-nil}
@@ -30,9 +30,10 @@ use Rattle.tk_journal.proofs.SoundLemmas.{opened_firm}
 use Rattle.tk_journal.proofs.Tables.{rows_count}
 use Rattle.tk_journal.proofs.Tuning.{force_closed}
 use Rattle.tk_journal.proofs.WholeLemmas.{opened_legal}
+use Rattle.tk_coord.specs.Board.{BoardView}
 use Rattle.tk_coord.specs.Coordinator.{Begins, IsJournal, CoordinatorView}
+use Rattle.tk_coord.specs.Keeping.{HasBegun, first_peer}
 use Rattle.tk_coord.specs.State.{Holds, Stands, kind_in, peer_at, next_settings}
-use Rattle.tk_coord.specs.declared.peer.Peer.{Peer}
 use Rattle.tk_coord.specs.declared.round.Round.{Round}
 use Rattle.tk_coord.specs.declared.phase.Phase.{Phase}
 use Rattle.tk_coord.specs.declared.state.State.{State}
@@ -68,12 +69,8 @@ begun_round o = named_round [] (λ (p : Given). p.0) (λ _. 1) o.members changes
 begun_waits : (o : Opening) (mon : ℕ) → IsMonitor o.settings mon → waits_for (last_round (opened o)) mon (opened o) ≡ false
 begun_waits o mon m = closed_waits o.settings (opened o) (opened_closed o) mon m
 
--- what is known of a monitor that was sent one Assign
-abbrev pub new_peer : Peer
-new_peer = record { assigns = 1; answer = None; progress = None; waits = false }
-
--- that is what the journal says of it
-begun_peer : (o : Opening) (mon : ℕ) → IsSetUp o → IsMonitor o.settings mon → new_peer ≡ peer_at (opened o) mon
+-- of a monitor that was sent one Assign the journal says no more
+begun_peer : (o : Opening) (mon : ℕ) → IsSetUp o → IsMonitor o.settings mon → first_peer ≡ peer_at (opened o) mon
 begun_peer o mon set m =
     let rows = enumerate_from 1 o.factors in
     let high = m.within in
@@ -89,23 +86,16 @@ begun_peer o mon set m =
 
 -- ---- what is kept
 
--- what is kept of the monitors and of the rounds at the beginning
-pub record IsNew (monitors : ℕ) (state : State) : Type 0 where
-  pub count : length state.peers.items ≡ monitors
-  pub peers : (i : ℕ) (l : Peer) → slice_get state.peers.items i ≡ Some l → l ≡ new_peer
-  pub round : state.round ≡ record { number = 0; waiting = false; wide = false; asked = [] }
-  pub reports : length state.gathered.items ≡ monitors
-
 -- what is kept over the first Assigns
-opened_holds : (o : Opening) (state : State) → IsSetUp o → state.board.members ≡ o.members → state.board.table ≡ table_at o.settings (opened o)
-    → IsNew o.settings.monitors state → Holds o.settings (opened o) state
-opened_holds o state set members table new =
+opened_holds : (o : Opening) (board : BoardView) (state : State) → IsSetUp o → board.members ≡ o.members → board.table ≡ table_at o.settings (opened o)
+    → HasBegun o.settings.monitors board state → Holds o.settings (opened o) state
+opened_holds o board state set members table new =
     let s = o.settings in
     let j = opened o in
     let closed = opened_closed o in
     record {
-      members = members ∙ sym (begun_members o set);
-      table = table;
+      members = ap (λ (b : BoardView). b.members) new.board ∙ members ∙ sym (begun_members o set);
+      table = ap (λ (b : BoardView). b.table) new.board ∙ table;
       peers = record {
         count = new.count;
         each = λ i l there.
@@ -123,15 +113,15 @@ opened_holds o state set members table new =
     }
 
 -- what is kept of the frames at the beginning
-pub begun_holds : (s : Setup) (members : List ℕ) (table : Grid) (j : List Noted) (state : State) → Begins s members table j
-    → state.board.members ≡ members → state.board.table ≡ table → IsNew s.monitors state → Holds s j state
-begun_holds s members table j state b same_members same_table new =
+pub begun_holds : (s : Setup) (board : BoardView) (j : List Noted) (state : State) → Begins s board.members board.table j
+    → HasBegun s.monitors board state → Holds s j state
+begun_holds s board j state b new =
     let o = b.opening in
     subst (λ (x : Setup). Holds x j state) b.settings
     (subst (λ (l : List Noted). Holds o.settings l state) (sym b.is)
-    (opened_holds o state b.set_up (same_members ∙ b.named)
-    (same_table ∙ b.dealt ∙ ap (λ (x : Setup). table_at x j) (sym b.settings) ∙ ap (table_at o.settings) b.is)
-    (subst (λ (x : Setup). IsNew x.monitors state) (sym b.settings) new)))
+    (opened_holds o board state b.set_up b.named
+    (b.dealt ∙ ap (λ (x : Setup). table_at x j) (sym b.settings) ∙ ap (table_at o.settings) b.is)
+    (subst (λ (x : Setup). HasBegun x.monitors board state) (sym b.settings) new)))
 
 -- ---- what stands
 

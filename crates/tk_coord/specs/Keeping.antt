@@ -1,8 +1,9 @@
 -- How the peers change at what is sent, and what that needs. No public clause cites this.
-use Rattle.std.specs.Prelude.{ℕ, ◌+◌, ◌-◌, ◌^◌, ◌<◌, ◌≤◌, ◌≡◌, ◌≢◌, min, Bool, true, false, ◌==◌, if◌then◌else◌, List, length, fold, Option, Some, None, slice_get}
+use Rattle.std.specs.Prelude.{ℕ, ◌+◌, ◌-◌, ◌^◌, ◌<◌, ◌≤◌, ◌≡◌, ◌≢◌, min, Bool, true, false, ◌==◌, if◌then◌else◌, List, [], length, fold, Option, Some, None, slice_get}
 use Rattle.tk_border.specs.Levels.{AreMembers}
 use Rattle.tk_rows.specs.declared.mon_change.MonChange.{MonChange}
 use Rattle.tk_rows.specs.Replacing.{IsReplacement}
+use Rattle.tk_coord.specs.Board.{BoardView}
 use Rattle.tk_coord.specs.Checks.{AreNamed}
 use Rattle.tk_coord.specs.declared.answer.Answer.{Answer}
 use Rattle.tk_coord.specs.declared.answer.Answer.TheVariants as a
@@ -27,6 +28,14 @@ assigned_at mon changes peer = fold (λ l c. if c.mon.0 == mon then one_more l e
 -- the peer of a monitor that was sent one Assign, and nothing else
 abbrev pub first_peer : Peer
 first_peer = record { assigns = 1; answer = None; progress = None; waits = false }
+
+-- what is kept before the first frame: the given board, and of each monitor only that it was sent one Assign
+pub record HasBegun (monitors : ℕ) (given : BoardView) (state : State) : Type 0 where
+  pub board : state.board ≡ given
+  pub count : length state.peers.items ≡ monitors
+  pub peers : (i : ℕ) (l : Peer) → slice_get state.peers.items i ≡ Some l → l ≡ first_peer
+  pub round : state.round ≡ record { number = 0; waiting = false; wide = false; asked = [] }
+  pub reports : length state.gathered.items ≡ monitors
 
 -- all peers but the one at this place are such
 abbrev pub AreOthers : (Peer → Type 0) → List Peer → ℕ → Type 0

@@ -99,6 +99,22 @@ impl Journal {
         })
     }
 
+    /// A journal of these entries.
+    pub fn with_entries(
+        alloc: Global,
+        monitors: u32,
+        entries: Vec<Noted>,
+    ) -> Result<Journal, NoMemory>
+        requires { All (IsForOneOf monitors) entries.items }
+        ensures entries { IfOk result (λ k. k.entries ≡ entries.items) }
+        ensures monitors { IfOk result (λ k. k.monitors ≡ monitors) }
+    {
+        let mut journal = Journal::new(alloc, monitors)?;
+        journal.reserve(entries.len())?;
+        journal.append(entries);
+        Ok(journal)
+    }
+
     /// Where its memory comes from.
     pub fn alloc(&self) -> Global {
         *self.entries.allocator()

@@ -1,20 +1,22 @@
-ghost use Rattle.std.specs.Prelude.{◌≡◌, List, length, suc};
+ghost use Rattle.std.specs.Prelude.{◌≡◌, List, length, suc, IfOk};
 ghost use Rattle.tk_base.specs.Settings.{Setup};
 ghost use Rattle.std.specs.List.{list_all};
 ghost use Rattle.tk_journal.specs.Readings.{is_calm as is_calm_at};
 ghost use Rattle.tk_journal.specs.declared.noted.Noted.{Noted};
 ghost use Rattle.tk_coord.specs.Checks.{AreNamed};
-ghost use Rattle.tk_coord.specs.Keeping.{AreChanged, HasPlace, CanReply, assigned_at, has_settled};
+ghost use Rattle.tk_coord.specs.Keeping.{AreChanged, HasBegun, HasPlace, CanReply, assigned_at, has_settled};
 ghost use Rattle.tk_coord.specs.State.{Holds};
 ghost use Rattle.tk_coord.specs.Steps.{NotesReply, NotesTold, told_at, values_in, open_after};
 
 use crate::answer::Answer;
 use crate::board::Board;
-use crate::peer::{Peer, ask};
+use crate::peer::{Peer, ask, new_peers};
+use crate::reports::no_reports;
 use crate::round::Round;
 use crate::step::{Reply, Statement};
+use std::alloc::Global;
 use tk_alloc::Reported;
-use tk_base::Mon;
+use tk_base::{Mon, NoMemory};
 use tk_rows::MonChange;
 
 /// What the coordinator keeps of the frames that passed.
@@ -100,6 +102,20 @@ fn assign(peers: &mut [Peer], changes: &[MonChange])
 }
 
 impl State {
+    /// Before the first frame: each monitor was sent one Assign, and there was no round.
+    pub fn begun(alloc: Global, board: Board, monitors: u32) -> Result<State, NoMemory>
+        ensures { IfOk result (HasBegun monitors board) }
+    {
+        let peers = new_peers(alloc, monitors)?;
+        let gathered = no_reports(alloc, monitors)?;
+        Ok(State {
+            board,
+            peers,
+            round: Round::none(alloc),
+            gathered,
+        })
+    }
+
     /// Whether no round is open and every monitor's current answer is a Settled.
     pub fn is_calm(&self) -> bool
         ensures { (s : Setup) (j : List Noted) → Holds s j self.now → result ≡ is_calm_at s j }

@@ -7,13 +7,19 @@ use tk_drain::{drive, finish, settle, sweep};
 use tk_input::{Catalog, Event, Logs, Order, Part};
 use tk_world::{Moved, World};
 
+fn logs_of(alloc: Global, one: &[u8], two: &[u8]) -> Result<Logs, Fail> {
+    let names = Catalog::read(alloc, b"a\nb\n")?;
+    let first = Part::read(alloc, one, &names)?;
+    let second = Part::read(alloc, two, &names)?;
+    let objects = names.len() as u32;
+    drop(names);
+    let parts = vec![in alloc; (Mon(1), first), (Mon(2), second)]?;
+    Ok(Logs::new(alloc, parts, objects)?)
+}
+
 /// A world in which nothing has happened yet.
 fn world(alloc: Global, one: &[u8], two: &[u8]) -> Result<World, Fail> {
-    let names = Catalog::read(alloc, b"a\nb\n")?;
-    let mut parts = Vec::new(alloc);
-    parts.push((Mon(1), Part::read(alloc, one, &names)?))?;
-    parts.push((Mon(2), Part::read(alloc, two, &names)?))?;
-    let logs = Logs::new(alloc, parts, names.len() as u32)?;
+    let logs = logs_of(alloc, one, two)?;
     let objects = u64::from(logs.objects());
     let settings = Settings::new(1, 0, 1, objects, u64::from(logs.monitors()))?;
     let from = logs.start(alloc)?;

@@ -152,7 +152,11 @@ impl<W: Wire + Drop> Hub<W> {
         ensures kept { IfOk result IsHub }
     {
         let seats = Seats::new(alloc, coordinator, run)?;
-        let room = Room::new(alloc)?;
+        let Ok(room) = Room::new(alloc) else {
+            // By name, as in `Seats::new`: `?` would drop each of its fields here, which is dear to prove.
+            drop(seats);
+            return Err(NoMemory);
+        };
         // The coordinator is read for its clause, that each seat is that of its monitor.
         let _ = seats.coordinator();
         Ok(Hub {

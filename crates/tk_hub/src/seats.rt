@@ -70,7 +70,10 @@ impl<W: Wire + Drop> Seats<W> {
           links = replicate coordinator.settings.monitors None;
         }) }
     {
-        let links = free_seats(alloc, coordinator.settings().monitors())?;
+        let Ok(links) = free_seats(alloc, coordinator.settings().monitors()) else {
+            drop(coordinator);
+            return Err(NoMemory);
+        };
         // The journal is read for its clause, that it is legal.
         let _ = coordinator.journal();
         Ok(Seats {

@@ -28,7 +28,7 @@ use tk_input::Sink;
 use tk_load::Input;
 use tk_serve::Gate;
 use tk_story::Ends;
-use tk_wire::{Net, NetFault};
+use tk_wire::Net;
 
 /// The counts of faults of a net and of a sink before a run.
 #[derive(Clone, Copy)]
@@ -153,7 +153,10 @@ pub fn live_over<R: Threads + Wait + Sync, N: Net, G: Gate + Sync, O: Sink>(
         Ok(stage) => run_stage(
             rt, alloc, input, from, version, stage, faults, gate, net, out,
         ),
-        Err(NetFault::Failed) => Lived::unstarted(Verdict::of_link(faults.net, net.faults())),
-        Err(NetFault::NoMemory) => Lived::unstarted(Verdict::NoMemory),
+        Err(fault) => {
+            drop(input);
+            drop(from);
+            Lived::unstarted(Verdict::of_net(fault, faults.net, net.faults()))
+        }
     }
 }

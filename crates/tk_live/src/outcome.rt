@@ -70,6 +70,13 @@ impl Outcome {
     pub fn into_status(self) -> Status
         ensures { result ≡ self.status }
     {
-        self.status
+        let Outcome {
+            status,
+            story,
+            ends,
+        } = self;
+        drop(story);
+        drop(ends);
+        status
     }
 }

@@ -92,19 +92,18 @@ fn make_berths<N: Net>(
     ensures made { IfOk result (λ all. map (λ b. made_in b.port.monitor b.version) all.items ≡ all_planned plan.now) }
     ensures gone { HasGone (N.state net.old) (N.state net.new) }
 {
-    let mut berths = Vec::new(alloc);
-    for j in 0..plan.input.settings.monitors() {
-        let berth = match make_berth(alloc, plan, Mon(j + 1), net) {
-            Ok(berth) => berth,
+    let count = plan.input.settings.monitors();
+    let Ok(mut berths) = Vec::with_capacity(alloc, count as usize) else {
+        return Err(NetFault::NoMemory);
+    };
+    for j in 0..count {
+        match make_berth(alloc, plan, Mon(j + 1), net) {
+            Ok(berth) => berths.push_reserved(berth),
             Err(fault) => {
                 drop(berths);
                 return Err(fault);
             }
-        };
-        let Ok(()) = berths.push(berth) else {
-            drop(berths);
-            return Err(NetFault::NoMemory);
-        };
+        }
     }
     Ok(berths)
 }

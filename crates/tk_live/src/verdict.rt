@@ -7,6 +7,7 @@ ghost use Rattle.tk_live.specs.declared.verdict.Verdict.TheVariants.{NoMemory as
 use tk_base::Mon;
 use tk_frames::Frame;
 use tk_story::{Direction, Ends, JoinFault, Received, Story};
+use tk_wire::NetFault;
 
 /// How a live run of an input ended.
 #[derive(Debug, Drop, PartialEq)]
@@ -45,6 +46,17 @@ impl Verdict {
             Verdict::LinkFault
         } else {
             Verdict::NoMemory
+        }
+    }
+
+    /// No worker was started: the net failed so, as its count of faults shows, or there was no memory.
+    pub fn of_net(fault: NetFault, old: u64, new: u64) -> Verdict
+        ensures is { (result ≡ Unlinked) ⊎ (result ≡ OutOfMemory) }
+        ensures risen { result ≡ Unlinked → HasRisen old new }
+    {
+        match fault {
+            NetFault::Failed => Verdict::of_link(old, new),
+            NetFault::NoMemory => Verdict::NoMemory,
         }
     }
 

@@ -1,6 +1,6 @@
 -- A query counts at its own cut what the common logs count at theirs, and each of its cuts is its own at one of these.
-use Rattle.std.proofs.Common.{◌≡◌, ℕ, suc, zero, ◌+◌, ◌<◌, ◌≤◌, ◌==◌, Bool, cond, List, [], ◌∷◌, ◌++◌, All, Contains, length, map, take, drop, get_or, Option, Some, None, option_map, sym, ap, subst, ◌∙◌, arith, refl, ⊎_elim}
-use Rattle.std.specs.Prelude.{ℤ, pos, ◌+ℤ◌, ◌≤ℤ◌}
+use Rattle.std.proofs.Common.{◌≡◌, ℕ, suc, zero, ◌≤◌, Bool, cond, List, [], ◌∷◌, ◌++◌, All, length, map, take, drop, get_or, Option, Some, None, option_map, sym, ap, subst, ◌∙◌, arith, refl, ⊎_elim}
+use Rattle.std.specs.Prelude.{ℤ, pos}
 use Rattle.std.specs.List.{cons_option, zip}
 use Rattle.std.proofs.lemmas.Bool.{cases_eq, eq-eqb, ne_eqb}
 use Rattle.std.proofs.lemmas.Int.{ints}

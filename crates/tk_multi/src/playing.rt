@@ -3,7 +3,7 @@
 ghost use Rattle.std.specs.Prelude.{◌≡◌, All, IfOk, OnOk, map};
 ghost use Rattle.tk_multi.specs.Alone.{AreOfOneSize};
 ghost use Rattle.tk_multi.specs.Multi.{begun_over, passed_all};
-ghost use Rattle.tk_multi.specs.Answers.{AreAnswers, AreFinished, events_in};
+ghost use Rattle.tk_multi.specs.Answers.{AreAnswers, AreFinished, IsEnd, events_in};
 
 use crate::alone::Alone;
 use crate::laws::each_query_is_as_alone;
@@ -61,14 +61,27 @@ fn play(multi: &mut Multi, order: &Option<MultiOrder>) -> Result<(), NoMemory>
     Ok(())
 }
 
+/// Finishes a world. Where that fails it is dropped by name: a place that drops a world by itself is dear to prove.
+fn finish_one(alloc: Global, world: World) -> Result<Story, NoMemory>
+    ensures { IfOk result (IsEnd world) }
+{
+    let mut world = world;
+    match finish(alloc, &mut world) {
+        Ok(()) => world.into_story(),
+        Err(NoMemory) => {
+            drop(world);
+            Err(NoMemory)
+        }
+    }
+}
+
 /// Finishes each world.
 fn finish_all(alloc: Global, worlds: Vec<World>) -> Result<Vec<Story>, NoMemory>
     ensures { IfOk result (λ stories. AreFinished worlds.items stories.items) }
 {
     let mut stories = Vec::with_capacity(alloc, worlds.len())?;
-    for mut world in worlds {
-        finish(alloc, &mut world)?;
-        stories.push(world.into_story()?)?;
+    for world in worlds {
+        stories.push(finish_one(alloc, world)?)?;
     }
     Ok(stories)
 }

@@ -1,5 +1,5 @@
 -- A chain of sessions: what each keeps of the one before is the places of the monitors, and nothing else.
-use Rattle.std.specs.Prelude.{ℕ, ◌≡◌, ◌≤◌, List, [], ◌∷◌, map, slice_index_or}
+use Rattle.std.specs.Prelude.{ℕ, ◌≡◌, ◌≤◌, List, [], ◌∷◌, slice_index_or}
 use Rattle.tk_base.specs.Settings.{Setup}
 use Rattle.tk_input.specs.Logs.{LogSet, beginnings}
 use Rattle.tk_input.specs.declared.event.Event.{Event}

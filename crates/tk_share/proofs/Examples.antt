@@ -1,5 +1,5 @@
 -- Dealing worked out: the shares of a coordinator and two monitors.
-use Rattle.std.proofs.Common.{◌≡◌, ℕ, ℤ, pos, negsuc, List, [], ◌∷◌, refl}
+use Rattle.std.proofs.Common.{◌≡◌, ℕ, pos, negsuc, List, [], ◌∷◌, refl}
 use Rattle.tk_share.specs.Shares.{owned_units, share, shares, units}
 
 -- weight 1 each: what does not go round falls to the first, a debt first to the last

@@ -1,14 +1,14 @@
 -- Readers that are exact for a spelling, put together.
-use Rattle.std.proofs.Common.{◌≡◌, ℕ, zero, suc, ◌+◌, ◌<◌, ◌≤◌, ◌^◌, Bool, true, false, cond, All, List, [], ◌∷◌, ◌++◌, length, Option, Some, None, refl, sym, ap, subst, ◌∙◌, append_assoc, inl, inr, ◌⊎◌}
+use Rattle.std.proofs.Common.{◌≡◌, ℕ, zero, suc, ◌<◌, ◌^◌, Bool, true, false, cond, All, List, [], ◌∷◌, ◌++◌, length, Some, None, refl, sym, ap, subst, ◌∙◌, append_assoc, inl, inr, ◌⊎◌}
 use Rattle.std.specs.List.{flat_map, AllByRecursion}
 use Rattle.std.proofs.lemmas.List.Elements.{All-from_recursion, recursion_from_All}
 use Rattle.std.proofs.lemmas.Option.{cond_some}
 use Rattle.tk_frames.specs.Reading.{Found, ◌>>=◌, as_at, bytes_at}
-use Rattle.tk_frames.proofs.BytesLemmas.{IsBytes, rest_fits}
+use Rattle.tk_frames.proofs.BytesLemmas.{IsBytes}
 use Rattle.tk_frames.proofs.Steps.{bind_some, some_is}
-use Rattle.tk_frames.proofs.ExactLemmas.{IsExact, exact_fact, left_fits}
+use Rattle.tk_frames.proofs.ExactLemmas.{IsExact, left_fits}
 use Rattle.tk_frames.proofs.FieldLemmas.{exact_bytes}
-use Rattle.tk_trace.specs.Reading.{counted_at, if_passes, number_at, tested_at, times_at}
+use Rattle.tk_trace.specs.Reading.{if_passes, number_at, tested_at, times_at}
 use Rattle.tk_trace.specs.Spelling.{counted, number}
 
 -- one of two

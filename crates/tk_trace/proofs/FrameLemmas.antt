@@ -1,5 +1,5 @@
 -- The reader of frames is exact.
-use Rattle.std.proofs.Common.{◌≡◌, ℕ, ◌+◌, ◌-◌, ◌<◌, ◌≤◌, ◌^◌, false, true, cond, eqb, ltb, List, [], ◌∷◌, ◌++◌, length, take, drop, Some, None, refl, sym, ap, subst, ◌∙◌, append_assoc, ne_eqb, arith}
+use Rattle.std.proofs.Common.{◌≡◌, ℕ, ◌+◌, ◌-◌, ◌≤◌, false, eqb, ltb, List, [], ◌++◌, length, take, drop, Some, refl, sym, ap, subst, ◌∙◌, append_assoc, ne_eqb, arith}
 use Rattle.std.proofs.lemmas.Bool.{le-ltb}
 use Rattle.std.proofs.lemmas.List.{append-nil, drop_at, length-append, length-drop, take_all, take-append-drop, take_at}
 use Rattle.byteorder.specs.Endian.{big_bytes, big_number}
@@ -12,7 +12,7 @@ use Rattle.tk_frames.specs.declared.answer.Next.TheVariants.{Whole, Part, Bad}
 use Rattle.tk_frames.specs.Answer.{Answers}
 use Rattle.tk_frames.specs.Frame.{kind_of}
 use Rattle.tk_frames.specs.Reading.{answer_of, fields_at, kind_answer, kind_at, next_of, payload_answer}
-use Rattle.tk_frames.specs.Spelling.{IsSpelling, code_of, fields, framed, payload, spelling}
+use Rattle.tk_frames.specs.Spelling.{code_of, fields, framed, payload, spelling}
 use Rattle.tk_frames.proofs.AnswerLemmas.{answer_only, answer_stands}
 use Rattle.tk_frames.proofs.BytesLemmas.{IsBytes}
 use Rattle.tk_frames.proofs.ExactLemmas.{IsExact}

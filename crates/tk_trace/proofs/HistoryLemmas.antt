@@ -1,22 +1,22 @@
 -- The readers of journals and trails are exact.
-use Rattle.std.proofs.Common.{◌≡◌, ℕ, zero, suc, ◌+◌, ◌<◌, ◌≤◌, ◌^◌, ℤ, Bool, true, false, cond, eqb, All, List, [], ◌∷◌, ◌++◌, length, Option, Some, None, refl, sym, ap, subst, ◌∙◌, append_assoc, arith, inl, inr}
+use Rattle.std.proofs.Common.{◌≡◌, ℕ, suc, ◌<◌, ◌≤◌, ◌^◌, ℤ, Bool, eqb, All, List, [], ◌∷◌, ◌++◌, length, Some, refl, sym, ap, subst, ◌∙◌, append_assoc, arith, inl, inr}
 use Rattle.std.specs.List.{AllZip, flat_map}
 use Rattle.std.proofs.lemmas.List.Elements.{All-head, All-tail}
 use Rattle.std.proofs.lemmas.Bool.{eqb-true}
 use Rattle.tk_frames.specs.declared.frame.Frame.{Frame}
-use Rattle.tk_frames.specs.Reading.{Found, ◌>>=◌, as_at, both_at}
+use Rattle.tk_frames.specs.Reading.{Found, ◌>>=◌, as_at}
 use Rattle.std.specs.Prelude.{⊤}
 use Rattle.tk_frames.specs.Spelling.{ArePlaces, IsSet, spelling}
 use Rattle.tk_frames.proofs.BytesLemmas.{IsBytes}
-use Rattle.tk_frames.proofs.ExactLemmas.{IsExact, exact_as, exact_both, exact_fact, left_fits}
+use Rattle.tk_frames.proofs.ExactLemmas.{IsExact, exact_as, exact_both, left_fits}
 use Rattle.tk_frames.proofs.Steps.{bind_some, some_is}
 use Rattle.tk_journal.specs.declared.noted.Noted.{Noted}
 use Rattle.tk_journal.specs.declared.noted.Noted.TheVariants as n
 use Rattle.tk_journal.specs.declared.publication.Publication.{Publication}
 use Rattle.tk_trail.specs.declared.entry.Entry.{Entry}
 use Rattle.tk_trail.specs.declared.entry.Entry.TheVariants as e
-use Rattle.tk_trace.specs.Reading.{bounds_at, entry_at, frame_at, got, is_one_of, journal_at, link_at, noted_at, number_at, publication_at, published, raised, said, sent, tested_at, told, took, trail_at, trails_at, tuned}
-use Rattle.tk_trace.specs.Spelling.{IsEntry, IsEpsilon, IsFrame, IsNoted, IsOneOf, IsPublication, IsTrail, bounds, counted, entry, noted, number, publication, trail}
+use Rattle.tk_trace.specs.Reading.{entry_at, got, journal_at, link_at, noted_at, publication_at, published, raised, said, sent, told, took, trail_at, trails_at, tuned}
+use Rattle.tk_trace.specs.Spelling.{IsEntry, IsEpsilon, IsFrame, IsNoted, IsOneOf, IsPublication, IsTrail, counted, entry, noted, number, publication, trail}
 use Rattle.tk_trace.proofs.ExactLemmas.{exact_behind, exact_number, exact_times, made_from, one_way}
 use Rattle.tk_trace.proofs.FieldLemmas.{exact_bounds, exact_flag, exact_one_of, exact_places, exact_set}
 use Rattle.tk_trace.proofs.FrameLemmas.{exact_frame}

@@ -1,20 +1,18 @@
 -- The reader of logs is exact: rows of parts are logs where they are within the limits.
-use Rattle.std.proofs.Common.{◌≡◌, ℕ, zero, suc, ◌+◌, ◌-◌, ◌<◌, ◌≤◌, ◌^◌, ℤ, pos, negsuc, unsigned_abs, Bool, true, false, cond, eqb, ltb, All, get_or, List, [], ◌∷◌, ◌++◌, length, Option, Some, None, option_map, Result, Ok, Err, refl, sym, ap, subst, ◌∙◌, ne_eqb, arith}
+use Rattle.std.proofs.Common.{◌≡◌, ℕ, zero, suc, ◌+◌, ◌<◌, ◌≤◌, ◌^◌, ℤ, pos, negsuc, unsigned_abs, Bool, true, false, cond, All, get_or, List, [], ◌∷◌, ◌++◌, length, Option, Some, None, option_map, Result, Ok, refl, sym, ap, subst, ◌∙◌, ne_eqb, arith}
 use Rattle.std.specs.Prelude.{FitsSigned, find, is_some, nat_le, nat_lt, position, sum_by, ◌==◌}
 use Rattle.std.specs.Int.{w128}
-use Rattle.std.specs.List.{flat_map, position_or_len, range_with_len}
+use Rattle.std.specs.List.{flat_map, position_or_len}
 use Rattle.std.proofs.lemmas.Bool.{eq-eqb, le-leb, le-ltb, leb-true, ltb-false}
 use Rattle.std.proofs.lemmas.List.Elements.{All-weaker}
 use Rattle.std.proofs.lemmas.List.{get_or_default}
 use Rattle.std.proofs.lemmas.List.Sums.{position_or_len_is, sum_by-cons}
 use Rattle.std.proofs.lemmas.Int.{ints}
 use Rattle.tk_base.specs.Objects.{objects}
-use Rattle.tk_base.specs.declared.ids.Mon.{Mon}
-use Rattle.tk_base.specs.declared.ids.Obj.{Obj}
 use Rattle.tk_input.specs.Judged.{first_at, first_crowded, first_gap, Assigned, great_in, great_object, judged, logs_by_monitor, logs_of, unless}
 use Rattle.tk_input.specs.Logs.{AreLogs, AreParts, IsObject, LogSet, updates_of, weight_for, weight_of}
 use Rattle.tk_input.specs.declared.logs.LogsFault.{LogsFault}
-use Rattle.tk_input.specs.declared.logs.LogsFault.TheVariants.{MonitorGap, TooGreat, TooManyFeeders, TooManyUpdates}
+use Rattle.tk_input.specs.declared.logs.LogsFault.TheVariants.{MonitorGap, TooManyFeeders, TooManyUpdates}
 use Rattle.tk_input.proofs.LimitsLemmas.{passed as within}
 use Rattle.tk_input.specs.Rows.{size_at}
 use Rattle.tk_input.proofs.SumLemmas.{weight_for-all, weight_of-part}
@@ -22,7 +20,6 @@ use Rattle.tk_frames.specs.Reading.{◌>>=◌}
 use Rattle.tk_frames.proofs.BytesLemmas.{IsBytes}
 use Rattle.tk_frames.proofs.ExactLemmas.{IsExact, exact_both, exact_fact}
 use Rattle.tk_frames.proofs.Steps.{bind_some, some_is}
-use Rattle.tk_frames.specs.Spelling.{signed}
 use Rattle.tk_trace.specs.Assigned.{assigned_from}
 use Rattle.tk_trace.specs.declared.fault.ParseFault.{ParseFault}
 use Rattle.tk_trace.specs.declared.fault.ParseFault.TheVariants as fault

@@ -1,7 +1,7 @@
 -- What a story keeps can be written.
-use Rattle.std.proofs.Common.{◌≡◌, ℕ, zero, suc, ◌+◌, ◌-◌, ◌<◌, ◌≤◌, ◌^◌, ◌≤ℤ◌, ◌==◌, not, ℤ, pos, Bool, true, false, cond, All, List, [], ◌∷◌, ◌++◌, map, length, take, drop, get_or, replicate, Option, Some, None, refl, sym, ap, subst, ◌∙◌, append_assoc, inl, inr, arith}
+use Rattle.std.proofs.Common.{◌≡◌, ℕ, suc, ◌+◌, ◌-◌, ◌<◌, ◌≤◌, ◌^◌, ◌≤ℤ◌, ◌==◌, not, ℤ, pos, Bool, true, false, cond, All, List, [], ◌∷◌, ◌++◌, map, length, take, drop, get_or, Option, Some, None, refl, sym, ap, subst, ◌∙◌, arith}
 use Rattle.std.specs.Prelude.{filter, fold, filter_map, slice_get, Contains, if◌then◌else◌, ⊤}
-use Rattle.std.specs.List.{AllZip, cons_option, enumerate_from, range_with_len}
+use Rattle.std.specs.List.{cons_option, enumerate_from}
 use Rattle.std.proofs.lemmas.Int.{ints}
 use Rattle.std.proofs.lemmas.Bool.{eq-eqb}
 use Rattle.std.proofs.lemmas.List.{get_or_default, take-append-drop}
@@ -12,17 +12,15 @@ use Rattle.tk_base.specs.Settings.{Setup}
 use Rattle.tk_base.specs.declared.ids.Mon.{Mon}
 use Rattle.tk_base.proofs.HistoryLemmas.{each_place}
 use Rattle.tk_frames.specs.Encoding.{IsBadHello}
-use Rattle.tk_frames.specs.Size.{IsShort}
 use Rattle.tk_frames.specs.declared.frame.Frame.{Frame}
 use Rattle.tk_frames.specs.declared.frame.Frame.TheVariants as f
 use Rattle.tk_alloc.specs.declared.reported.Reported.{Reported}
 use Rattle.tk_journal.specs.Deciding.{Decided, report_of, reports_at, short_decides}
 use Rattle.tk_journal.specs.Laws.{AreSentShort, IsMonitor, IsSetUp}
-use Rattle.tk_journal.specs.Legal.{IsAccepted, IsLegal, Opening, opened, start}
+use Rattle.tk_journal.specs.Legal.{IsLegal, Opening, opened, start}
 use Rattle.tk_journal.specs.Links.{frames_from, frames_to}
 use Rattle.tk_journal.specs.Publishing.{closing, is_due, is_last, publication_at, stops}
 use Rattle.tk_journal.specs.Readings.{assigns_sent, in_force, is_over, monitors, tuned_to, tunings, Tuning}
-use Rattle.tk_journal.specs.Refusal.{refusal_of}
 use Rattle.tk_journal.specs.Sending.{CanBeTaken, IsSaidWell}
 use Rattle.tk_journal.specs.Shapes.{Shape}
 use Rattle.tk_journal.specs.Shapes.Shape.{Plain, Short, Wide, Full, LoneEnd, LoneWide, EndFull, EndOver, EndWide}

@@ -1,20 +1,16 @@
 -- Reading a whole trace is exact.
-use Rattle.std.proofs.Common.{◌≡◌, ℕ, ◌<◌, ◌≤◌, ◌^◌, Bool, true, false, cond, All, List, [], ◌∷◌, ◌++◌, length, take, drop, Option, Some, None, Result, Ok, Err, IfOk, refl, sym, ap, subst, ◌∙◌, append_assoc, append-nil, arith}
+use Rattle.std.proofs.Common.{◌≡◌, ℕ, ◌≤◌, All, List, [], ◌∷◌, ◌++◌, length, take, drop, Option, Some, None, Result, Ok, Err, IfOk, refl, sym, ap, subst, ◌∙◌, append-nil}
 use Rattle.std.specs.Prelude.{nat_eq, IsErrOf}
 use Rattle.std.specs.Cmp.Lexicographic.{pointwise, same_text}
-use Rattle.std.specs.List.{AllZip, flat_map}
-use Rattle.std.proofs.lemmas.List.{drop_at, take-append-drop, take_at}
-use Rattle.std.proofs.lemmas.List.Elements.{All-weaker, length_all_zip}
+use Rattle.std.specs.List.{flat_map}
+use Rattle.std.proofs.lemmas.List.{take-append-drop}
+use Rattle.std.proofs.lemmas.List.Elements.{All-weaker}
 use Rattle.std.proofs.lemmas.Option.{cond_some}
-use Rattle.tk_base.specs.Settings.{Setup}
 use Rattle.tk_input.specs.Logs.{AreParts, LogSet}
-use Rattle.tk_journal.specs.declared.noted.Noted.{Noted}
-use Rattle.tk_trail.specs.declared.entry.Entry.{Entry}
-use Rattle.tk_frames.specs.Reading.{◌>>=◌}
 use Rattle.tk_frames.proofs.BytesLemmas.{IsBytes, rest_fits}
 use Rattle.tk_frames.proofs.ExactLemmas.{left_fits}
 use Rattle.tk_frames.proofs.Steps.{bind_some, some_is}
-use Rattle.tk_trace.specs.Reading.{Fails, Gives, at_the_end, behind_mark, journal_at, logs_at, names_at, run_at, setup_at, trace_at, trails_at}
+use Rattle.tk_trace.specs.Reading.{Gives, at_the_end, behind_mark, journal_at, logs_at, names_at, run_at, setup_at, trace_at, trails_at}
 use Rattle.tk_trace.specs.Recorded.{Recorded}
 use Rattle.tk_trace.specs.Spelling.{IsRecorded, IsTrace, journal, mark, name, row, setup, trace, trail}
 use Rattle.tk_trace.specs.declared.fault.ParseFault.{ParseFault}

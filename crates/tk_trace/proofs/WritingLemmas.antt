@@ -1,13 +1,13 @@
 -- Writing one after the other, as a loop does, and the forms that frames give to sets and places.
-use Rattle.std.proofs.Common.{◌≡◌, ℕ, zero, suc, ◌+◌, ◌-◌, ◌<◌, ◌≤◌, ◌^◌, ℤ, All, List, [], ◌∷◌, ◌++◌, length, get_or, take, Some, refl, sym, ap, subst, ◌∙◌, append_assoc, arith}
-use Rattle.std.specs.Prelude.{FitsSigned, slice_get}
+use Rattle.std.proofs.Common.{◌≡◌, ℕ, ◌+◌, ◌<◌, ◌^◌, ℤ, All, List, [], ◌∷◌, ◌++◌, length, get_or, take, Some, refl, sym, ap, subst, ◌∙◌, append_assoc}
+use Rattle.std.specs.Prelude.{slice_get}
 use Rattle.std.specs.Int.{w128, cast_unsigned}
 use Rattle.std.specs.List.{AllZip, flat_map}
 use Rattle.std.proofs.lemmas.List.{flat_map_more, get_or_default, take_more}
 use Rattle.std.proofs.lemmas.List.Elements.{All-head, All-more, All-tail}
 use Rattle.std.proofs.lemmas.Option.{get_or_from_slice_get}
 use Rattle.tk_base.specs.Ascending.{IsAscending}
-use Rattle.tk_frames.specs.Spelling.{Above, ArePlaces, EachInTurn, IsPlace, IsSet, counted as frame_counted, in_turn, no_object, number as frame_number, object as frame_object, object_itself, place, places, set, signed}
+use Rattle.tk_frames.specs.Spelling.{Above, ArePlaces, EachInTurn, IsSet, counted as frame_counted, in_turn, no_object, number as frame_number, object as frame_object, object_itself, place, places, set, signed}
 use Rattle.tk_frames.proofs.AscentLemmas.{objects_in_turn}
 use Rattle.tk_frames.proofs.WritingLemmas.{facts_both}
 use Rattle.tk_trace.specs.Spelling.{number}

@@ -1,5 +1,5 @@
 -- The grammar of traces: the bytes of a recorded run. Numbers stand with their highest byte first.
-use Rattle.std.specs.Prelude.{FitsSigned, ◌≡◌, ◌<◌, ◌≤◌, ◌^◌, ◌≤ℤ◌, ℕ, ℤ, pos, unsigned_abs, codes, List, [], ◌∷◌, ◌++◌, length, Ok, ⊤}
+use Rattle.std.specs.Prelude.{FitsSigned, ◌≡◌, ◌<◌, ◌≤◌, ◌^◌, ◌≤ℤ◌, ℕ, ℤ, pos, unsigned_abs, codes, List, ◌∷◌, ◌++◌, length, Ok}
 use Rattle.std.specs.Int.{w128}
 use Rattle.std.specs.List.{flat_map, All, AllZip}
 use Rattle.byteorder.specs.Endian.{big_bytes}

@@ -1,5 +1,5 @@
 -- The ticks of small logs, what a window makes of them, and which ticks end where. Objects a and b.
-use Rattle.std.proofs.Common.{◌≡◌, ℕ, suc, ◌≤◌, ℤ, pos, List, ◌∷◌, [], length, Ok, Err, Some, None, codes, refl, arith}
+use Rattle.std.proofs.Common.{◌≡◌, ℕ, ◌≤◌, ℤ, pos, List, ◌∷◌, [], Ok, Err, Some, None, codes, refl, arith}
 use Rattle.std.specs.Prelude.{neg_ℤ}
 use Rattle.csv.proofs.OnLiterals.{csv_on_literals}
 use Rattle.tk_input.specs.Records.{through}

@@ -13,7 +13,7 @@ use std::thread::Threads;
 use std::{env, rt};
 use tk_base::NoMemory;
 use tk_input::{StdSink, TrueFiles};
-use tk_live::live;
+use tk_live::{Outcome, live};
 use tk_net::LoopNet;
 use tk_run::{Status, fault_line, run};
 use tk_serve::OpenGate;
@@ -49,11 +49,16 @@ fn run_live<R: AllocGlobal + RandomSource + Print + rt::Files + rt::Net + Thread
     let mut files = TrueFiles::new(alloc, rt);
     let mut out = StdSink::new(rt);
     let run = run_number(rt);
-    let outcome = live(
+    let Outcome {
+        status,
+        story,
+        ends,
+    } = live(
         rt, alloc, words, &mut files, &mut net, run, &OpenGate, &mut out,
     );
-    leave(outcome.story, Vec::new(alloc));
-    outcome.status
+    leave(story, Vec::new(alloc));
+    leave(ends, Vec::new(alloc));
+    status
 }
 
 /// The words of the command line, without the program's name.

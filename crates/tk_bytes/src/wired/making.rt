@@ -115,7 +115,12 @@ impl Wired {
             piece,
             version,
         };
-        let lines = new_lines(alloc, &mut hub, &plan)?;
-        Ok(Wired { hub, lines })
+        match new_lines(alloc, &mut hub, &plan) {
+            Ok(lines) => Ok(Wired { hub, lines }),
+            Err(NoMemory) => {
+                drop(hub);
+                Err(NoMemory)
+            }
+        }
     }
 }

@@ -10,10 +10,7 @@ use crate::coordinator::Coordinator;
 use crate::entries::{first_assigns, first_objects};
 use crate::journal::Journal;
 use crate::opening::table_assigns;
-use crate::peer::new_peers;
 use crate::phase::Phase;
-use crate::reports::no_reports;
-use crate::round::Round;
 use crate::state::State;
 use crate::turns::Turns;
 use std::alloc::Global;
@@ -65,21 +62,13 @@ impl Coordinator {
         ensures { IfOk result (λ c. c ≡ record { settings = settings; journal = journal.items }) }
     {
         let monitors = settings.monitors();
-        let mut kept = Journal::new(alloc, monitors)?;
-        kept.reserve(journal.len())?;
-        kept.append(journal);
+        let journal = Journal::with_entries(alloc, monitors, journal)?;
         let board = Board::new(alloc, settings.objects(), members, table)?;
-        let state = State {
-            board,
-            peers: new_peers(alloc, monitors)?,
-            round: Round::none(alloc),
-            gathered: no_reports(alloc, monitors)?,
-        };
         Ok(Coordinator {
             settings,
-            state,
+            state: State::begun(alloc, board, monitors)?,
             phase: Phase::new(settings),
-            journal: kept,
+            journal,
             turns: Turns::new(alloc),
         })
     }

@@ -1,5 +1,5 @@
-use Rattle.std.proofs.Common.{◌≡◌, ◌<◌, ◌+◌, ◌∷◌, length, map, get_or, subst, arith, ap, sym, ◌∙◌, add-one}
-use Rattle.std.proofs.lemmas.List.{take_all, length-map, get_or-map, get_or_default}
+use Rattle.std.proofs.Common.{◌≡◌, ◌<◌, length, map, get_or, subst, arith, ap, sym, ◌∙◌, add-one}
+use Rattle.std.proofs.lemmas.List.{take_all, length-map, get_or-map}
 use Rattle.tk_base.specs.Ascending.{IsAscending}
 use Rattle.tk_base.proofs.AscendingLemmas.{ascending_more}
 use Rattle.tk_base.proofs.numbered.first_disorder.Goals as goal

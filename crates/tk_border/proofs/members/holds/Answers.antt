@@ -1,4 +1,4 @@
-use Rattle.std.proofs.Common.{◌≡◌, ◌∙◌, sym, ap, arith, true, false}
+use Rattle.std.proofs.Common.{◌∙◌, sym, ap, arith}
 use Rattle.tk_base.specs.Objects.{is_in}
 use Rattle.tk_border.proofs.MembershipLemmas.{has_is, holds_more, holds_not}
 use Rattle.tk_border.proofs.members.holds.Goals as goal

@@ -1,10 +1,14 @@
 use Rattle.std.proofs.Common.{ap, sym, subst}
 use Rattle.std.specs.Prelude.{is_ok}
 use Rattle.tk_monitor.specs.Monitored.{MonitorView}
+use Rattle.tk_wire.specs.SureWire.{SureView}
 use Rattle.tk_bytes.specs.Greeting.{CanJoin, SeatsOne}
 use Rattle.tk_bytes.specs.Line.{IsLine}
 use Rattle.tk_bytes.proofs.AdmitLemmas.{admits_line, is_kept}
 use Rattle.tk_bytes.proofs.greeting.introduce.Goals as goal
+
+pub carry_hello-requires-clause-unused : goal.carry_hello-requires-clause-unused
+carry_hello-requires-clause-unused c = ap (λ (w : SureView). w.traffic) c.in_ok-wire.ensures
 
 pub returns-clause-line : goal.returns-clause-line
 returns-clause-line c =

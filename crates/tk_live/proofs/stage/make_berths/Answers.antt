@@ -1,4 +1,4 @@
-use Rattle.std.proofs.Common.{◌≡◌, ◌+◌, ◌++◌, ◌∷◌, [], map, sym, ◌∙◌, ap, arith}
+use Rattle.std.proofs.Common.{◌≡◌, ◌+◌, ◌++◌, ◌∷◌, [], map, sym, ◌∙◌, ap, arith, rules}
 use Rattle.std.specs.List.{range_with_len}
 use Rattle.std.proofs.lemmas.List.{map-append}
 use Rattle.tk_live.specs.Crew.{made_in}
@@ -10,24 +10,23 @@ use Rattle.tk_coord.proofs.RangeLemmas.{counted_more}
 pub returns-in-Err-clause-gone : goal.returns-in-Err-clause-gone
 returns-in-Err-clause-gone g c = gone_on _ _ _ c.loop-j.invariant.gone c.make_berth.ensures.gone
 
-pub returns-in_default-clause-gone : goal.returns-in_default-clause-gone
-returns-in_default-clause-gone g c = gone_on _ _ _ c.loop-j.invariant.gone c.make_berth.ensures.gone
-
 pub loop-j-preserved : goal.loop-j-preserved
 loop-j-preserved g c =
     let before = c.loop-j.invariant in
     let of_ = made_of c.args.plan.now.input.now c.args.plan.now.from.now c.args.plan.now.version in record {
       made =
-          ap (λ xs. map (λ b. made_in b.port.monitor b.version) xs) c.in-Ok-push.ensures.items
-          ∙ map-append (λ b. made_in b.port.monitor b.version) c.loop-j.berths.items (c.in-Ok.berth ∷ [])
-          ∙ ap (λ xs. xs ++ made_in c.in-Ok.berth.port.monitor c.in-Ok.berth.version ∷ []) before.made
-          ∙ ap (λ x. map of_ (range_with_len 1 c.loop-j.j) ++ x ∷ []) c.in-Ok.ensures.made
+          ap (λ xs. map (λ b. made_in b.port.monitor b.version) xs) c.push_reserved.ensures.items
+          ∙ map-append (λ b. made_in b.port.monitor b.version) c.loop-j.berths.items (c.in-Ok-make_berth.berth ∷ [])
+          ∙ ap (λ xs. xs ++ made_in c.in-Ok-make_berth.berth.port.monitor c.in-Ok-make_berth.berth.version ∷ []) before.made
+          ∙ ap (λ x. map of_ (range_with_len 1 c.loop-j.j) ++ x ∷ []) c.in-Ok-make_berth.ensures.made
           ∙ sym (counted_more of_ c.loop-j.j);
       gone = gone_on _ _ _ before.gone c.make_berth.ensures.gone;
-      links = c.in-Ok.ensures.links ∙ ap (λ n. n + 1) before.links;
+      count = search rules;
+      room = search rules;
+      links = c.in-Ok-make_berth.ensures.links ∙ ap (λ n. n + 1) before.links;
     }
 
 pub returns-clause-made : goal.returns-clause-made
 returns-clause-made g c =
-    let last : c.loop-j.j ≡ c.args.plan.now.input.now.settings.monitors = omega (arith, c.monitors-j-end.ensures.value, c.loop-j-test.false, c.loop-j.auto.j-end) in
+    let last : c.loop-j.j ≡ c.args.plan.now.input.now.settings.monitors = omega (arith, c.monitors-count.ensures.value, c.loop-j-test.false) in
     c.loop-j.invariant.made ∙ ap (λ n. map (made_of c.args.plan.now.input.now c.args.plan.now.from.now c.args.plan.now.version) (range_with_len 1 n)) last

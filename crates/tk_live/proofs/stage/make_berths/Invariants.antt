@@ -1,4 +1,4 @@
-use Rattle.std.proofs.Common.{◌≡◌, map}
+use Rattle.std.proofs.Common.{◌≡◌, ◌≤◌, length, map, vec_capacity}
 use Rattle.std.specs.List.{range_with_len}
 use Rattle.tk_live.specs.Crew.{made_in}
 use Rattle.tk_live.specs.Hosting.{HasGone}
@@ -10,5 +10,7 @@ abbrev pub invariant-loop-j : goal.invariant-loop-j
 invariant-loop-j g l = record {
   made : map (λ b. made_in b.port.monitor b.version) l.berths.items ≡ map (made_of l.plan.input.now l.plan.from.now l.plan.version) (range_with_len 1 l.j);
   gone : HasGone (g.N.Net.state l.fn.net) (g.N.Net.state l.net);
+  count : length l.berths.items ≡ l.j;
+  room : l.count ≤ vec_capacity l.berths;
   links : (g.N.Net.state l.net).links ≡ l.j;
 }

@@ -1,4 +1,4 @@
-use Rattle.std.proofs.Common.{◌≡◌, ◌∙◌, ap, sym, take}
+use Rattle.std.proofs.Common.{◌∙◌, ap, sym}
 use Rattle.tk_multi.specs.Multi.{MultiView, next_multi, passed}
 use Rattle.tk_multi.proofs.AnswerLemmas.{passed_by, passed_more}
 use Rattle.tk_multi.proofs.playing.play.Goals as goal

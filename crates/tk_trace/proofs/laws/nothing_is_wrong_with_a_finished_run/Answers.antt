@@ -1,4 +1,4 @@
-use Rattle.std.proofs.Common.{subst, sym}
+use Rattle.std.proofs.Common.{subst}
 use Rattle.tk_verify.specs.Recorded.{Finds}
 use Rattle.tk_trace.specs.Recorded.{recorded_of}
 use Rattle.tk_trace.proofs.CheckLemmas.{final_is, nothing_wrong, told_again}

@@ -1,4 +1,4 @@
-use Rattle.std.proofs.Common.{[], refl, subst, sym, ◌∙◌}
+use Rattle.std.proofs.Common.{[], ◌∙◌}
 use Rattle.tk_ledger.proofs.SinkLemmas.{front_of, grows_none, on_err, put_done, put_front}
 use Rattle.tk_trace.specs.Recorded.{recorded_of}
 use Rattle.tk_trace.specs.Spelling.{trace}

@@ -1,4 +1,4 @@
-use Rattle.std.proofs.Common.{◌≡◌, ◌∙◌, ap, sym, map, string_bytes, Some}
+use Rattle.std.proofs.Common.{◌∙◌, ap, sym, map, string_bytes, Some}
 use Rattle.std.proofs.lemmas.Result.{IfOk-weaker}
 use Rattle.clap.specs.Words.{App, app_of, found_of, is_simple_and_free, rows_of}
 use Rattle.tk_words.specs.Asked.{asked_by}

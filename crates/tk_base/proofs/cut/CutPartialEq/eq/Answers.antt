@@ -1,4 +1,3 @@
-use Rattle.std.proofs.Common.{◌∙◌, sym}
 use Rattle.tk_base.proofs.EqualLemmas.{lists_tell, same_from}
 use Rattle.tk_base.proofs.cut.CutPartialEq.eq.Goals as goal
 

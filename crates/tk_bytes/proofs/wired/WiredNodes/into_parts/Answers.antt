@@ -4,6 +4,6 @@ use Rattle.tk_world.specs.declared.seat.Seat.{Seat}
 use Rattle.tk_bytes.proofs.WiredLemmas.{monitors_again}
 use Rattle.tk_bytes.proofs.wired.WiredNodes.into_parts.Goals as goal
 
-pub returns-clause-monitors : goal.returns-clause-monitors
-returns-clause-monitors c =
-    c.in_ok-monitors.ensures ∙ monitors_again c.self.inside.lines.items ∙ ap (λ (v : NodesView). map (λ (seat : Seat). seat.monitor) v.seats) c.self.view_is
+pub returns-in-Ok-clause-monitors : goal.returns-in-Ok-clause-monitors
+returns-in-Ok-clause-monitors c =
+    c.in-Ok.ensures ∙ monitors_again c.self.inside.lines.items ∙ ap (λ (v : NodesView). map (λ (seat : Seat). seat.monitor) v.seats) c.self.view_is

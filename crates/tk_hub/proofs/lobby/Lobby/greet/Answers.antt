@@ -1,4 +1,4 @@
-use Rattle.std.proofs.Common.{◌+◌, ap, arith}
+use Rattle.std.proofs.Common.{ap, arith}
 use Rattle.std.specs.Prelude.{is_err}
 use Rattle.tk_hub.proofs.LobbyLemmas.{greets_same, greets_step, greets_wanting, links_alone}
 use Rattle.tk_hub.proofs.lobby.Lobby.greet.Goals as goal

@@ -1,8 +1,7 @@
-use Rattle.std.proofs.Common.{◌≡◌, ◌≤◌, All, length, arith, sym, subst}
+use Rattle.std.proofs.Common.{arith}
 use Rattle.std.proofs.lemmas.Result.{err_from_is_err_and}
 use Rattle.std.proofs.lemmas.List.{length-map}
 use Rattle.tk_input.specs.Rows.{logs_in}
-use Rattle.tk_trace.specs.Reading.{if_ok, logs_at, row_at, times_at}
 use Rattle.tk_trace.proofs.LogLemmas.{logs_failed, logs_found, parts_read, rows_failed, rows_read}
 use Rattle.tk_trace.proofs.reading.logs.logs.Goals as goal
 

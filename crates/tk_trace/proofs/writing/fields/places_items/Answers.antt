@@ -1,4 +1,4 @@
-use Rattle.std.proofs.Common.{◌<◌, ◌^◌, ℕ, length, arith}
+use Rattle.std.proofs.Common.{◌<◌, ◌^◌, length, arith}
 use Rattle.tk_trace.specs.Spelling.{number}
 use Rattle.tk_trace.proofs.WritingLemmas.{more, more_within, number_at_place}
 use Rattle.tk_trace.proofs.writing.fields.places_items.Goals as goal

@@ -1,4 +1,4 @@
-use Rattle.std.proofs.Common.{◌<◌, ℕ, length, refl, arith}
+use Rattle.std.proofs.Common.{◌<◌, length, refl, arith}
 use Rattle.tk_frames.specs.Spelling.{ArePlaces, places}
 use Rattle.tk_trace.proofs.WritingLemmas.{got_at, more, more_within}
 use Rattle.tk_trace.proofs.writing.journal.cut.Goals as goal

@@ -1,4 +1,4 @@
-use Rattle.std.proofs.Common.{◌≡◌, ◌++◌, ◌<◌, ◌^◌, All, take}
+use Rattle.std.proofs.Common.{◌≡◌, ◌++◌, All, take}
 use Rattle.std.specs.List.{flat_map}
 use Rattle.tk_frames.specs.Spelling.{ArePlaces, places}
 use Rattle.tk_trace.proofs.writing.journal.cut.Given as goal

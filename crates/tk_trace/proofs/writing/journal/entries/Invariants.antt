@@ -1,4 +1,4 @@
-use Rattle.std.proofs.Common.{◌≡◌, ◌++◌, ◌<◌, ◌^◌, All, take}
+use Rattle.std.proofs.Common.{◌≡◌, ◌++◌, All, take}
 use Rattle.std.specs.List.{flat_map}
 use Rattle.tk_trace.specs.Spelling.{IsNoted, noted}
 use Rattle.tk_trace.proofs.writing.journal.entries.Given as goal

@@ -1,4 +1,4 @@
-use Rattle.std.proofs.Common.{◌≡◌, ap, ◌∙◌, sym, length, arith}
+use Rattle.std.proofs.Common.{◌≡◌, ap, ◌∙◌, length, arith}
 use Rattle.std.specs.List.{slice_range}
 use Rattle.tk_wire.proofs.StoreLemmas.{range_within, slice_size}
 use Rattle.tk_wire.proofs.store.Store.into_range.Goals as goal
