@@ -6,19 +6,23 @@ prefixes, plus epsilon, is at least that of every object outside. An example wit
 fault stands in the file `fault`; of a run that is made from a seed the text alone is compared. What a live run prints
 depends on how its threads meet, so it has no expected text: each set that it prints is checked by plain sums. Where
 there is an awk, the change logs of the access logs are made once more and compared, too; where there is a program, so is
-the trace that is kept, the trace of each replay is checked, and what is no whole trace is refused.
+the trace that is kept, each replay is run in pieces too, its trace is checked, and what is no whole trace is refused.
 """
 import csv
 import os
 import pathlib
 import re
+import resource
 import shutil
+import signal
 import subprocess
 import sys
 import tempfile
 
 ROOT = pathlib.Path(__file__).resolve().parent.parent
 PROGRAM = ROOT / "crates" / "topk" / "out" / "topk"
+# The other ways in which the frames of a replay go.
+WAYS = ("--piece 1", "--piece 7 --frames 2", "--piece 4096", "--frames 2")
 # A run, and its trace.
 TRACED = ROOT / "examples" / "two_monitors"
 TRACE = ROOT / "examples" / "checked" / "two_monitors.trace"
@@ -218,6 +222,18 @@ def traces():
             yield f"{folder.name}: the program makes another trace"
 
 
+def replays_in_pieces(folders):
+    """Each replay prints the same text in whatever pieces and version its frames go."""
+    for folder in folders:
+        words = words_in(folder)
+        if is_refused(folder) or words[0] != "replay" or "--piece" in words:
+            continue
+        for way in WAYS:
+            done = subprocess.run([PROGRAM, words[0], *way.split(), *words[1:]], cwd=folder, capture_output=True, text=True, timeout=60)
+            if (done.returncode, done.stdout, done.stderr) != (0, (folder / "expected.txt").read_text(), ""):
+                yield f"{folder.name}: with {way} the program prints another text"
+
+
 def checked_replays(folders):
     """The trace of each replay is checked, and tells the sets that the replay prints."""
     with tempfile.TemporaryDirectory() as room:
@@ -262,6 +278,27 @@ def ends_of_output():
                 yield f"{way}: the program ends in another way, status {done.returncode}"
 
 
+def short_of_room(most):
+    """What makes a file of a child's take no more than so many bytes."""
+    def limit():
+        signal.signal(signal.SIGXFSZ, signal.SIG_IGN)
+        resource.setrlimit(resource.RLIMIT_FSIZE, (most, most))
+    return limit
+
+
+def ends_of_room():
+    """Where the output takes so many bytes and no more, the run ends with status 6, and those bytes of its text are written."""
+    text = (TRACED / "expected.txt").read_bytes()
+    with tempfile.TemporaryDirectory() as room:
+        file = pathlib.Path(room) / "text"
+        for most in (0, 1, len(text.split(b"\n")[0]) + 3, len(text) - 1):
+            with file.open("wb") as out:
+                done = subprocess.run([PROGRAM, *words_in(TRACED)], cwd=TRACED, stdout=out, stderr=subprocess.PIPE,
+                                      timeout=60, preexec_fn=short_of_room(most))
+            if (done.returncode, file.read_bytes()) != (6, text[:most]):
+                yield f"room for {most} bytes: the program ends in another way, status {done.returncode}"
+
+
 def lost_edits():
     """The edits that docs/causes.md names are tried by the gate. A name without its crate is of the crate in front of it."""
     for line in (ROOT / "docs" / "causes.md").read_text().splitlines():
@@ -280,7 +317,8 @@ def main():
     faults += lost_edits()
     if PROGRAM.exists():
         faults += [run(folder) for folder in folders]
-        faults += [*ends_of_output(), *traces(), *checked_replays(folders), *ends_of_checks()]
+        faults += [*ends_of_output(), *ends_of_room(), *traces()]
+        faults += [*replays_in_pieces(folders), *checked_replays(folders), *ends_of_checks()]
     if shutil.which("awk"):
         faults.append(made_again(ROOT / "examples" / "access_log"))
     readme = (ROOT / "README.md").read_text()

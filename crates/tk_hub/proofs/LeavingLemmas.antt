@@ -1,6 +1,6 @@
 -- What came next at some link and was not taken, as the links are left one by one, and what that is of a hub.
 use Rattle.std.proofs.Common.{◌≡◌, ◌<◌, ◌≤◌, ◌+◌, ◌-◌, ◌||◌, true, ℕ, zero, suc, List, [], ◌∷◌, ◌++◌, length, get_or, append-nil, Option, Some, None, IfSome, is_some, refl, sym, ap, ◌∙◌, subst, arith, inl, inr}
-use Rattle.std.specs.Option.{ForSome, option_map}
+use Rattle.std.specs.Option.{ForSome, option_map, option_or}
 use Rattle.std.proofs.lemmas.Bool.{cases_eq, cases_lt, or_right}
 use Rattle.std.proofs.lemmas.List.{get_or_append_left, get_or_default, get_or_past, get_or_push, length_push}
 use Rattle.std.proofs.lemmas.List.Elements.{filter_map-append}
@@ -52,6 +52,15 @@ no_link place Q = subst (λ o. IfSome o Q) (sym (get_or_past [] place None (omeg
 
 left_first : {W : Type 0} (from : Mon) (Q : LinkView W → Odd → Type 0) → LeftOf from Q [] None
 left_first from Q = record { before = λ _. refl; behind = λ _. no_link (from.0 - 1) (λ link. Q link None) }
+
+-- of two of which one is there it is that one
+pub or_first : (first second both : Odd) → both ≡ option_or first second → second ≡ None → both ≡ first
+or_first None second both is none = is ∙ none
+or_first (Some x) second both is none = is
+
+pub or_second : (first second both : Odd) → both ≡ option_or first second → first ≡ None → both ≡ second
+or_second None second both is none = is
+or_second (Some x) second both is none = absurd (cc)
 
 -- nothing is passed yet
 pub left_none : (W : Type 0) (course : Course) → LeftUpTo {W = W} course [] None

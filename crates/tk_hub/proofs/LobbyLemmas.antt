@@ -1,13 +1,16 @@
 -- Connections that are greeted, key by key.
-use Rattle.std.proofs.Common.{◌≡◌, ◌↔◌, ◌+◌, ℕ, suc, List, Option, Some, None, Result, Ok, Err, refl, sym, ap, ◌∙◌, subst, arith, inl, inr}
+use Rattle.std.proofs.Common.{◌≡◌, ◌↔◌, ◌<◌, ◌+◌, ◌-◌, ℕ, suc, false, List, length, set, Option, Some, None, Result, Ok, Err, refl, sym, ap, ◌∙◌, subst, arith, inl, inr}
 use Rattle.std.specs.Prelude.{IsErr}
+use Rattle.std.proofs.lemmas.List.{length-set}
 use Rattle.slab.specs.Slab.{Slab, Updates, get, slab_len}
 use Rattle.tk_base.specs.declared.ids.Mon.{Mon}
 use Rattle.tk_base.specs.declared.memory.NoMemory.{NoMemory}
 use Rattle.tk_end.specs.Link.{LinkView}
 use Rattle.tk_wire.specs.Meanings.{Counts, raised_by}
 use Rattle.tk_hub.specs.Door.{DoorView, GreetsAt, GreetsHeld, GreetsSlot, GreetsSome, GreetsUpTo, IsAnswered, IsTakenOut, IsTurnedAway, IsWelcomed, LobbyView, StaysHeld}
-use Rattle.tk_hub.specs.Seats.{SeatsView}
+use Rattle.tk_hub.proofs.TurnLemmas.{open_set}
+use Rattle.tk_hub.specs.Hub.{EachOpen}
+use Rattle.tk_hub.specs.Seats.{AreSeats, IsFree, SeatsView}
 use Rattle.tk_hub.specs.Visitor.{Gathers, Greets, VisitorView}
 use Rattle.tk_hub.specs.declared.visitor.Greeting.{Greeting}
 use Rattle.tk_hub.specs.declared.visitor.Greeting.TheVariants as g
@@ -87,3 +90,10 @@ greets_wanting counts run monitors (Err e) old new wants some = some
 -- seats that twice changed in their links alone
 pub links_alone : {W : Type 0} (a b c : SeatsView W) → b ≡ record a { links = b.links } → c ≡ record b { links = c.links } → c ≡ record a { links = c.links }
 links_alone {W} a b c p q = q ∙ ap (λ (s : SeatsView W). record s { links = c.links }) p
+
+-- where a link that is open takes a free seat, all links are open that were
+pub open_seated : {W : Type 0} (mon : ℕ) (a b : SeatsView W) (link : LinkView W) → IsFree mon a.coordinator.settings.monitors a.links → AreSeats b → b ≡ record a { links = set a.links (mon - 1) (Some link) } → link.shut ≡ false → EachOpen a.links → EachOpen b.links
+open_seated mon a b link free kept is on each =
+    let size = length-set a.links (mon - 1) (Some link) in
+    let within : mon - 1 < length a.links = omega (arith, free.some, free.within, kept.count, ap (λ s. length s.links) is, ap (λ s. s.coordinator.settings.monitors) is, size) in
+    subst (λ s. EachOpen s.links) (sym is) (open_set a.links (mon - 1) (Some link) within on each)

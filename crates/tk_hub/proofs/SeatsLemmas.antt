@@ -22,7 +22,7 @@ use Rattle.tk_hub.proofs.DeskLemmas.{no_input}
 use Rattle.tk_hub.proofs.TakenLemmas.{others_heard, others_said, reaches_settings, reaches_taken}
 use Rattle.tk_hub.specs.Desk.{getting, heard_from, refuses, said_to, takes}
 use Rattle.tk_wire.specs.declared.out_buffer.Pushed.{Pushed}
-use Rattle.tk_hub.specs.Seats.{AreSeats, IsFree, IsSeat, IsSeated, IsWithin, SeatShuts, SeatsView, heard_at, link_at, said_at}
+use Rattle.tk_hub.specs.Seats.{AreSeats, IsFree, IsSeat, IsSeated, IsWithin, SeatShuts, SeatsView, heard_at, link_at, said_at, with_link}
 use Rattle.tk_hub.specs.Slot.{SeatHears, SeatHearsOne, SeatSays}
 use Rattle.tk_hub.specs.Turn.{Reaches, Stays, Takes, pieces_of}
 use Rattle.tk_hub.specs.Visitor.{HasGreeted}
@@ -254,6 +254,21 @@ read_at links place slot y R within is r = subst (λ o. R o y) (slot_is links pl
 
 pub seen_at : {W : Type 0} (links : List (Option (LinkView W))) (place : ℕ) (slot y : Option (LinkView W)) (R : Option (LinkView W) → Option (LinkView W) → Type 0) → place < length links → slot ≡ get_or links place slot → R slot y → R (link_at links place) (link_at (set links place y) place)
 seen_at links place slot y R within is r = subst (R (link_at links place)) (sym (set_is links place y within)) (read_at links place slot y R within is r)
+
+-- all else is as it was, or all but the coordinator
+pub links_at : {W : Type 0} (mon run : ℕ) (c : CoordinatorView) (links : List (Option (LinkView W))) (y : Option (LinkView W)) (now : SeatsView W) → mon - 1 < length links → record { run = run; coordinator = c; links = links } ≡ now
+    → record { run = run; coordinator = c; links = set links (mon - 1) y } ≡ record now { links = with_link mon (set links (mon - 1) y) now.links }
+links_at {W} mon run c links y now within is =
+    let new : List (Option (LinkView W)) = set links (mon - 1) y in
+    let Made : Option (LinkView W) → SeatsView W = λ o. record { run = run; coordinator = c; links = set links (mon - 1) o } in
+    subst (λ v. Made y ≡ record v { links = with_link mon new v.links }) is (ap Made (sym (set_is links (mon - 1) y within)))
+
+pub rest_at : {W : Type 0} (mon run : ℕ) (a b : CoordinatorView) (links : List (Option (LinkView W))) (y : Option (LinkView W)) (now : SeatsView W) → mon - 1 < length links → record { run = run; coordinator = a; links = links } ≡ now
+    → record { run = run; coordinator = b; links = set links (mon - 1) y } ≡ record now { coordinator = b; links = with_link mon (set links (mon - 1) y) now.links }
+rest_at {W} mon run a b links y now within is =
+    let new : List (Option (LinkView W)) = set links (mon - 1) y in
+    let Made : Option (LinkView W) → SeatsView W = λ o. record { run = run; coordinator = b; links = set links (mon - 1) o } in
+    subst (λ v. Made y ≡ record v { coordinator = b; links = with_link mon new v.links }) is (ap Made (sym (set_is links (mon - 1) y within)))
 
 -- the number of a place
 pub monitor_at : {W : Type 0} (place : ℕ) (old now : SeatsView W) → Reaches old.coordinator now.coordinator → place < old.coordinator.settings.monitors → IsMonitor now.coordinator.settings (place + 1)

@@ -22,7 +22,7 @@ use Rattle.tk_wire.specs.declared.in_buffer.Pulled.TheVariants as p
 use Rattle.tk_end.proofs.LinkLemmas.{arrives_nothing}
 use Rattle.tk_end.proofs.OddLemmas.{behind_length}
 use Rattle.tk_hub.specs.Visitor.{BeginsWithHello, Gathers, Greets, IsAwaited, IsSteady, IsStrange, IsUnlessMemory, VisitorView, hello_of}
-use Rattle.tk_hub.specs.VisitorInside.{HasMore, IsAsLong, Leaves, Reads, Says, judged}
+use Rattle.tk_hub.specs.VisitorInside.{HasMore, IsAsLong, Leaves, Reads, Says, bytes_of, judged}
 use Rattle.tk_hub.specs.declared.visitor.Greeting.{Greeting}
 use Rattle.tk_hub.specs.declared.visitor.Greeting.TheVariants as g
 use Rattle.tk_hub.specs.declared.visitor.Guest.{Guest}
@@ -137,6 +137,24 @@ says_unread run bytes front g.Nothing old new is reads = absurd reads
 says_unread run bytes front (g.Hello guest) old new is reads = absurd reads
 says_unread run bytes front g.Strange old new is reads = subst (IsStrange run) (sym (is ∙ reads.1)) (reads.0 run)
 says_unread run bytes front g.NoMemory old new is reads = tt
+
+-- no frame was read before
+pub no_front : (front : Option Frame) → ((frame : Frame) → front ≡ Some frame → ⊥) → front ≡ None
+no_front None apart = refl
+no_front (Some frame) apart = absurd (apart frame refl)
+
+-- where no frame was read the bytes are those before
+pub still_there : (front : Option Frame) (greeting : Greeting) (old new : List ℕ) → Reads (Err greeting) old new → bytes_of front ++ old ≡ bytes_of front ++ new
+still_there front g.Nothing old new reads = absurd reads
+still_there front (g.Hello guest) old new reads = absurd reads
+still_there front g.Strange old new reads = ap (λ xs. bytes_of front ++ xs) (sym reads.1)
+still_there front g.NoMemory old new reads = ap (λ xs. bytes_of front ++ xs) (sym reads)
+
+-- and where one was read it is in front of the others
+pub put_in_front : (front now found : Option Frame) (frame : Frame) (old new : List ℕ) → front ≡ None → now ≡ Some frame → found ≡ Some frame → Reads (Ok found) old new → bytes_of front ++ old ≡ bytes_of now ++ new
+put_in_front front now found frame old new none is read reads =
+    let leaves : Leaves frame old new = subst (λ o. Reads (Ok o) old new) read reads in
+    ap (λ o. bytes_of o ++ old) none ∙ leaves.parts ∙ ap (λ o. bytes_of o ++ new) (sym is)
 
 -- a frame that was read is as long as a Hello
 pub read_is_long : (found : Option Frame) (frame : Frame) (old new : List ℕ) → found ≡ Some frame → Reads (Ok found) old new → IsAsLong frame

@@ -1,14 +1,37 @@
 //! What is left at the seats of a hub that is done with.
 
-ghost use Rattle.std.specs.Prelude.{◌≡◌, ◌≤◌, [], None, length, vec_capacity};
-ghost use Rattle.tk_hub.specs.End.{AreCounted, LeavesOdd, wires_of};
+ghost use Rattle.std.specs.Prelude.{◌≡◌, ◌≤◌, [], length, vec_capacity};
+ghost use Rattle.tk_hub.specs.End.{AreCounted, IsOddBytes, IsOddFrame, LeavesOdd, wires_of};
 ghost use Rattle.tk_hub.specs.Leaving.{IsStanding, LeavesAt, StandsAt};
+ghost use Rattle.tk_hub.specs.Turn.{IsBadAt};
 
 use crate::course::Course;
 use tk_base::Mon;
 use tk_end::Link;
+use tk_frames::BadFrame;
 use tk_story::{Bytes, Received};
 use tk_wire::Wire;
+
+/// The frame at the front of the link of a monitor, and its wire.
+fn left_refused<W: Wire>(link: Link<W>, mon: Mon) -> (Option<(Mon, Received)>, W)
+    ensures odd { IsOddFrame mon link result.0 }
+    ensures wire { result.1 ≡ link.wire }
+    ensures counted { W.counts result.1 ≡ link.counts }
+{
+    let (wire, frame) = link.into_frame();
+    (frame.map(|frame| (mon, Received::Frame(frame))), wire)
+}
+
+/// The bytes at the front of the link of a monitor, which are no frame, and its wire.
+fn left_bad<W: Wire>(link: Link<W>, mon: Mon, fault: BadFrame) -> (Option<(Mon, Received)>, W)
+    requires { IsBadAt fault link }
+    ensures odd { IsOddBytes mon fault link result.0 }
+    ensures wire { result.1 ≡ link.wire }
+    ensures counted { W.counts result.1 ≡ link.counts }
+{
+    let (wire, bytes) = link.into_odd(fault);
+    (Some((mon, Received::Bytes(Bytes::new(bytes)))), wire)
+}
 
 /// The end of the link of a monitor: what came next and was not taken, and the wire.
 fn left<W: Wire>(link: Link<W>, mon: Mon, course: Course) -> (Option<(Mon, Received)>, W)
@@ -18,34 +41,14 @@ fn left<W: Wire>(link: Link<W>, mon: Mon, course: Course) -> (Option<(Mon, Recei
     ensures counted { W.counts result.1 ≡ link.counts }
 {
     match course {
-        Course::Refused(from, _) if from == mon => {
-            let (wire, frame) = link.into_frame();
-            (frame.map(|frame| (mon, Received::Frame(frame))), wire)
-        }
-        Course::Bad(from, fault) if from == mon => {
-            let (wire, bytes) = link.into_odd(fault);
-            (Some((mon, Received::Bytes(Bytes::new(bytes)))), wire)
-        }
+        Course::Refused(from, _) if from == mon => left_refused(link, mon),
+        Course::Bad(from, fault) if from == mon => left_bad(link, mon, fault),
         Course::Refused(..) => (None, link.into_wire()),
         Course::Bad(..) => (None, link.into_wire()),
         Course::Open => (None, link.into_wire()),
         Course::Halted => (None, link.into_wire()),
         Course::Failed => (None, link.into_wire()),
         Course::WriteFailed => (None, link.into_wire()),
-    }
-}
-
-/// The one that is there.
-fn either(
-    first: Option<(Mon, Received)>,
-    second: Option<(Mon, Received)>,
-) -> Option<(Mon, Received)>
-    ensures first { second ≡ None → result ≡ first }
-    ensures second { first ≡ None → result ≡ second }
-{
-    match second {
-        Some(odd) => Some(odd),
-        None => first,
     }
 }
 
@@ -70,7 +73,7 @@ pub fn leave<W: Wire + Drop>(
         mon += 1;
         if let Some(link) = seat {
             let (next, wire) = left(link, Mon(mon), course);
-            odd = either(odd, next);
+            odd = odd.or(next);
             wires.push_reserved(wire);
         }
     }

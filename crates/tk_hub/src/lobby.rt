@@ -78,13 +78,15 @@ impl<W: Wire + Drop> Lobby<W> {
         ensures strangers { self.new.strangers ≡ self.old.strangers }
         ensures few { slab_len self.new.held ≤ 64 }
     {
-        let visitor = Visitor::new(self.alloc, wire);
         if self.held.len() >= VISITORS {
-            visitor.close();
+            Visitor::new(self.alloc, wire).close();
             return Ok(Admitted::Closed);
         }
-        self.held.reserve(1)?;
-        self.held.insert_reserved(visitor);
+        if self.held.reserve(1).is_err() {
+            drop(wire);
+            return Err(NoMemory);
+        }
+        self.held.insert_reserved(Visitor::new(self.alloc, wire));
         Ok(Admitted::Kept)
     }
 

@@ -55,7 +55,7 @@ fn free_seats<W: Wire + Drop>(alloc: Global, count: u32) -> Result<Vec<Option<Li
 {
     let mut seats = Vec::with_capacity(alloc, count as usize)?;
     for _ in 0..count {
-        seats.push(None)?;
+        seats.push_reserved(None);
     }
     Ok(seats)
 }
@@ -210,7 +210,8 @@ impl<W: Wire + Drop> Seats<W> {
         ensures value { self.new ≡ record self.old { links = slice_set self.old.links (mon.0 - 1) (Some link) } }
         ensures kept { AreSeats self.new }
     {
-        self.links[mon.0 as usize - 1] = Some(link);
+        // By name: an assignment would drop each part of what was there, which is dear to prove.
+        drop(self.links[mon.0 as usize - 1].replace(link));
     }
 
     /// Shuts the link of one seat.

@@ -144,17 +144,18 @@ impl<W: Wire> Visitor<W> {
         ensures told { W.counts self.new.wire ≡ self.new.counts }
         ensures rest { self.new ≡ record self.old { front = self.new.front } }
     {
-        let frame = match self.front.take() {
-            Some(frame) => frame,
-            None => match read(&mut self.came) {
-                Ok(Some(frame)) => frame,
-                Ok(None) => return None,
-                Err(greeting) => return Some(greeting),
-            },
-        };
-        let greeting = judge(&frame, run);
-        self.front = Some(frame);
-        Some(greeting)
+        if let Some(frame) = &self.front {
+            return Some(judge(frame, run));
+        }
+        match read(&mut self.came) {
+            Ok(Some(frame)) => {
+                let greeting = judge(&frame, run);
+                drop(self.front.replace(frame));
+                Some(greeting)
+            }
+            Ok(None) => None,
+            Err(greeting) => Some(greeting),
+        }
     }
 
     /// What came says, if it is whole or can be no greeting; else pulls a piece, or says why none came.
@@ -200,7 +201,9 @@ impl<W: Wire> Visitor<W> {
         ensures goes_on { GoesOn self result }
         ensures greeted { (run : ℕ) (mon : Number) → self.front ≡ Some (f.Hello run version mon) → HasGreeted run mon result }
     {
-        Link::new(alloc, self.wire, self.came, version)
+        let Visitor { wire, came, front } = self;
+        drop(front);
+        Link::new(alloc, wire, came, version)
     }
 
     /// Shuts the wire of a stranger. It takes no memory.

@@ -155,3 +155,18 @@ pub noted_again : (counts : List Count) (name : List ℕ) (place : Option ℕ) �
 noted_again counts name None told some = absurd (cc)
 noted_again counts name (Some i) told some =
     noted_same counts name i (record { name = []; faults = 0; longest = 0 }) (found_at counts name (Some i) i told refl)
+
+kept_as : (counts : List Count) (name : List ℕ) (o : Option Count) → count_of counts name ≡ o → IsSome o → Notes counts counts name (faults_of counts name) (longest_of counts name)
+kept_as counts name None is some = absurd (cc)
+kept_as counts name (Some c) is some =
+    let named : c.name ≡ name = bytes_same c.name name (find_passes (λ e. bytes_eq e.name name) counts c is) in record {
+      counted = is
+          ∙ ap (λ (n : List ℕ). Some (record { name = n; faults = c.faults; longest = c.longest })) named
+          ∙ ap (λ (n : ℕ). Some (record { name = name; faults = n; longest = c.longest })) (sym (ap (λ (o : Option Count). option_map_or (λ e. e.faults) o 0) is))
+          ∙ ap (λ (n : ℕ). Some (record { name = name; faults = faults_of counts name; longest = n })) (sym (ap (λ (o : Option Count). option_map_or (λ e. e.longest) o 0) is));
+      others = λ other apart. refl;
+    }
+
+-- a name that has a count keeps it where nothing changes
+pub noted_kept : (counts : List Count) (name : List ℕ) → IsSome (count_of counts name) → Notes counts counts name (faults_of counts name) (longest_of counts name)
+noted_kept counts name some = kept_as counts name (count_of counts name) refl some

@@ -1,4 +1,5 @@
 pub mod CountLemmas
+pub mod CountedLemmas
 pub mod EdgeLemmas
 pub mod FilesLemmas
 pub mod SumLemmas

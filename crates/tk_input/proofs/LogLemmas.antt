@@ -1,11 +1,10 @@
 -- One more change of a log.
 use Rattle.std.proofs.Common.{◌≡◌, ℕ, ℤ, List, [], ◌∷◌, ◌++◌, length, Some, None, Result, Ok, Err, sym, ap, subst, ◌∙◌, arith}
 use Rattle.csv.specs.Records.{field_at}
-use Rattle.tk_input.specs.Log.{IsFault, both_fields, change_added, log_of, next_change}
-use Rattle.tk_input.specs.Records.{and_then, records_in, through}
+use Rattle.tk_input.specs.Log.{IsFault, both_fields, change_added, next_change}
+use Rattle.tk_input.specs.Records.{and_then, through}
 use Rattle.tk_input.specs.declared.part.PartFault.{PartFault}
 use Rattle.tk_input.specs.declared.part.PartFault.TheVariants.{BadNumber, BadRow, NoMemory, TooMany, UnknownName}
-use Rattle.tk_input.proofs.ThroughLemmas.{through-none}
 
 -- a record of two fields has its first one
 pub no_first : (fields : List (List ℕ)) → length fields ≡ 2 → field_at fields 0 ≡ None → ⊥
@@ -48,14 +47,10 @@ meant_is r (UnknownName n) is = is
 meant_is r (BadNumber n) is = is
 meant_is r NoMemory is = tt
 
--- the fault of a record is that of the file
-pub log_fault : (names : List (List ℕ)) (bytes : List ℕ) (before : List (ℕ × ℤ)) (n : ℕ) (fields : List (List ℕ)) (rest rows : List (List (List ℕ))) (e : PartFault) → through (change_added names) before rows ≡ through (change_added names) [] (records_in bytes) → rows ≡ fields ∷ rest → n ≡ length before → next_change names n fields ≡ Err e → IsFault e (log_of names bytes)
+-- the fault of a record is that of them all
+pub log_fault : (names : List (List ℕ)) (all : Result (List (ℕ × ℤ)) PartFault) (before : List (ℕ × ℤ)) (n : ℕ) (fields : List (List ℕ)) (rest rows : List (List (List ℕ))) (e : PartFault) → through (change_added names) before rows ≡ all → rows ≡ fields ∷ rest → n ≡ length before → next_change names n fields ≡ Err e → IsFault e all
 unfolding through
-log_fault names bytes before n fields rest rows e same is so_many fault =
+log_fault names all before n fields rest rows e same is so_many fault =
     let here : IsFault e (next_change names (length before) fields) = subst (λ (k : ℕ). IsFault e (next_change names k fields)) so_many (meant_is (next_change names n fields) e fault) in
     subst (λ (r : Result (List (ℕ × ℤ)) PartFault). IsFault e r) same
     (rw is (fault_ends (change_added names before fields) e (λ after. through (change_added names) after rest) (fault_ends (next_change names (length before) fields) e (λ change. Ok (before ++ change ∷ [])) here)))
-
--- after the last record the changes so far are all
-pub log_ends : (names : List (List ℕ)) (bytes : List ℕ) (changes : List (ℕ × ℤ)) (rows : List (List (List ℕ))) → through (change_added names) changes rows ≡ through (change_added names) [] (records_in bytes) → rows ≡ [] → log_of names bytes ≡ Ok changes
-log_ends names bytes changes rows same is = sym same ∙ through-none (change_added names) changes rows is

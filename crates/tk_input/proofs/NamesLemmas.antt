@@ -6,7 +6,6 @@ use Rattle.std.proofs.lemmas.List.{drop_more, length-map, map-append}
 use Rattle.csv.specs.Records.{field_at}
 use Rattle.tk_input.specs.Catalog.{IsFault, IsNameFault, is_name, names_of, only_field, some_names, with_name}
 use Rattle.tk_input.specs.Records.{and_then, through}
-use Rattle.tk_input.proofs.ThroughLemmas.{through-none}
 use Rattle.tk_input.specs.declared.catalog.CatalogFault.{CatalogFault}
 use Rattle.tk_input.specs.declared.catalog.CatalogFault.TheVariants.{BadName, BadRow, Empty, NoMemory, Repeated, TooMany}
 
@@ -39,7 +38,8 @@ length-names_of {A} keys = length-map keys (λ (k : Vec ℕ A). k.items)
 pub any-names_of : {A : Type 0} (name : List ℕ) (keys : List (Vec ℕ A)) → list_any (λ n. bytes_eq name n) (names_of keys) ≡ list_any (λ k. bytes_eq name k.items) keys
 any-names_of {A} name keys = list_any-map (λ (k : Vec ℕ A). k.items) (λ n. bytes_eq name n) keys
 
-fault_ends : (r : Result (List (List ℕ)) CatalogFault) (e : CatalogFault) (further : List (List ℕ) → Result (List (List ℕ)) CatalogFault) → IsFault e r → IsFault e (and_then further r)
+-- what comes of a fault is the fault
+pub fault_ends : (r : Result (List (List ℕ)) CatalogFault) (e : CatalogFault) (further : List (List ℕ) → Result (List (List ℕ)) CatalogFault) → IsFault e r → IsFault e (and_then further r)
 fault_ends r Empty further is = ap (and_then further) is
 fault_ends r TooMany further is = ap (and_then further) is
 fault_ends r (BadRow n) further is = ap (and_then further) is
@@ -56,17 +56,12 @@ record_fault r (Repeated n) is = is
 record_fault r NoMemory is = tt
 
 -- the fault of a row is that of them all
-pub catalog_fault : {R : Type 0} (step : List (List ℕ) → R → Result (List (List ℕ)) CatalogFault) (all : List R) (before : List (List ℕ)) (row : R) (rest rows : List R) (e : CatalogFault)
-    → through step before rows ≡ through step [] all → rows ≡ row ∷ rest → IsNameFault e (step before row) → IsFault e (and_then some_names (through step [] all))
+pub rows_fault : {R : Type 0} (step : List (List ℕ) → R → Result (List (List ℕ)) CatalogFault) (all : Result (List (List ℕ)) CatalogFault) (before : List (List ℕ)) (row : R) (rest rows : List R) (e : CatalogFault)
+    → through step before rows ≡ all → rows ≡ row ∷ rest → IsNameFault e (step before row) → IsFault e all
 unfolding through
-catalog_fault step all before row rest rows e same is fault =
-    subst (λ (r : Result (List (List ℕ)) CatalogFault). IsFault e (and_then some_names r)) same
-    (rw is (fault_ends (and_then (λ names. through step names rest) (step before row)) e some_names (fault_ends (step before row) e (λ names. through step names rest) (record_fault (step before row) e fault))))
-
--- after the last row the names so far are all
-pub catalog_names : {R : Type 0} (step : List (List ℕ) → R → Result (List (List ℕ)) CatalogFault) (all : List R) (before : List (List ℕ)) (rows : List R)
-    → through step before rows ≡ through step [] all → rows ≡ [] → and_then some_names (through step [] all) ≡ some_names before
-catalog_names step all before rows same is = ap (and_then some_names) (sym same ∙ through-none step before rows is)
+rows_fault step all before row rest rows e same is fault =
+    subst (λ (r : Result (List (List ℕ)) CatalogFault). IsFault e r) same
+    (rw is (fault_ends (step before row) e (λ names. through step names rest) (record_fault (step before row) e fault)))
 
 -- some names are a catalogue
 pub some_is : (names : List (List ℕ)) → 0 < length names → some_names names ≡ Ok names

@@ -54,3 +54,10 @@ faults_after (Ok bytes) faults = faults
 faults_after (Err Failed) faults = one_more faults
 faults_after (Err TooLong) faults = faults
 faults_after (Err NoMemory) faults = faults
+
+-- the most bytes that one read of a name took, after one more read
+abbrev pub longest_after : {A : Type 0} → Result (Vec ℕ A) FileFault → ℕ → ℕ
+longest_after (Ok bytes) longest = max longest (length bytes.items)
+longest_after (Err Failed) longest = longest
+longest_after (Err TooLong) longest = max longest 67108865
+longest_after (Err NoMemory) longest = longest

@@ -1,8 +1,9 @@
-ghost use Rattle.std.specs.Prelude.{◌≡◌, ◌<◌, ◌≤◌, ◌-◌, IfOk, IfErr, OnOk, Ok, nat_le, ◌&&◌, length, option_map, slice_get, Some};
-ghost use Rattle.std.specs.List.{list_all};
+ghost use Rattle.std.specs.Prelude.{◌≡◌, ◌<◌, ◌≤◌, ◌-◌, IfOk, IfErr, OnOk, Ok, nat_le, ◌&&◌, [], bytes_eq, length, option_map, slice_get, Some};
+ghost use Rattle.std.specs.List.{IsDistinct, list_all};
 ghost use Rattle.csv.specs.Records.{fields_of};
-ghost use Rattle.tk_input.specs.Catalog.{AreDifferent, IsFault, IsNameFault, IsWithin, is_name as is_name_of, lent_name, next_name, names_of, with_name, object_of, only_field as only_field_of};
+ghost use Rattle.tk_input.specs.Catalog.{AreDifferent, IsFault, IsNameFault, IsWithin, is_name as is_name_of, lent_name, name_added, next_name, names_of, names_with, some_names, with_name, object_of, only_field as only_field_of};
 ghost use Rattle.tk_input.specs.Logs.{IsObject};
+ghost use Rattle.tk_input.specs.Records.{records_in, through};
 ghost use Rattle.tk_input.specs.declared.catalog.CatalogFault.TheVariants.{NoMemory as OutOfMemory};
 
 use crate::name_hasher::NameHasher;
@@ -140,8 +141,87 @@ fn take_name(alloc: Global, names: &mut Names, name: Option<&[u8]>) -> Result<()
     }
 }
 
+/// Adds the names of the records that are left behind the others. Here and below what grows is lent: a place that drops it
+/// by itself is dear to prove.
+fn take_rows(
+    alloc: Global,
+    rows: &mut Records<'_>,
+    row: &mut ByteRecord,
+    names: &mut Names,
+) -> Result<(), CatalogFault>
+    requires { length names.old.keys ≤ 65536 }
+    ensures ok { OnOk result (through name_added (names_of names.old.keys) rows.old ≡ Ok (names_of names.new.keys)) }
+    ensures err { IfErr result (λ e. IsFault e (through name_added (names_of names.old.keys) rows.old)) }
+    ensures few { OnOk result (length names.new.keys ≤ 65536) }
+{
+    while rows.next(row)? {
+        take_name(alloc, names, only_field(row))?;
+    }
+    Ok(())
+}
+
+/// Adds the names of a file behind the others.
+fn take_records(alloc: Global, bytes: &[u8], names: &mut Names) -> Result<(), CatalogFault>
+    requires { length names.old.keys ≤ 65536 }
+    ensures ok { OnOk result (through name_added (names_of names.old.keys) (records_in bytes.now) ≡ Ok (names_of names.new.keys)) }
+    ensures err { IfErr result (λ e. IsFault e (through name_added (names_of names.old.keys) (records_in bytes.now))) }
+    ensures few { OnOk result (length names.new.keys ≤ 65536) }
+{
+    let mut rows = Records::new(alloc, bytes);
+    let mut row = ByteRecord::new(alloc);
+    take_rows(alloc, &mut rows, &mut row, names)
+}
+
+/// Adds the names of a list behind the others.
+fn take_list(alloc: Global, list: &[Vec<u8>], names: &mut Names) -> Result<(), CatalogFault>
+    requires { length names.old.keys ≤ 65536 }
+    ensures ok { OnOk result (through (λ before name. next_name before (Some name))
+        (names_of names.old.keys) (names_of list.now) ≡ Ok (names_of names.new.keys)) }
+    ensures err { IfErr result (λ e. IsFault e (through (λ before name. next_name before (Some name))
+        (names_of names.old.keys) (names_of list.now))) }
+    ensures few { OnOk result (length names.new.keys ≤ 65536) }
+{
+    for name in list {
+        take_name(alloc, names, Some(name.as_slice()))?;
+    }
+    Ok(())
+}
+
+/// Adds those names of a list that begin with a prefix to none.
+fn take_prefixed(
+    alloc: Global,
+    list: &[Vec<u8>],
+    prefix: &[u8],
+    names: &mut Names,
+) -> Result<(), NoMemory>
+    requires none { names.old.keys ≡ [] }
+    requires differ { IsDistinct (λ a b. bytes_eq a.items b.items) list.now }
+    ensures same { OnOk result (names_of names.new.keys ≡ names_with prefix.now (names_of list.now)) }
+    ensures few { OnOk result (length names.new.keys ≤ length list.now) }
+{
+    for name in list {
+        if name.as_slice().starts_with(prefix) {
+            names.insert(Vec::from_slice(alloc, name.as_slice())?)?;
+        }
+    }
+    Ok(())
+}
+
+/// The catalogue of these names, of which there must be one.
+fn catalog_in(names: Names) -> Result<Catalog, CatalogFault>
+    requires { length names.keys ≤ 65536 }
+    ensures ok { IfOk result (λ catalog. some_names (names_of names.keys) ≡ Ok catalog) }
+    ensures err { IfErr result (λ e. IsFault e (some_names (names_of names.keys))) }
+    ensures within { IfOk result IsWithin }
+{
+    if names.is_empty() {
+        return Err(CatalogFault::Empty);
+    }
+    Ok(Catalog { names })
+}
+
 impl Catalog {
-    ghost use Rattle.tk_input.specs.Catalog.{catalog_from, catalog_of, names_with};
+    ghost use Rattle.tk_input.specs.Catalog.{catalog_from, catalog_of};
 
     /// Reads one name a record, in one pass over the bytes.
     pub fn read(alloc: Global, bytes: &[u8]) -> Result<Catalog, CatalogFault>
@@ -149,16 +229,9 @@ impl Catalog {
         ensures err { IfErr result (λ e. IsFault e (catalog_of bytes.now)) }
         ensures within { IfOk result IsWithin }
     {
-        let mut rows = Records::new(alloc, bytes);
-        let mut row = ByteRecord::new(alloc);
         let mut names = IndexSet::with_hasher(alloc, BuildHasherDefault::new());
-        while rows.next(&mut row)? {
-            take_name(alloc, &mut names, only_field(&row))?;
-        }
-        if names.is_empty() {
-            return Err(CatalogFault::Empty);
-        }
-        Ok(Catalog { names })
+        take_records(alloc, bytes, &mut names)?;
+        catalog_in(names)
     }
 
     /// A catalogue of these names, by the same rules as a file of one name a record.
@@ -168,13 +241,8 @@ impl Catalog {
         ensures within { IfOk result IsWithin }
     {
         let mut names = IndexSet::with_hasher(alloc, BuildHasherDefault::new());
-        for name in list {
-            take_name(alloc, &mut names, Some(name.as_slice()))?;
-        }
-        if names.is_empty() {
-            return Err(CatalogFault::Empty);
-        }
-        Ok(Catalog { names })
+        take_list(alloc, list, &mut names)?;
+        catalog_in(names)
     }
 
     /// The names that begin with a prefix, in order. There may be none.
@@ -182,11 +250,7 @@ impl Catalog {
         ensures { IfOk result (λ names. names ≡ names_with prefix.now self.now) }
     {
         let mut names = IndexSet::with_hasher(alloc, BuildHasherDefault::new());
-        for name in self.names.as_slice() {
-            if name.as_slice().starts_with(prefix) {
-                names.insert(Vec::from_slice(alloc, name.as_slice())?)?;
-            }
-        }
+        take_prefixed(alloc, self.names.as_slice(), prefix, &mut names)?;
         Ok(Catalog { names })
     }
 

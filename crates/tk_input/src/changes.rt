@@ -39,14 +39,15 @@ fn change_of(narrow: NarrowPair) -> Change
     Change { obj, by }
 }
 
-/// The same changes in 32 bytes each, with room for one more.
-fn widened(alloc: Global, list: &[NarrowPair]) -> Result<Vec<Change>, NoMemory>
-    ensures { IfOk result (λ wide. changes_of wide.items ≡ map narrow_pair_of list.now) }
+/// The same changes in 32 bytes each, and one more. Room for all is taken first, so that nothing may fail behind it.
+fn widened(alloc: Global, list: &[NarrowPair], last: Change) -> Result<Vec<Change>, NoMemory>
+    ensures { IfOk result (λ wide. changes_of wide.items ≡ map narrow_pair_of list.now ++ pair_of last ∷ []) }
 {
     let mut wide = Vec::with_capacity(alloc, list.len() + 1)?;
     for narrow in list {
-        wide.push(change_of(*narrow))?;
+        wide.push_reserved(change_of(*narrow));
     }
+    wide.push_reserved(last);
     Ok(wide)
 }
 
@@ -70,8 +71,7 @@ impl Changes {
             Form::Narrow(list) => match NarrowPair::of(change.obj, change.by) {
                 Some(narrow) => list.push(narrow)?,
                 None => {
-                    let mut wide = widened(*list.allocator(), list.as_slice())?;
-                    wide.push(change)?;
+                    let wide = widened(*list.allocator(), list.as_slice(), change)?;
                     self.form = Form::Wide(wide);
                 }
             },

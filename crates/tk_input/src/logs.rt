@@ -98,7 +98,7 @@ fn clones_of(alloc: Global, row: &[Part]) -> Result<Vec<Part>, NoMemory>
 {
     let mut parts = Vec::with_capacity(alloc, row.len())?;
     for part in row {
-        parts.push(part.try_clone()?)?;
+        parts.push_reserved(part.try_clone()?);
     }
     Ok(parts)
 }
@@ -108,7 +108,7 @@ fn rows_cloned(alloc: Global, rows: &[Vec<Part>]) -> Result<Vec<Vec<Part>>, NoMe
 {
     let mut clones = Vec::with_capacity(alloc, rows.len())?;
     for row in rows {
-        clones.push(clones_of(alloc, row.as_slice())?)?;
+        clones.push_reserved(clones_of(alloc, row.as_slice())?);
     }
     Ok(clones)
 }

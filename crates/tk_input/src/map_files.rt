@@ -1,7 +1,7 @@
-ghost use Rattle.std.specs.Prelude.{◌≡◌, ◌≢◌, ℕ, ◌<◌, ◌≤◌, [], List, length, IfOk, IfErr, IfSome, IsErrOf, IsOk, Ok, option_map, position, bytes_eq, string_bytes};
+ghost use Rattle.std.specs.Prelude.{◌≡◌, ◌≢◌, ℕ, ◌<◌, ◌≤◌, [], List, length, IfOk, IfErr, IfSome, IsErrOf, IsOk, IsSome, Ok, option_map, position, bytes_eq, string_bytes};
 ghost use Rattle.tk_input.specs.Files.{HasRisen};
-ghost use Rattle.tk_input.specs.MapFiles.{Faults, TakesNoMore, content_of, faults_after, files_of, given, read_of, reads_after as reads_then};
-ghost use Rattle.tk_input.specs.Tallies.{faults_of, longest_of};
+ghost use Rattle.tk_input.specs.MapFiles.{Faults, TakesNoMore, content_of, faults_after, files_of, given, longest_after, read_of, reads_after as reads_then};
+ghost use Rattle.tk_input.specs.Tallies.{Notes, count_of, faults_of, longest_of};
 
 use crate::files::{FileFault, Files, MAX_LENGTH};
 use crate::tallies::Tallies;
@@ -87,6 +87,22 @@ fn reads_after(outcome: &Result<Vec<u8>, FileFault>, reads: u64) -> u64
     }
 }
 
+/// Counts what came of a read of a name that has its room. A call of its own leaves one way through `read_all`, and so one proof
+/// of each of its many clauses.
+fn note(tallies: &mut Tallies, name: &str, outcome: &Result<Vec<u8>, FileFault>)
+    requires { IsSome (count_of tallies.old name.now) }
+    ensures notes { Notes tallies.old tallies.new name.now
+        (faults_after outcome.now (faults_of tallies.old name.now)) (longest_after outcome.now (longest_of tallies.old name.now)) }
+    ensures kept { faults_of tallies.old name.now ≤ faults_of tallies.new name.now }
+{
+    match outcome {
+        Ok(copy) => tallies.note_length(name, copy.len() as u64),
+        Err(FileFault::Failed) => tallies.note_fault(name),
+        Err(FileFault::TooLong) => tallies.note_length(name, MAX_LENGTH as u64 + 1),
+        Err(FileFault::NoMemory) => {}
+    }
+}
+
 impl Files for MapFiles {
     ghost content = { λ m name. content_of m.files name };
 
@@ -135,12 +151,7 @@ impl Files for MapFiles {
         let fails = self.fails.contains(&self.reads.saturating_add(1));
         let outcome = copy_of(alloc, fails, file_of(self.files.as_slice(), name));
         self.reads = reads_after(&outcome, self.reads);
-        match &outcome {
-            Ok(copy) => self.tallies.note_length(name, copy.len() as u64),
-            Err(FileFault::Failed) => self.tallies.note_fault(name),
-            Err(FileFault::TooLong) => self.tallies.note_length(name, MAX_LENGTH as u64 + 1),
-            Err(FileFault::NoMemory) => {}
-        }
+        note(&mut self.tallies, name, &outcome);
         outcome
     }
 }

@@ -1,7 +1,8 @@
-ghost use Rattle.std.specs.Prelude.{◌≡◌, ◌<◌, ◌≤◌, ◌^◌, IfOk, IfErr, OnOk, Ok, Err, All, length, option_map, slice_get, Some, unsigned_abs};
+ghost use Rattle.std.specs.Prelude.{◌≡◌, ◌<◌, ◌≤◌, ◌^◌, IfOk, IfErr, OnOk, Ok, Err, All, [], length, option_map, slice_get, Some, unsigned_abs};
 ghost use Rattle.csv.specs.Records.{fields_of};
-ghost use Rattle.tk_input.specs.Log.{IsFault, both_fields as both_fields_of, next_change as next_change_of};
+ghost use Rattle.tk_input.specs.Log.{IsFault, both_fields as both_fields_of, change_added, log_of, next_change as next_change_of};
 ghost use Rattle.tk_input.specs.Logs.{IsObject};
+ghost use Rattle.tk_input.specs.Records.{through};
 ghost use Rattle.tk_input.specs.declared.part.PartFault.TheVariants.{NoMemory as OutOfMemory};
 
 use crate::catalog::Catalog;
@@ -123,9 +124,47 @@ pub fn next_change(names: &Catalog, row: &ByteRecord, before: usize) -> Result<C
     }
 }
 
-impl Part {
-    ghost use Rattle.tk_input.specs.Log.{log_of};
+/// Adds the changes of the records that are left behind the others. Here and below what grows is lent: a place that drops it
+/// by itself is dear to prove.
+fn take_rows(
+    rows: &mut Records<'_>,
+    row: &mut ByteRecord,
+    names: &Catalog,
+    changes: &mut Changes,
+) -> Result<(), PartFault>
+    requires most { length changes.old ≤ 1000000 }
+    requires objects { All (λ c. IsObject (length names.now) c.0) changes.old }
+    ensures ok { OnOk result (through (change_added names.now) changes.old rows.old ≡ Ok changes.new) }
+    ensures err { IfErr result (λ e. IsFault e (through (change_added names.now) changes.old rows.old)) }
+    ensures objects { OnOk result (All (λ c. IsObject (length names.now) c.0) changes.new) }
+    ensures most { OnOk result (length changes.new ≤ 1000000) }
+{
+    while rows.next(row)? {
+        let change = next_change(names, row, changes.len())?;
+        changes.push(change)?;
+    }
+    Ok(())
+}
 
+/// Adds the changes of a log to none.
+fn take_records(
+    alloc: Global,
+    bytes: &[u8],
+    names: &Catalog,
+    changes: &mut Changes,
+) -> Result<(), PartFault>
+    requires { changes.old ≡ [] }
+    ensures ok { OnOk result (log_of names.now bytes.now ≡ Ok changes.new) }
+    ensures err { IfErr result (λ e. IsFault e (log_of names.now bytes.now)) }
+    ensures objects { OnOk result (All (λ c. IsObject (length names.now) c.0) changes.new) }
+    ensures most { OnOk result (length changes.new ≤ 1000000) }
+{
+    let mut rows = Records::new(alloc, bytes);
+    let mut row = ByteRecord::new(alloc);
+    take_rows(&mut rows, &mut row, names, changes)
+}
+
+impl Part {
     /// Reads one change a record, in one pass over the bytes.
     pub fn read(alloc: Global, bytes: &[u8], names: &Catalog) -> Result<Part, PartFault>
         ensures ok { IfOk result (λ part. log_of names.now bytes.now ≡ Ok part) }
@@ -134,13 +173,8 @@ impl Part {
         ensures objects { IfOk result (λ p. All (λ c. IsObject (length names.now) c.0) p) }
         ensures most { IfOk result (λ p. length p ≤ 1000000) }
     {
-        let mut rows = Records::new(alloc, bytes);
-        let mut row = ByteRecord::new(alloc);
         let mut changes = Changes::new(alloc);
-        while rows.next(&mut row)? {
-            let change = next_change(names, &row, changes.len())?;
-            changes.push(change)?;
-        }
+        take_records(alloc, bytes, names, &mut changes)?;
         changes.shrink_to_fit();
         Ok(Part::new(changes))
     }

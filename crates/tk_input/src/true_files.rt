@@ -1,5 +1,6 @@
-ghost use Rattle.std.specs.Prelude.{◌≡◌, ◌<◌, ◌≤◌, [], None, IsErrOf, OnOk, length};
-ghost use Rattle.tk_input.specs.Tallies.{faults_of, longest_of};
+ghost use Rattle.std.specs.Prelude.{◌≡◌, ◌<◌, ◌≤◌, [], None, IsErrOf, IsSome, OnOk, length, max};
+ghost use Rattle.tk_input.specs.MapFiles.{faults_after};
+ghost use Rattle.tk_input.specs.Tallies.{Notes, count_of, faults_of, longest_of};
 
 use crate::edges::{fault_of, take_all};
 use crate::files::{FileFault, Files};
@@ -47,6 +48,22 @@ fn read_file<R: rt::Files>(system: &R, name: &str, bytes: &mut Vec<u8>) -> Resul
     }
 }
 
+/// Counts what came of a read of a name that has its room, and how many bytes it took.
+fn note(tallies: &mut Tallies, name: &str, outcome: &Result<(), FileFault>, taken: u64)
+    requires { IsSome (count_of tallies.old name.now) }
+    ensures notes { Notes tallies.old tallies.new name.now
+        (faults_after outcome.now (faults_of tallies.old name.now)) (max (longest_of tallies.old name.now) taken) }
+    ensures kept { faults_of tallies.old name.now ≤ faults_of tallies.new name.now }
+{
+    tallies.note_length(name, taken);
+    match outcome {
+        Ok(()) => {}
+        Err(FileFault::Failed) => tallies.note_fault(name),
+        Err(FileFault::TooLong) => {}
+        Err(FileFault::NoMemory) => {}
+    }
+}
+
 impl<R: rt::Files> Files for TrueFiles<R> {
     ghost content = { λ f name. None };
 
@@ -68,13 +85,9 @@ impl<R: rt::Files> Files for TrueFiles<R> {
         }
         let mut bytes = Vec::new(alloc);
         let outcome = read_file(&self.system, name, &mut bytes);
-        self.tallies.note_length(name, bytes.len() as u64);
+        note(&mut self.tallies, name, &outcome, bytes.len() as u64);
         match outcome {
             Ok(()) => Ok(bytes),
-            Err(FileFault::Failed) => {
-                self.tallies.note_fault(name);
-                Err(FileFault::Failed)
-            }
             Err(fault) => Err(fault),
         }
     }

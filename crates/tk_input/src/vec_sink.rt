@@ -40,7 +40,10 @@ impl VecSink {
     pub fn new(alloc: Global, room: usize, fails: Vec<u64>) -> Result<VecSink, NoMemory>
         ensures { IfOk result (λ s. s ≡ record { written = []; room = room; fails = fails.items; puts = 0; faults = 0 }) }
     {
-        let bytes = Vec::with_capacity(alloc, room)?;
+        let Ok(bytes) = Vec::with_capacity(alloc, room) else {
+            drop(fails);
+            return Err(NoMemory);
+        };
         Ok(VecSink {
             bytes,
             room,

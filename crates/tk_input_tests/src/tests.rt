@@ -1,6 +1,5 @@
 mod edges;
 mod files;
 mod limits;
-mod logs;
 mod orders;
 mod reading;

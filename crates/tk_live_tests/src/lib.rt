@@ -1,14 +1,11 @@
-//! The tests of tk_live of what its runs leave, which no clause says: over links in memory they are done, with sets that plain
-//! sums find right and the story of a new world, and take from the links just the bytes of their frames.
+//! The tests of tk_live of what its runs leave and how they end, which no clause says: over links in memory and over sockets they
+//! are done, and just the bytes of their frames go over the links; over a net whose calls fail or that turns a byte they end with
+//! their status; and two feeders run at once.
 #![tactic(auto)]
 
 #[cfg(test)]
-mod again;
+mod case;
 #[cfg(test)]
-mod cases;
-#[cfg(test)]
-mod ended;
-#[cfg(test)]
-mod sums;
+mod meeting;
 #[cfg(test)]
 mod tests;

@@ -1,7 +1,9 @@
 -- What a port does in a turn, one part behind the other.
-use Rattle.std.proofs.Common.{◌≡◌, ◌≤◌, ◌+◌, ℕ, List, [], ◌∷◌, ◌++◌, length, take, refl, sym, ap, ◌∙◌, subst, arith, true, false, Option, Some, None, IfNone}
+use Rattle.std.proofs.Common.{◌≡◌, ◌≤◌, ◌+◌, ℕ, List, [], ◌∷◌, ◌++◌, length, take, refl, sym, ap, ◌∙◌, subst, arith, true, false, Option, Some, None, IfNone, Bool, not, ◌⊎◌}
 use Rattle.std.proofs.lemmas.List.{length-take}
 use Rattle.tk_base.specs.History.{IsFront}
+use Rattle.tk_frames.specs.Answer.{Answers}
+use Rattle.tk_frames.specs.declared.answer.Next.TheVariants as n
 use Rattle.tk_frames.specs.declared.frame.Frame.{Frame}
 use Rattle.tk_monitor.specs.Monitored.{MonitorView}
 use Rattle.tk_trail.proofs.DueLemmas.{after_check as due_after_check}
@@ -11,6 +13,7 @@ use Rattle.tk_trail.specs.Setup.{MonitorSetup}
 use Rattle.tk_trail.specs.declared.entry.Entry.{Entry}
 use Rattle.tk_trail.specs.declared.entry.Entry.TheVariants.{Sent}
 use Rattle.tk_trail.specs.Readings.{sent_by, taken_by}
+use Rattle.tk_wire.specs.Meanings.{Counts, HasRisen}
 use Rattle.tk_end.specs.Actor.{TakesAll}
 use Rattle.tk_end.specs.Hearing.{Hears}
 use Rattle.tk_end.specs.Link.{IsEnd, LinkView, Says}
@@ -20,7 +23,7 @@ use Rattle.tk_port.specs.Side.{heard_by, refuses, said_by, takes, taking}
 use Rattle.std.proofs.lemmas.Bool.{false≢true}
 use Rattle.tk_port.specs.declared.turn.Turn.{Turn}
 use Rattle.tk_port.specs.declared.turn.Turn.TheVariants as t
-use Rattle.tk_port.specs.Turn.{Exchanges, HasSaid, IsAtRest, goes_on, pieces_of, Reaches, Stays, Takes, Checks, checking}
+use Rattle.tk_port.specs.Turn.{CountsTurned, Ends, Exchanges, IsSteady, HasSaid, IsAtRest, goes_on, pieces_of, Reaches, Stays, Takes, Checks, checking}
 use Rattle.tk_port.specs.declared.side.Side.{Side}
 use Rattle.tk_port.proofs.SideLemmas.{answered_sent, answered_taken}
 use Rattle.tk_input.proofs.CountLemmas.{not_some}
@@ -138,3 +141,74 @@ pieces_none t.NoMemory stops = omega arith
 
 pub not_on : {P : Type 0} (turn : Turn) → goes_on turn ≡ false → goes_on turn ≡ true → P
 not_on turn stops goes = absurd (false≢true (sym stops ∙ goes))
+
+-- where a turn goes on, what is written and given leaves no frame whole, and nothing that waits
+pub on_said : {W : Type 0} (said : List Frame) (turn : Turn) (x y : LinkView W) (side : Side) → Says said x y → goes_on turn ≡ true → Ends x side turn → Ends y side turn
+on_said said t.Quiet x y side s goes e =
+    (subst (λ xs. Answers y.version xs n.Part) (sym s.unread) e.0, λ tells. let told = sym s.tells ∙ tells in (s.departed told).waiting ∙ e.1 told)
+on_said said t.More x y side s goes e = subst (λ xs. Answers y.version xs n.Part) (sym s.unread) e
+on_said said t.Stopped x y side s goes e = absurd (cc)
+on_said said t.Failed x y side s goes e = absurd (cc)
+on_said said (t.Refused why) x y side s goes e = absurd (cc)
+on_said said (t.Bad fault) x y side s goes e = absurd (cc)
+on_said said t.NoMemory x y side s goes e = absurd (cc)
+
+-- and then it says nothing of the monitor
+pub on_aside : {W : Type 0} (turn : Turn) (x : LinkView W) (a b : Side) → goes_on turn ≡ true → Ends x a turn → Ends x b turn
+on_aside t.Quiet x a b goes e = e
+on_aside t.More x a b goes e = e
+on_aside t.Stopped x a b goes e = absurd (cc)
+on_aside t.Failed x a b goes e = absurd (cc)
+on_aside (t.Refused why) x a b goes e = absurd (cc)
+on_aside (t.Bad fault) x a b goes e = absurd (cc)
+on_aside t.NoMemory x a b goes e = absurd (cc)
+
+pub steady : (x y : Counts) → y ≡ x → IsSteady x y
+steady x y is = record { faults = ap (λ k. k.faults) is; ends = ap (λ k. k.ends) is }
+
+pub steady_of : (turn : Turn) (x y : Counts) → goes_on turn ≡ true → CountsTurned turn x y → IsSteady x y
+steady_of t.Quiet x y goes k = k
+steady_of t.More x y goes k = k
+steady_of t.Stopped x y goes k = absurd (cc)
+steady_of t.Failed x y goes k = absurd (cc)
+steady_of (t.Refused why) x y goes k = absurd (cc)
+steady_of (t.Bad fault) x y goes k = absurd (cc)
+steady_of t.NoMemory x y goes k = absurd (cc)
+
+steadies : (x y z : Counts) → IsSteady x y → IsSteady y z → IsSteady x z
+steadies x y z p q = record { faults = q.faults ∙ p.faults; ends = q.ends ∙ p.ends }
+
+-- the counts of a turn behind a part that left them
+pub counts_on : (turn : Turn) (x y z : Counts) → IsSteady x y → CountsTurned turn y z → CountsTurned turn x z
+counts_on t.Quiet x y z p q = steadies x y z p q
+counts_on t.More x y z p q = steadies x y z p q
+counts_on t.Stopped x y z p q = steadies x y z p q
+counts_on t.Failed x y z p q =
+    subst (λ n. HasRisen n z.faults ⊎ HasRisen x.ends z.ends) p.faults (subst (λ n. HasRisen y.faults z.faults ⊎ HasRisen n z.ends) p.ends q)
+counts_on (t.Refused why) x y z p q = steadies x y z p q
+counts_on (t.Bad fault) x y z p q = steadies x y z p q
+counts_on t.NoMemory x y z p q = steadies x y z p q
+
+-- a turn that goes on, and a part behind it that left the counts
+pub counts_then : (turn : Turn) (x y z : Counts) → goes_on turn ≡ true → CountsTurned turn x y → IsSteady y z → CountsTurned turn x z
+counts_then t.Quiet x y z goes p q = steadies x y z p q
+counts_then t.More x y z goes p q = steadies x y z p q
+counts_then t.Stopped x y z goes p q = absurd (cc)
+counts_then t.Failed x y z goes p q = absurd (cc)
+counts_then (t.Refused why) x y z goes p q = absurd (cc)
+counts_then (t.Bad fault) x y z goes p q = absurd (cc)
+counts_then t.NoMemory x y z goes p q = absurd (cc)
+
+not_true : (b is : Bool) → is ≡ not b → is ≡ true → b ≡ false
+not_true true is same holds = absurd (cc)
+not_true false is same holds = refl
+
+not_false : (b is : Bool) → is ≡ not b → is ≡ false → b ≡ true
+not_false true is same fails = refl
+not_false false is same fails = absurd (cc)
+
+pub over : (turn : Turn) (is : Bool) → is ≡ not (goes_on turn) → is ≡ true → goes_on turn ≡ false
+over turn is same holds = not_true (goes_on turn) is same holds
+
+pub still : (turn : Turn) (is : Bool) → is ≡ not (goes_on turn) → is ≡ false → goes_on turn ≡ true
+still turn is same fails = not_false (goes_on turn) is same fails

@@ -1,4 +1,5 @@
 pub mod ExchangeLemmas
+pub mod HearLemmas
 pub mod OddLemmas
 pub mod PortLemmas
 pub mod SideLemmas

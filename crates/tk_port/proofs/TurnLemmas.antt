@@ -1,5 +1,5 @@
 -- A turn of a port, and what its course leaves.
-use Rattle.std.proofs.Common.{◌≡◌, ℕ, refl, sym, ◌∙◌, subst, arith, true, false, None}
+use Rattle.std.proofs.Common.{◌≡◌, ℕ, refl, sym, ◌∙◌, subst, arith, true, false, None, Some}
 use Rattle.tk_frames.specs.declared.answer.Next.TheVariants as n
 use Rattle.tk_frames.specs.Answer.{Answers}
 use Rattle.tk_monitor.specs.Monitored.{MonitorView}
@@ -11,7 +11,7 @@ use Rattle.tk_end.specs.Link.{IsShut, Keeps, LinkView, Passes}
 use Rattle.tk_end.proofs.PassingLemmas.{passes_nothing, passes_on, passes_shut}
 use Rattle.tk_port.specs.Port.{EndsOne, IsOnCourse, IsPort, PortView, Shuts, TakesUpTo, Turns, TurnsOne, answer_of, course_of}
 use Rattle.tk_port.specs.Side.{refuses}
-use Rattle.tk_port.specs.Turn.{CountsTurned, Ends, Exchanges, IsAtRest, Stays, goes_on}
+use Rattle.tk_port.specs.Turn.{CountsTurned, Ends, Exchanges, IsAtRest, Stays, goes_on, pieces_of}
 use Rattle.tk_port.specs.declared.course.Course.{Course}
 use Rattle.tk_port.specs.declared.course.Course.TheVariants as c
 use Rattle.tk_port.specs.declared.side.Side.{Side}
@@ -151,3 +151,31 @@ never_halts t.Failed is = absurd (cc)
 never_halts (t.Refused why) is = absurd (cc)
 never_halts (t.Bad fault) is = absurd (cc)
 never_halts t.NoMemory is = absurd (cc)
+
+pub turns_concluded : {W : Type 0} (run : ℕ) (turn : Turn) (x y z : LinkView W) (a b : Side) (before course : Course) → Exchanges (pieces_of turn) x y a b → Ends y b turn → CountsTurned turn x.counts y.counts → (goes_on turn ≡ true → IsAtRest y b.monitor) → Shuts (course_of turn) y z → course ≡ course_of turn
+    → Turns turn (record { run = run; monitor = a.monitor; link = x; course = before }) (record { run = run; monitor = b.monitor; link = z; course = course })
+turns_concluded run turn x y z a b before course e ends counts rest s is =
+    let left = leaves_on turn y z b s in
+    record {
+      run = refl;
+      course = is;
+      passes = passes_on (pieces_of turn) (pieces_of turn) 0 x y z (omega arith) e.passes left.passes;
+      reaches = e.reaches;
+      ends = left.ends ends;
+      counts = counts_same turn x.counts y.counts z.counts left.counts counts;
+      rest = λ goes. left.rest goes (rest goes);
+    }
+
+-- what a closed course answers
+pub same_turn : (a b : Turn) → Some a ≡ Some b → a ≡ b
+same_turn a b is = (cc)
+
+pub none_answered : {P : Type 0} (turn : Turn) → None ≡ Some turn → P
+none_answered turn is = absurd (cc)
+
+pub answered_closed : {P : Type 0} (turn : Turn) (course : Course) → Some turn ≡ answer_of course → course ≡ c.Open → P
+answered_closed turn c.Open is open_ = absurd (cc)
+answered_closed turn c.Halted is open_ = absurd (cc)
+answered_closed turn c.Failed is open_ = absurd (cc)
+answered_closed turn (c.Refused why) is open_ = absurd (cc)
+answered_closed turn (c.Bad fault) is open_ = absurd (cc)

@@ -8,9 +8,12 @@ use Rattle.tk_trail.specs.Frames.{due_at}
 use Rattle.tk_trail.specs.Legal.{after_check}
 use Rattle.tk_trail.specs.Readings.{is_stopped, sent_by, taken_by}
 use Rattle.tk_trail.specs.Refusal.{refusal_of}
+use Rattle.tk_trail.specs.declared.refusal.MonitorRefusal.{MonitorRefusal}
 use Rattle.tk_wire.specs.Buffered.{IsFull}
 use Rattle.tk_wire.specs.Meanings.{Counts, HasRisen}
 use Rattle.tk_end.specs.Hearing.{IsRefused}
+use Rattle.tk_end.specs.declared.hearing.Heard.{Heard}
+use Rattle.tk_end.specs.declared.hearing.Heard.TheVariants as h
 use Rattle.tk_end.specs.Link.{IsEnd, LinkView, Passes}
 use Rattle.tk_port.specs.Side.{refuses, taking}
 use Rattle.tk_port.specs.declared.side.Side.{Side}
@@ -26,6 +29,17 @@ pub data Reaches : MonitorView → MonitorView → Type 0 where
   Stays : (from to : MonitorView) → to ≡ from → Reaches from to
   Takes : (from to : MonitorView) (frame : Frame) → refusal_of from.setup from.trail frame ≡ None → Reaches (taking from frame) to → Reaches from to
   Checks : (from to : MonitorView) → Reaches (checking from) to → Reaches from to
+
+-- what a turn answers where its link heard so
+abbrev pub turn_heard : Heard MonitorRefusal → Turn
+turn_heard h.Quiet = t.Quiet
+turn_heard h.More = t.More
+turn_heard h.Done = t.Stopped
+turn_heard h.Failed = t.Failed
+turn_heard h.Ended = t.Failed
+turn_heard (h.Refused why) = t.Refused why
+turn_heard (h.Bad fault) = t.Bad fault
+turn_heard h.NoMemory = t.NoMemory
 
 -- why a turn ended: Quiet says that nothing waits on the wire, and both it and More that no frame is whole
 abbrev pub Ends : {W : Type 0} → LinkView W → Side → Turn → Type 0

@@ -1,16 +1,18 @@
 //! What a port does in a turn, with its monitor and its end of the connection.
 
-ghost use Rattle.std.specs.Prelude.{◌≡◌, ◌≤◌, length, false, true, IfNone, IfSome, unwrap_or};
+ghost use Rattle.std.specs.Prelude.{◌≡◌, ◌≤◌, length, false, true, not, IfNone, IfSome, unwrap_or};
 ghost use Rattle.tk_trail.specs.Readings.{is_stopped, sent_by};
 ghost use Rattle.tk_trail.specs.Setup.{IsSetup};
 ghost use Rattle.tk_end.specs.Link.{Keeps};
 ghost use Rattle.tk_port.specs.Port.{EndsOne, Shuts, TakesUpTo, course_of};
-ghost use Rattle.tk_port.specs.Turn.{CountsTurned, Ends, Exchanges, HasSaid, IsAtRest, goes_on, pieces_of};
+ghost use Rattle.tk_port.specs.Turn.{CountsTurned, Ends, Exchanges, HasSaid, IsAtRest, goes_on, pieces_of, turn_heard};
+ghost use Rattle.tk_port.specs.declared.turn.Turn.{Turn as Turned};
 
 use crate::course::Course;
 use crate::side::{COORDINATOR, Side};
 use crate::turn::Turn;
 use tk_end::{Heard, Link};
+use tk_trail::MonitorRefusal;
 use tk_wire::{Pushed, Wire};
 
 /// Writes what was sent and is not written, and gives it; or says why that ends the turn.
@@ -22,8 +24,7 @@ fn speak<W: Wire>(link: &mut Link<W>, side: &Side) -> Option<Turn>
     ensures ends { IfSome result (Ends link.new side.now) }
     ensures counts { CountsTurned (unwrap_or result Turn.Quiet) link.old.counts link.new.counts }
     ensures stops { IfSome result (λ turn. goes_on turn ≡ false) }
-    ensures quiet { Ends link.old side.now Turn.Quiet → Ends link.new side.now Turn.Quiet }
-    ensures more { Ends link.old side.now Turn.More → Ends link.new side.now Turn.More }
+    ensures on { (turn : Turned) → goes_on turn ≡ true → Ends link.old side.now turn → Ends link.new side.now turn }
 {
     match link.say(side, COORDINATOR) {
         Ok(Pushed::Empty) => None,
@@ -33,14 +34,11 @@ fn speak<W: Wire>(link: &mut Link<W>, side: &Side) -> Option<Turn>
     }
 }
 
-/// Pulls at most 64 pieces and takes their frames.
-fn hear<W: Wire>(link: &mut Link<W>, side: &mut Side) -> Turn
-    requires setup { IsSetup side.old.monitor.setup }
-    ensures exchanges { Exchanges (pieces_of result) link.old link.new side.old side.new }
-    ensures ends { Ends link.new side.new result }
-    ensures counts { CountsTurned result link.old.counts link.new.counts }
+/// What a turn answers where its link heard so.
+fn turn_of(heard: Heard<MonitorRefusal>) -> Turn
+    ensures { result ≡ turn_heard heard }
 {
-    match link.hear(side, COORDINATOR) {
+    match heard {
         Heard::Quiet => Turn::Quiet,
         Heard::More => Turn::More,
         Heard::Done => Turn::Stopped,
@@ -52,6 +50,31 @@ fn hear<W: Wire>(link: &mut Link<W>, side: &mut Side) -> Turn
     }
 }
 
+/// Whether a turn is over, and its monitor answers nothing more.
+fn is_over(turn: Turn) -> bool
+    ensures { result ≡ not (goes_on turn) }
+{
+    match turn {
+        Turn::Quiet => false,
+        Turn::More => false,
+        Turn::Stopped => true,
+        Turn::Failed => true,
+        Turn::Refused(_) => true,
+        Turn::Bad(_) => true,
+        Turn::NoMemory => true,
+    }
+}
+
+/// Pulls at most 64 pieces and takes their frames.
+fn hear<W: Wire>(link: &mut Link<W>, side: &mut Side) -> Turn
+    requires setup { IsSetup side.old.monitor.setup }
+    ensures exchanges { Exchanges (pieces_of result) link.old link.new side.old side.new }
+    ensures ends { Ends link.new side.new result }
+    ensures counts { CountsTurned result link.old.counts link.new.counts }
+{
+    turn_of(link.hear(side, COORDINATOR))
+}
+
 /// Checks the monitor, and says what it has sent.
 fn answer<W: Wire>(link: &mut Link<W>, side: &mut Side) -> Option<Turn>
     requires setup { IsSetup side.old.monitor.setup }
@@ -61,8 +84,7 @@ fn answer<W: Wire>(link: &mut Link<W>, side: &mut Side) -> Option<Turn>
     ensures ends { IfSome result (Ends link.new side.new) }
     ensures counts { CountsTurned (unwrap_or result Turn.Quiet) link.old.counts link.new.counts }
     ensures stops { IfSome result (λ turn. goes_on turn ≡ false) }
-    ensures quiet { Ends link.old side.old Turn.Quiet → Ends link.new side.new Turn.Quiet }
-    ensures more { Ends link.old side.old Turn.More → Ends link.new side.new Turn.More }
+    ensures on { (turn : Turned) → goes_on turn ≡ true → Ends link.old side.old turn → Ends link.new side.new turn }
 {
     match side.monitor.check() {
         Ok(_) => speak(link, side),
@@ -82,20 +104,13 @@ pub fn exchange<W: Wire>(link: &mut Link<W>, side: &mut Side) -> Turn
     if let Some(turn) = speak(link, side) {
         return turn;
     }
-    match hear(link, side) {
-        Turn::Quiet => match answer(link, side) {
-            None => Turn::Quiet,
-            Some(turn) => turn,
-        },
-        Turn::More => match answer(link, side) {
-            None => Turn::More,
-            Some(turn) => turn,
-        },
-        Turn::Stopped => Turn::Stopped,
-        Turn::Failed => Turn::Failed,
-        Turn::Refused(why) => Turn::Refused(why),
-        Turn::Bad(fault) => Turn::Bad(fault),
-        Turn::NoMemory => Turn::NoMemory,
+    let heard = hear(link, side);
+    if is_over(heard) {
+        return heard;
+    }
+    match answer(link, side) {
+        None => heard,
+        Some(turn) => turn,
     }
 }
 
@@ -109,16 +124,7 @@ pub fn hear_one<W: Wire>(link: &mut Link<W>, side: &mut Side) -> Turn
     ensures ends { EndsOne link.new side.new.monitor result }
     ensures counts { CountsTurned result link.old.counts link.new.counts }
 {
-    match link.hear_one(side, COORDINATOR) {
-        Heard::Quiet => Turn::Quiet,
-        Heard::More => Turn::More,
-        Heard::Done => Turn::Stopped,
-        Heard::Failed => Turn::Failed,
-        Heard::Ended => Turn::Failed,
-        Heard::Refused(why) => Turn::Refused(why),
-        Heard::Bad(fault) => Turn::Bad(fault),
-        Heard::NoMemory => Turn::NoMemory,
-    }
+    turn_of(link.hear_one(side, COORDINATOR))
 }
 
 /// The course after a turn, for which the wire is shut where it is closed.

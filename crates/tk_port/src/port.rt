@@ -97,13 +97,19 @@ impl<W: Wire + Drop> Port<W> {
         ensures course { IfOk result (λ port. port.course ≡ Course.Open) }
         ensures kept { IfOk result IsPort }
     {
-        let number = monitor.number();
-        let mut link = Link::new(alloc, wire, InBuffer::new(alloc), version);
-        link.add(&Frame::Hello {
+        let hello = Frame::Hello {
             run,
             version,
-            mon: number,
-        })?;
+            mon: monitor.number(),
+        };
+        let mut link = Link::new(alloc, wire, InBuffer::new(alloc), version);
+        let added = link.add(&hello);
+        drop(hello);
+        let Ok(()) = added else {
+            drop(link);
+            drop(monitor);
+            return Err(NoMemory);
+        };
         Ok(Port {
             run,
             side: Side { monitor },

@@ -1,11 +1,11 @@
 -- Leaves in blocks: what stands in a block, and what a write leaves.
-use Rattle.std.proofs.Common.{◌≡◌, ◌≢◌, ◌⊎◌, ℕ, suc, zero, ◌+◌, ◌-◌, ◌*◌, ◌/◌, ◌<◌, ◌≤◌, min, ℤ, Bool, true, false, cond, not, List, [], ◌∷◌, ◌++◌, length, set, get_or, filter, Option, Some, None, refl, sym, ap, ap₂, ◌∙◌, subst, arith, inl, inr, get_or-set_other, get_or-set_same, length-set}
+use Rattle.std.proofs.Common.{◌≡◌, ◌≢◌, ◌⊎◌, ℕ, suc, zero, ◌+◌, ◌-◌, ◌*◌, ◌/◌, ◌<◌, ◌≤◌, min, ℤ, Bool, true, false, cond, not, List, [], ◌∷◌, ◌++◌, length, map, set, get_or, filter, Option, Some, None, refl, sym, ap, ap₂, ◌∙◌, subst, arith, inl, inr, get_or-set_other, get_or-set_same, length-set}
 use Rattle.std.specs.Int.{int_max}
 use Rattle.std.specs.List.{range_with_len, cons_option}
 use Rattle.std.proofs.Math.ListN.{get_or-eq_default}
 use Rattle.std.proofs.lemmas.Bool.{cases_eq, cases_lt}
 use Rattle.std.proofs.lemmas.Int.{ints, clamps}
-use Rattle.std.proofs.lemmas.List.{append-nil}
+use Rattle.std.proofs.lemmas.List.{append-nil, length-map}
 use Rattle.std.proofs.lemmas.List.Elements.{filter-append, filter_map-append}
 use Rattle.tk_base.specs.Objects.{is_in, objects}
 use Rattle.tk_border.specs.Levels.{greatest_of, IsPassed}
@@ -237,6 +237,10 @@ kept_in p from i order pass =
 pub block_within : (leaves nodes : List (Option ℤ)) (place : ℕ) → AreBlocks leaves nodes → place < length leaves → place / 64 < length (leaves_of nodes)
 block_within leaves nodes place blocks within = omega (arith, blocks.covers, within, length-leaves nodes blocks.tree.even)
 
+-- the same of lists of which each shows a number
+pub block_of_leaf : {N : Type 0} (number : N → Option ℤ) (leaves nodes : List N) (place : ℕ) → AreBlocks (map number leaves) (map number nodes) → place < length leaves → place / 64 < length (leaves_of (map number nodes))
+block_of_leaf number leaves nodes place blocks within = block_within (map number leaves) (map number nodes) place blocks (omega (arith, within, length-map leaves number))
+
 part_of : (leaves : List (Option ℤ)) (place : ℕ) → place < length leaves → IsParted leaves (64 * (place / 64) + 1) 64 place
 part_of leaves place within = parted leaves (64 * (place / 64) + 1) 64 place within (omega arith) (omega arith) (omega arith)
 
@@ -283,12 +287,23 @@ found_more level leaves block to order is =
     ap (filter test) (grown_block (length leaves) block to order is)
     ∙ filter-append test (range_with_len 1 (min (length leaves) (64 * block))) (range_with_len (64 * block + 1) (to - 64 * block))
 
+pub nothing_found : (level : ℤ) (leaves : List (Option ℤ)) (n : ℕ) → n ≡ 0 → [] ≡ those_over level leaves (range_with_len 1 n)
+nothing_found level leaves n none = sym (ap (λ k. those_over level leaves (range_with_len 1 k)) none)
+
 -- a block whose greatest is not above a level has no object above it
 pub nothing_over : (level : ℤ) (leaves nodes : List (Option ℤ)) (block to : ℕ) → AreBlocks leaves nodes → 64 * block ≤ to → to ≡ min (length leaves) (64 * (block + 1)) → is_over level (get_or (leaves_of nodes) block None) ≡ false → those_over level leaves (range_with_len (64 * block + 1) (to - 64 * block)) ≡ []
 nothing_over level leaves nodes block to blocks order is low =
     let list = range_with_len (64 * block + 1) (to - 64 * block) in
     filter_nothing (λ o. is_over level (leaf_at leaves o)) list
     (sym (over_any level leaves list) ∙ ap (is_over level) (block_end leaves block to order is ∙ sym (blocks.each block)) ∙ low)
+
+-- each of the blocks is one of those that the tree stands over
+pub one_of_blocks : (leaves nodes : List (Option ℤ)) (block : ℕ) → AreBlocks leaves nodes → block < blocks_of (length leaves) → block < length (leaves_of nodes)
+one_of_blocks leaves nodes block blocks less = omega (arith, blocks.covers, less, length-leaves nodes blocks.tree.even)
+
+-- a walk along a set has passed all objects before the block that it comes to
+pub passed_before : (set : List ℕ) (place n block : ℕ) → 64 * block < n → IsPassed set place (min n (64 * block) + 1) → IsPassed set place (64 * block + 1)
+passed_before set place n block before passed = subst (λ e. IsPassed set place e) {x = min n (64 * block) + 1} {y = 64 * block + 1} (omega (arith, before)) passed
 
 -- the objects of all blocks
 pub all_blocks : (n block : ℕ) → blocks_of n ≤ block → range_with_len 1 (min n (64 * block)) ≡ objects n

@@ -151,6 +151,15 @@ small_outsiders levels p leaves small s place =
     (subst (λ leaf. IfSome leaf (λ y. unsigned_abs y < 2 ^ 114)) (sym (s.leaf (place + 1) (omega arith)))
     (if_small_else (p (place + 1) || ltb (length levels) (place + 1)) (level_at levels (place + 1)) (small_level levels (place + 1) small)))
 
+if_small_turned : (t : Bool) (x : ℤ) → unsigned_abs x < 2 ^ 114 → IfSome (cond t (Some (pos 0 -ℤ x)) None) (λ y. unsigned_abs y < 2 ^ 114)
+if_small_turned true x small = omega (arith, ints, small)
+if_small_turned false x small = tt
+
+pub small_members : (levels : List ℤ) (members : List ℕ) (leaves : List (Option ℤ)) → AreSmall levels → AreMemberLeaves levels members leaves → AreSmallLeaves leaves
+small_members levels members leaves small s place =
+    subst (λ leaf. IfSome leaf (λ y. unsigned_abs y < 2 ^ 114)) (sym (s.leaf place))
+    (if_small_turned (ltb place (length members)) (level_at levels (get_or members place 0)) (small_level levels (get_or members place 0) small))
+
 -- an emptied leaf leaves the others small
 emptied : (t : Bool) (leaf : Option ℤ) → IfSome leaf (λ y. unsigned_abs y < 2 ^ 114) → IfSome (cond t None leaf) (λ y. unsigned_abs y < 2 ^ 114)
 emptied true leaf small = tt

@@ -67,6 +67,13 @@ impl Outcome {
     pub fn into_status(self) -> Status
         ensures { result ≡ self.status }
     {
-        self.status
+        let Outcome {
+            status,
+            story,
+            stories,
+        } = self;
+        drop(story);
+        drop(stories);
+        status
     }
 }

@@ -1,4 +1,4 @@
-//! Tests of tk_story over its public calls: ends of a run that agree, and ends that differ.
+//! A test of tk_story over its public calls: what a join tells of ends that differ.
 #![tactic(auto)]
 
 #[cfg(test)]

@@ -1,4 +1,5 @@
 pub mod AssignedLemmas
+pub mod BehindLemmas
 pub mod CheckLemmas
 pub mod ExactLemmas
 pub mod FieldLemmas

@@ -1,10 +1,10 @@
 -- Writing one after the other, as a loop does, and the forms that frames give to sets and places.
-use Rattle.std.proofs.Common.{◌≡◌, ℕ, ◌+◌, ◌<◌, ◌^◌, ℤ, All, List, [], ◌∷◌, ◌++◌, length, get_or, take, Some, refl, sym, ap, subst, ◌∙◌, append_assoc}
+use Rattle.std.proofs.Common.{◌≡◌, ℕ, ◌+◌, ◌<◌, ◌≤◌, ◌^◌, ℤ, All, List, [], ◌∷◌, ◌++◌, length, get_or, take, Some, Result, Err, OnOk, refl, sym, ap, subst, ◌∙◌, append_assoc, append-nil}
 use Rattle.std.specs.Prelude.{slice_get}
 use Rattle.std.specs.Int.{w128, cast_unsigned}
 use Rattle.std.specs.List.{AllZip, flat_map}
-use Rattle.std.proofs.lemmas.List.{flat_map_more, get_or_default, take_more}
-use Rattle.std.proofs.lemmas.List.Elements.{All-head, All-more, All-tail}
+use Rattle.std.proofs.lemmas.List.{flat_map_more, get_or_default, take_all, take_more}
+use Rattle.std.proofs.lemmas.List.Elements.{All-get_or, All-head, All-more, All-tail}
 use Rattle.std.proofs.lemmas.Option.{get_or_from_slice_get}
 use Rattle.tk_base.specs.Ascending.{IsAscending}
 use Rattle.tk_frames.specs.Spelling.{Above, ArePlaces, EachInTurn, IsSet, counted as frame_counted, in_turn, no_object, number as frame_number, object as frame_object, object_itself, place, places, set, signed}
@@ -21,6 +21,37 @@ more {X = X} spell xs i x old out new within is so_far wrote =
 -- and is within the rules
 pub more_within : {X : Type 0} (P : X → Type 0) (xs : List X) (i : ℕ) (x : X) → i < length xs → x ≡ get_or xs i x → All P (take i xs) → P x → All P (take (i + 1) xs)
 more_within P xs i x within is facts fact = All-more P xs i x within facts (subst P is fact)
+
+-- none were written
+pub none_out : {X : Type 0} (spell : X → List ℕ) (xs : List X) (old : List ℕ) → old ≡ old ++ flat_map spell (take 0 xs)
+none_out spell xs old = sym (append-nil old)
+
+-- all were written
+pub all_out : {X : Type 0} (spell : X → List ℕ) (xs : List X) (i : ℕ) (old out : List ℕ) → length xs ≤ i → out ≡ old ++ flat_map spell (take i xs) → out ≡ old ++ flat_map spell xs
+all_out spell xs i old out past so_far = so_far ∙ ap (λ (ys : List _). old ++ flat_map spell ys) (take_all i xs past)
+
+-- and are within the rules
+pub all_within : {X : Type 0} (P : X → Type 0) (xs : List X) (i : ℕ) → length xs ≤ i → All P (take i xs) → All P xs
+all_within P xs i past facts = subst (All P) (take_all i xs past) facts
+
+-- what stands at a place is within the rules of all
+pub one_within : {X : Type 0} (P : X → Type 0) (xs : List X) (i : ℕ) (x : X) → i < length xs → x ≡ get_or xs i x → All P xs → P x
+one_within P xs i x within is facts = subst P (sym is) (All-get_or P xs i x within facts)
+
+-- an error says nothing of what was written
+pub not_ok : {T E : Type 0} (result : Result T E) (e : E) (P : Type 0) → result ≡ Err e → OnOk result P
+not_ok result e P failed = rw failed tt
+
+-- what stands at a place, whatever stands outside
+pub at_place : {X : Type 0} (xs : List X) (i : ℕ) (d x : X) → i < length xs → x ≡ get_or xs i d → x ≡ get_or xs i x
+at_place xs i d x within is = is ∙ get_or_default xs i d x within
+
+-- one text was written behind another
+pub out_2 : (old a new x y : List ℕ) → a ≡ old ++ x → new ≡ a ++ y → new ≡ old ++ (x ++ y)
+out_2 old a new x y first then = then ∙ ap (λ (o : List ℕ). o ++ y) first ∙ append_assoc old x y
+
+pub out_3 : (old a b new x y z : List ℕ) → a ≡ old ++ x → b ≡ a ++ y → new ≡ b ++ z → new ≡ old ++ (x ++ (y ++ z))
+out_3 old a b new x y z first then last = out_2 old a new x (y ++ z) first (out_2 a b new y z then last)
 
 -- two lists with one more each
 pub zip_push : {A B : Type 0} (R : A → B → Type 0) (xs : List A) (ys : List B) (x : A) (y : B) → AllZip R xs ys → R x y → AllZip R (xs ++ x ∷ []) (ys ++ y ∷ [])

@@ -1,4 +1,5 @@
 pub mod Assigned
+pub mod Behind
 pub mod Checked
 pub mod Laws
 pub mod Reading

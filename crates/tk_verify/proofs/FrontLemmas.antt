@@ -1,7 +1,7 @@
 -- Fronts of legal histories, and nodes that are driven over a record.
-use Rattle.std.proofs.Common.{◌≡◌, ℕ, zero, suc, ◌+◌, ◌≤◌, ◌<◌, List, [], ◌∷◌, ◌++◌, length, take, Some, refl, sym, ap, ◌∙◌, subst, arith, inl, inr, append_assoc, append-nil}
-use Rattle.std.specs.Prelude.{slice_get}
-use Rattle.std.proofs.lemmas.Bool.{cases_lt}
+use Rattle.std.proofs.Common.{◌≡◌, ℕ, zero, suc, ◌+◌, ◌≤◌, ◌<◌, List, [], ◌∷◌, ◌++◌, length, take, Some, None, Option, Bool, false, refl, sym, ap, ◌∙◌, subst, arith, inl, inr, append_assoc, append-nil}
+use Rattle.std.specs.Prelude.{IsTrue, slice_get}
+use Rattle.std.proofs.lemmas.Bool.{cases_lt, false≢true}
 use Rattle.std.proofs.lemmas.List.{length-append}
 use Rattle.std.proofs.lemmas.Option.{same_Some}
 use Rattle.tk_verify.specs.Driving.{GoesOn, IsDriven, Leads}
@@ -188,3 +188,14 @@ more_leads Legal old e turn legal all = record {
 -- a list goes on from what it begins with
 pub goes_on_front : {A : Type 0} (front whole : List A) → front ≡ take (length front) whole → GoesOn front whole
 goes_on_front front whole is = subst (λ xs. GoesOn xs whole) (sym is) (front_goes whole (length front))
+
+-- ---- what stands at a place
+
+pub did_some : {X : Type 0} (o : Option X) (x y : X) (b : Bool) → o ≡ Some x → (IsTrue b → x ≡ y) × (x ≡ y → IsTrue b) → (IsTrue b → o ≡ Some y) × (o ≡ Some y → IsTrue b)
+did_some o x y b at is = (λ holds. at ∙ ap Some (is.0 holds), λ same. is.1 (same_Some x y (sym at ∙ same)))
+
+none_some : {X : Type 0} (y : X) → None ≡ Some y → ⊥
+none_some y is = absurd (cc)
+
+pub did_none : {X : Type 0} (o : Option X) (y : X) → o ≡ None → (IsTrue false → o ≡ Some y) × (o ≡ Some y → IsTrue false)
+did_none o y none = (λ holds. absurd (false≢true holds), λ same. absurd (none_some y (sym none ∙ same)))

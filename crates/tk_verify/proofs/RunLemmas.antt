@@ -6,7 +6,7 @@ use Rattle.std.specs.List.{range_with_len}
 use Rattle.std.specs.Option.{option_map}
 use Rattle.std.proofs.lemmas.Option.{slice_get-map}
 use Rattle.std.proofs.lemmas.Bool.{cases_lt}
-use Rattle.std.proofs.lemmas.List.{length-map, map-append}
+use Rattle.std.proofs.lemmas.List.{length-append, length-map, map-append}
 use Rattle.std.proofs.lemmas.Simd.{map-map}
 use Rattle.std.proofs.lemmas.List.FromFn.{length-range_with_len}
 use Rattle.tk_base.specs.Settings.{IsWithinLimits, Setup}
@@ -42,6 +42,18 @@ pub listed_more : {X : Type 0} (g : ℕ → X) (n : ℕ) → map g (range_with_l
 listed_more g n =
     let last : 1 + n ≡ n + 1 = omega arith in
     ap (map g) (range-append 1 n 1 ∙ ap (λ (k : ℕ). range_with_len 1 n ++ k ∷ []) last) ∙ map-append g (range_with_len 1 n) ((n + 1) ∷ [])
+
+pub one_longer : {X : Type 0} (xs : List X) (x : X) (all : List X) → all ≡ xs ++ x ∷ [] → length all ≡ length xs + 1
+one_longer xs x all is = ap length is ∙ length-append xs (x ∷ [])
+
+-- the end of one monitor more
+pub ends_more : (done : List MonitorView) (ends : List MonEnd) (node : MonitorView) (end : MonEnd) (all : List MonEnd) → all ≡ ends ++ end ∷ [] → map (λ e. e.monitor) ends ≡ done → end.monitor ≡ node → map (λ e. e.monitor) all ≡ done ++ node ∷ []
+ends_more done ends node end all is before here = ap (map (λ (e : MonEnd). e.monitor)) is ∙ map-append (λ (e : MonEnd). e.monitor) ends (end ∷ []) ∙ (λ i. before i ++ here i ∷ [])
+
+pub odds_more : (done : List MonitorView) (ends : List MonEnd) (node : MonitorView) (end : MonEnd) (all : List MonEnd) → all ≡ ends ++ end ∷ [] → map (λ e. e.odd) ends ≡ map (λ m. None) done → end.odd ≡ None → map (λ e. e.odd) all ≡ map (λ m. None) (done ++ node ∷ [])
+odds_more done ends node end all is before none =
+    let no_odd : MonitorView → Option Received = λ m. None in
+    ap (map (λ (e : MonEnd). e.odd)) is ∙ map-append (λ (e : MonEnd). e.odd) ends (end ∷ []) ∙ (λ i. before i ++ none i ∷ []) ∙ sym (map-append no_odd done (node ∷ []))
 
 -- one monitor more
 pub made_more : (settings : Setup) (logs : LogSet) (from : List (List ℕ)) (j : ℕ) (nodes : List MonitorView) (node : MonitorView) (all : List MonitorView) → all ≡ nodes ++ node ∷ [] → map as_made nodes ≡ map (made_for settings logs from) (range_with_len 1 j)

@@ -1,12 +1,15 @@
 -- What a monitor does where an entry of a trail is handed in.
-use Rattle.std.proofs.Common.{◌≡◌, ℕ, ◌<◌, List, [], ◌∷◌, ◌++◌, length, take, Option, Some, None, Result, Ok, Err, refl, sym, ap, ◌∙◌, subst, arith, append_assoc}
-use Rattle.std.specs.Prelude.{OnOk}
+use Rattle.std.proofs.Common.{◌≡◌, ℕ, ◌-◌, ◌<◌, List, [], ◌∷◌, ◌++◌, length, take, Option, Some, None, Result, Ok, Err, refl, sym, ap, ◌∙◌, subst, arith, append_assoc}
+use Rattle.std.specs.Prelude.{OnOk, ℤ, slice_get}
+use Rattle.std.proofs.lemmas.Option.{get_or_from_slice_get}
+use Rattle.tk_base.specs.Settings.{Setup}
 use Rattle.tk_base.specs.declared.ids.Feeder.{Feeder}
 use Rattle.tk_frames.specs.declared.frame.Frame.{Frame}
-use Rattle.tk_monitor.specs.Monitored.{AnswersTake, MonitorView, Raises}
+use Rattle.tk_input.specs.Logs.{LogSet, parts_of}
+use Rattle.tk_monitor.specs.Monitored.{AnswersTake, MonitorView, Raises, made}
 use Rattle.tk_monitor.specs.declared.outcome.Raised.{Raised}
 use Rattle.tk_monitor.specs.declared.outcome.Raised.TheVariants.{Done, Ended}
-use Rattle.tk_story.specs.Ends.{as_made}
+use Rattle.tk_story.specs.Ends.{as_made, made_for}
 use Rattle.tk_trail.specs.Setup.{MonitorSetup}
 use Rattle.tk_trail.specs.Frames.{answer_to, due_at, owed_at}
 use Rattle.tk_trail.specs.Legal.{HasNext, IsLegal, after_check, after_take, part_length, place_of, to_send, with_answer}
@@ -131,3 +134,8 @@ pub reached : (first old : MonitorView) (seen : List Entry) (entry : Entry) (new
 reached first old seen entry new place made driven size leads =
     let same : old.setup ≡ first.setup = ap (λ (m : MonitorView). m.setup) made in
     subst (λ s. Leads (IsLegal s) seen entry new) same (leads seen (subst (λ s. IsDriven (IsLegal s) seen old.trail) (sym same) driven) size)
+
+-- a monitor that is made with its parts and places is the one that a run makes
+pub made_here : (settings : Setup) (logs : LogSet) (from : List (List ℕ)) (mon : ℕ) (parts : List (List (ℕ × ℤ))) (places : List ℕ) (m : MonitorView) → parts ≡ parts_of logs.logs mon → slice_get from (mon - 1) ≡ Some places → m ≡ made settings mon parts places → m ≡ made_for settings logs from mon
+made_here settings logs from mon parts places m parts_are at is =
+    is ∙ ap (λ p. made settings mon p places) parts_are ∙ ap (made settings mon (parts_of logs.logs mon)) (sym (get_or_from_slice_get from (mon - 1) places [] at))

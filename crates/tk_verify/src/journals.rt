@@ -47,9 +47,13 @@ fn take(coordinator: &mut Coordinator, mon: Mon, frame: &Frame) -> Result<(), No
     if mon.0 == 0 || mon.0 > coordinator.settings().monitors() {
         return Ok(());
     }
-    match coordinator.take(mon, frame.try_clone()?) {
+    let frame = frame.try_clone()?;
+    match coordinator.take(mon, frame) {
         Ok(()) => Ok(()),
-        Err((refusal, _)) => unless_memory(refusal),
+        Err((refusal, frame)) => {
+            drop(frame);
+            unless_memory(refusal)
+        }
     }
 }
 

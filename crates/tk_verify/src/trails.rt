@@ -48,9 +48,13 @@ fn take(monitor: &mut Monitor, frame: &Frame) -> Result<(), NoMemory>
     ensures leads { OnOk result (Leads (IsLegal monitor.old.setup) monitor.old.trail (e.Took frame.now) monitor.new.trail) }
 {
     let _ = monitor.trail();
-    match monitor.take(frame.try_clone()?) {
+    let frame = frame.try_clone()?;
+    match monitor.take(frame) {
         Ok(()) => Ok(()),
-        Err((refusal, _)) => unless_memory(refusal),
+        Err((refusal, frame)) => {
+            drop(frame);
+            unless_memory(refusal)
+        }
     }
 }
 

@@ -69,17 +69,20 @@ fn drive_monitors(
     ensures found { (journal : List Said)
         → IfErr result (Reveals (recorded_from from.now settings.now logs.now journal (trails_in trails.now))) }
 {
-    let mut monitors = Vec::new(alloc);
+    let Ok(room) = Vec::with_capacity(alloc, settings.monitors() as usize) else {
+        return Err(Finding::NoMemory);
+    };
+    let mut monitors = room;
     for j in 0..settings.monitors() {
         let trail = trails[j as usize].as_slice();
         let monitor = match drive_monitor(alloc, settings, logs, from, Mon(j + 1), trail) {
             Ok(monitor) => monitor,
-            Err(halt) => return Err(found(j + 1, halt)),
+            Err(halt) => {
+                drop(monitors);
+                return Err(found(j + 1, halt));
+            }
         };
-        match monitors.push(monitor) {
-            Ok(()) => {}
-            Err(_) => return Err(Finding::NoMemory),
-        }
+        monitors.push_reserved(monitor);
     }
     Ok(monitors)
 }
@@ -89,9 +92,13 @@ fn ends_of(alloc: Global, monitors: Vec<Monitor>) -> Result<Vec<MonEnd>, NoMemor
     ensures monitors { IfOk result (λ ends. map (λ end. end.monitor) ends.items ≡ monitors.items) }
     ensures odds { IfOk result (λ ends. map (λ end. end.odd) ends.items ≡ map (λ m. None) monitors.items) }
 {
-    let mut ends = Vec::new(alloc);
+    let Ok(room) = Vec::with_capacity(alloc, monitors.len()) else {
+        drop(monitors);
+        return Err(NoMemory);
+    };
+    let mut ends = room;
     for monitor in monitors {
-        ends.push(MonEnd::new(monitor, None))?;
+        ends.push_reserved(MonEnd::new(monitor, None));
     }
     Ok(ends)
 }
@@ -116,6 +123,8 @@ fn join(
     let _ = logs.monitors();
     let Ok(ends) = ends_of(alloc, monitors) else {
         drop(coordinator);
+        drop(logs);
+        drop(from);
         return Err(Finding::NoMemory);
     };
     let coordinator = CoordEnd::new(coordinator, None);
@@ -123,7 +132,9 @@ fn join(
         Ok(story) => Ok(story),
         Err((fault, apart)) => {
             drop(apart);
-            Err(unjoined(&fault))
+            let finding = unjoined(&fault);
+            drop(fault);
+            Err(finding)
         }
     }
 }
@@ -142,11 +153,20 @@ fn judge(
     requires trails { length trails.now ≡ settings.monitors }
     ensures { Judges (recorded_from from settings logs journal.now (trails_in trails.now)) result }
 {
-    let monitors = drive_monitors(alloc, &settings, &logs, &from, trails)?;
+    let monitors = match drive_monitors(alloc, &settings, &logs, &from, trails) {
+        Ok(monitors) => monitors,
+        Err(finding) => {
+            drop(logs);
+            drop(from);
+            return Err(finding);
+        }
+    };
     let coordinator = match drive_coordinator(alloc, settings, journal) {
         Ok(coordinator) => coordinator,
         Err(halt) => {
             drop(monitors);
+            drop(logs);
+            drop(from);
             return Err(found(settings.monitors() + 1, halt));
         }
     };

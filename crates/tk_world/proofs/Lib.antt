@@ -1,4 +1,5 @@
 pub mod BeginLemmas
+pub mod DirectLemmas
 pub mod EnabledLemmas
 pub mod EventLemmas
 pub mod IdleLemmas

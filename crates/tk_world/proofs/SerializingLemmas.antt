@@ -1,11 +1,12 @@
 -- The events that are written down walk the story.
 use Rattle.tk_journal.specs.declared.noted.Noted.TheVariants as n
 use Rattle.std.proofs.Common.{◌≡◌, ℕ, suc, zero, ◌+◌, ◌-◌, ◌≤◌, ◌<◌, ◌==◌, pos, Bool, true, false, List, [], ◌∷◌, ◌++◌, length, set, get_or, replicate, Some, None, refl, sym, ap, ◌∙◌, subst, arith, append_assoc, append-nil, inl, inr}
-use Rattle.std.specs.Prelude.{ℤ, drop, unsigned_abs, slice_get, if◌then◌else◌}
+use Rattle.std.specs.Prelude.{ℤ, drop, unsigned_abs, slice_get, if◌then◌else◌, Result, Ok, Err, OnOk}
 use Rattle.std.specs.List.{cons_option}
-use Rattle.std.proofs.lemmas.Bool.{cases_eq, eq-eqb, ne_eqb}
+use Rattle.std.proofs.lemmas.Bool.{cases_eq, cases_lt, eq-eqb, ne_eqb}
 use Rattle.std.proofs.lemmas.List.{get_or-set_same, get_or-set_other, length-append, length-replicate, length-set}
 use Rattle.std.proofs.lemmas.List.Elements.{filter_map-append}
+use Rattle.tk_base.specs.declared.memory.NoMemory.{NoMemory}
 use Rattle.tk_frames.specs.declared.frame.Frame.{Frame}
 use Rattle.tk_journal.specs.Laws.{IsMonitor}
 use Rattle.tk_journal.specs.Legal.{inputs_of, opened, start}
@@ -380,6 +381,31 @@ goes_on s places events left mon frame w =
 
 -- ---- at the end
 
+-- once no input is left, no monitor is ahead
+pub none_ahead : (s : StoryView) (places : List ℕ) (events : List Event) (ahead : ℕ) → IsWalking s places events [] ahead → IsWalking s places events [] 0
+none_ahead s places events ahead w = record {
+  whole = w.whole;
+  journal = w.journal;
+  trails = w.trails;
+  story = w.story;
+  played = w.played;
+  accepted = w.accepted;
+  fronts = w.fronts;
+  runs = w.runs;
+  count = w.count;
+  walked_to = w.walked_to;
+  heard = w.heard;
+}
+
+-- one more trail is walked to its end
+pub ends_more : (s : StoryView) (places places' : List ℕ) (j : ℕ) → ((i : ℕ) → i < j → get_or places i 0 ≡ length (get_or s.trails i [])) → get_or places' (j + 1 - 1) 0 ≡ length (trail_of s (j + 1))
+    → ((i : ℕ) → (i ≡ j + 1 - 1 → ⊥) → get_or places' i 0 ≡ get_or places i 0) → (i : ℕ) → i < j + 1 → get_or places' i 0 ≡ length (get_or s.trails i [])
+ends_more s places places' j ends end others i below =
+    elim (cases_lt i j) [
+      | inl less ↦ others i (λ same. omega (arith, same, less)) ∙ ends i less
+      | inr least ↦ subst (λ q. get_or places' q 0 ≡ length (get_or s.trails q [])) (let same : j + 1 - 1 ≡ i = omega (arith, below, least) in same) end
+    ]
+
 full : (trail whole rest : List Entry) → whole ≡ trail ++ rest → length trail ≡ length whole → trail ≡ whole
 full trail whole [] is same = sym (is ∙ append-nil trail)
 full trail whole (x ∷ rest) is same = absurd (let l = ap (λ (xs : List Entry). length xs) is in let m = length-append trail (x ∷ rest) in omega (arith, l, m, same))
@@ -399,6 +425,10 @@ walked_all s places events w ends =
     subst (RunsBy s) (append-nil events) (w.runs [] (sym w.played, trails))
 
 -- ---- one step of the code
+
+pub on_ok : {P Q : Type 0} (r : Result (Unit {0}) NoMemory) → (P → Q) → OnOk r P → OnOk r Q
+on_ok (Ok x) step holds = step holds
+on_ok (Err e) step holds = tt
 
 pub step_by : (s : StoryView) (places : List ℕ) (events events' : List Event) (left : List Noted) (mon : ℕ) (x : Entry) (step : Event × ℕ × Bool) (place : ℕ) → step ≡ (of_entry mon x, uses x, sends x)
     → events' ≡ events ++ step.0 ∷ [] → place ≡ get_or places (mon - 1) 0 → slice_get (trail_of s mon) place ≡ Some x → IsMonitor s.settings mon → IsWalking s places events left 0 → IsTurnOf mon left

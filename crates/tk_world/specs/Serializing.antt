@@ -5,7 +5,7 @@ use Rattle.tk_base.specs.declared.ids.Mon.{Mon}
 use Rattle.tk_frames.specs.declared.frame.Frame.{Frame}
 use Rattle.tk_input.specs.declared.event.Event.{Event}
 use Rattle.tk_journal.specs.Laws.{IsMonitor}
-use Rattle.tk_journal.specs.Legal.{AreAccepted, played_from}
+use Rattle.tk_journal.specs.Legal.{AreAccepted, inputs_of, played_from}
 use Rattle.tk_journal.specs.Links.{frames_from}
 use Rattle.tk_journal.specs.declared.noted.Noted.{Noted}
 use Rattle.tk_trail.specs.Readings.{sent_by}
@@ -82,6 +82,14 @@ IsFrameNext s walk mon = (frame : Frame) × (left : List Noted) × IsAt s walk (
 -- the next frame of a monitor is sent and got
 abbrev pub GetsFrame : StoryView → Walk → Mon → Walk → Type 0
 GetsFrame s old mon new = (frame : Frame) (left : List Noted) → IsAt s old (n.Got mon frame ∷ left) 0 → IsAt s new left 0
+
+-- an entry of the journal comes next
+abbrev pub IsEntryNext : StoryView → Walk → Noted → Type 0
+IsEntryNext s walk noted = (left : List Noted) × IsAt s walk (inputs_of (noted ∷ left)) 0
+
+-- the entry is walked, with what its turn asks of a trail
+abbrev pub UsesEntry : StoryView → Walk → Noted → Walk → Type 0
+UsesEntry s old noted new = (left : List Noted) → IsAt s old (inputs_of (noted ∷ left)) 0 → IsAt s new (inputs_of left) 0
 
 -- the places but that of a monitor stay
 abbrev pub AreOthersKept : Walk → ℕ → Walk → Type 0

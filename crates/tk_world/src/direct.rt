@@ -1,5 +1,8 @@
-ghost use Rattle.std.specs.Prelude.{◌≡◌, IfOk, map};
-ghost use Rattle.tk_world.specs.Nodes.{IsFresh};
+ghost use Rattle.std.specs.Prelude.{◌≡◌, ◌<◌, ◌≤◌, None, IfOk, OnErr, OnOk, map};
+ghost use Rattle.tk_journal.specs.Refusal.{refusal_of};
+ghost use Rattle.tk_journal.specs.declared.noted.Noted.TheVariants.{Got};
+ghost use Rattle.tk_trail.specs.Refusal.{refusal_of as monitor_refusal_of};
+ghost use Rattle.tk_world.specs.Nodes.{IsFresh, having_taken, with_input};
 ghost use Rattle.tk_world.specs.World.{CanRun};
 
 use crate::nodes::Nodes;
@@ -8,6 +11,7 @@ use std::alloc::Global;
 use std::marker::Model;
 use tk_base::{Cut, Feeder, Mon, NoMemory, Settings};
 use tk_coord::{CoordRefusal, Coordinator};
+use tk_frames::Frame;
 use tk_input::Logs;
 use tk_monitor::{Monitor, Raised};
 use tk_trail::MonitorRefusal;
@@ -66,6 +70,39 @@ fn of_monitor(refusal: MonitorRefusal) -> NoMemory
     }
 }
 
+/// The coordinator takes a frame that it does not refuse.
+fn hand_up(coordinator: &mut Coordinator, mon: Mon, frame: Frame) -> Result<(), NoMemory>
+    requires some_monitor { 0 < mon.0 }
+    requires monitor { mon.0 ≤ coordinator.old.settings.monitors }
+    requires accepted { refusal_of coordinator.old.settings coordinator.old.journal mon.0 frame ≡ None }
+    ensures ok { OnOk result (coordinator.new ≡ with_input coordinator.old (Got mon frame)) }
+    ensures err { OnErr result (coordinator.new ≡ coordinator.old) }
+{
+    match coordinator.take(mon, frame) {
+        Ok(()) => Ok(()),
+        Err((refusal, frame)) => {
+            // By name: a pattern that leaves it out is dear to prove.
+            drop(frame);
+            Err(of_coordinator(refusal))
+        }
+    }
+}
+
+/// A monitor takes a frame that it does not refuse.
+fn hand_down(monitor: &mut Monitor, frame: Frame) -> Result<(), NoMemory>
+    requires { monitor_refusal_of monitor.old.setup monitor.old.trail frame ≡ None }
+    ensures ok { OnOk result (monitor.new ≡ having_taken monitor.old frame) }
+    ensures err { OnErr result (monitor.new ≡ monitor.old) }
+{
+    match monitor.take(frame) {
+        Ok(()) => Ok(()),
+        Err((refusal, frame)) => {
+            drop(frame);
+            Err(of_monitor(refusal))
+        }
+    }
+}
+
 /// The monitors of some seats.
 fn monitors_of(alloc: Global, seats: Vec<Seat>) -> Result<Vec<Monitor>, NoMemory>
     ensures { IfOk result (λ monitors. monitors.items ≡ map (λ seat. seat.monitor) seats.items) }
@@ -73,7 +110,7 @@ fn monitors_of(alloc: Global, seats: Vec<Seat>) -> Result<Vec<Monitor>, NoMemory
     let mut monitors = Vec::with_capacity(alloc, seats.len())?;
     for seat in seats {
         let Seat { monitor, .. } = seat;
-        monitors.push(monitor)?;
+        monitors.push_reserved(monitor);
     }
     Ok(monitors)
 }
@@ -109,10 +146,7 @@ impl Nodes for Direct {
     fn up(&mut self, mon: Mon) -> Result<(), NoMemory> {
         let seat = &mut self.seats[mon.0 as usize - 1];
         let frame = seat.monitor.sent_at(seat.got).try_clone()?;
-        match self.coordinator.take(mon, frame) {
-            Ok(()) => {}
-            Err((refusal, _)) => return Err(of_coordinator(refusal)),
-        }
+        hand_up(&mut self.coordinator, mon, frame)?;
         prove!(seat.got < seat.monitor.sent());
         seat.got += 1;
         Ok(())
@@ -121,10 +155,7 @@ impl Nodes for Direct {
     fn down(&mut self, mon: Mon) -> Result<(), NoMemory> {
         let seat = &mut self.seats[mon.0 as usize - 1];
         let frame = self.coordinator.sent_at(mon, seat.taken).try_clone()?;
-        match seat.monitor.take(frame) {
-            Ok(()) => {}
-            Err((refusal, _)) => return Err(of_monitor(refusal)),
-        }
+        hand_down(&mut seat.monitor, frame)?;
         prove!(seat.taken < self.coordinator.sent(mon));
         seat.taken += 1;
         Ok(())

@@ -1,8 +1,8 @@
-ghost use Rattle.std.specs.Prelude.{◌≡◌, ◌<◌, [], length, IfOk, IfErr, OnOk};
+ghost use Rattle.std.specs.Prelude.{◌≡◌, ◌<◌, [], length, replicate, IfOk, IfErr, OnOk};
 ghost use Rattle.tk_journal.specs.Laws.{IsMonitor};
 ghost use Rattle.tk_story.specs.Story.{trail_of};
 ghost use Rattle.tk_world.specs.Runs.{RunsBy, wants_answer};
-ghost use Rattle.tk_world.specs.Serializing.{AreOthersKept, CanStep, GetsFrame, IsAt, IsFrameNext, Steps, place_of};
+ghost use Rattle.tk_world.specs.Serializing.{AreOthersKept, CanStep, GetsFrame, IsAt, IsEntryNext, IsFrameNext, Steps, UsesEntry, place_of};
 
 use std::alloc::Global;
 use tk_base::{Mon, NoMemory};
@@ -37,27 +37,54 @@ pub fn serialize(alloc: Global, story: Story) -> Result<Story, (NoMemory, Story)
 fn events_of(alloc: Global, story: &Story) -> Result<Vec<Event>, NoMemory>
     ensures { IfOk result (λ events. RunsBy story.now.story events.items) }
 {
-    let monitors = story.settings().monitors();
     let mut walk = Walk {
-        places: vec![in alloc; 0; monitors as usize]?,
+        places: vec![in alloc; 0; story.settings().monitors() as usize]?,
         events: Vec::new(alloc),
     };
+    walk_journal(&mut walk, alloc, story)?;
+    walk_trails(&mut walk, story)?;
+    Ok(walk.events)
+}
+
+/// Walks the journal from its beginning, and each trail as far as it asks.
+fn walk_journal(walk: &mut Walk, alloc: Global, story: &Story) -> Result<(), NoMemory>
+    requires places { walk.old.places.items ≡ replicate story.now.story.settings.monitors 0 }
+    requires events { walk.old.events.items ≡ [] }
+    ensures { OnOk result (IsAt story.now.story walk.new [] 0) }
+{
     let journal = story.journal();
     for noted in journal {
-        match noted {
-            Noted::Got(from, _) => go_to_frame(&mut walk, story, *from)?,
-            Noted::Tuned(k, epsilon) => {
-                let epsilon = epsilon.get().unsigned_abs();
-                walk.events.push(Event::retune(alloc, *k as u64, epsilon)?)?;
-            }
-            Noted::Sent(_, _) => {}
-            Noted::Published(_) => {}
+        walk_noted(walk, alloc, story, noted)?;
+    }
+    Ok(())
+}
+
+/// Walks one entry of the journal, with what its turn asks of a trail.
+fn walk_noted(walk: &mut Walk, alloc: Global, story: &Story, noted: &Noted) -> Result<(), NoMemory>
+    requires { IsEntryNext story.now.story walk.old noted.now }
+    ensures { OnOk result (UsesEntry story.now.story walk.old noted.now walk.new) }
+{
+    match noted {
+        Noted::Got(from, _) => go_to_frame(walk, story, *from),
+        Noted::Tuned(k, epsilon) => {
+            let epsilon = epsilon.get().unsigned_abs();
+            walk.events.push(Event::retune(alloc, *k as u64, epsilon)?)?;
+            Ok(())
         }
+        Noted::Sent(_, _) => Ok(()),
+        Noted::Published(_) => Ok(()),
     }
-    for j in 0..monitors {
-        go_to_end(&mut walk, story, Mon(j + 1))?;
+}
+
+/// Walks each trail to its end, where the journal is walked.
+fn walk_trails(walk: &mut Walk, story: &Story) -> Result<(), NoMemory>
+    requires { IsAt story.now.story walk.old [] 0 }
+    ensures { OnOk result (RunsBy story.now.story walk.new.events.items) }
+{
+    for j in 0..story.settings().monitors() {
+        go_to_end(walk, story, Mon(j + 1))?;
     }
-    Ok(walk.events)
+    Ok(())
 }
 
 /// Walks a trail until its monitor sends a frame, which the coordinator takes.

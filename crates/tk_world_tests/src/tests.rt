@@ -1,14 +1,11 @@
 //! Worlds of the objects a and b, with one feeder each for two monitors, and what their stories say.
 
-ghost use Rattle.std.specs.Prelude.{IfOk};
-ghost use Rattle.tk_input.specs.Logs.{IsCut};
-
 mod runs;
 mod serialized;
 
 use std::alloc::Global;
 use std::test::Fail;
-use tk_base::{Cut, Feeder, Mon, ObjSet, Pairs, Places, Settings};
+use tk_base::{Cut, Feeder, Mon, ObjSet, Pairs, Settings};
 use tk_frames::Frame;
 use tk_input::{Catalog, Event, Logs, Part};
 use tk_journal::Noted;
@@ -38,43 +35,30 @@ fn event(alloc: Global, does: Does) -> Result<Event, Fail> {
     })
 }
 
-fn logs_of(alloc: Global, one: &[u8], two: &[u8]) -> Result<Logs, Fail> {
-    let names = Catalog::read(alloc, b"a\nb\n")?;
-    let first = Part::read(alloc, one, &names)?;
-    let second = Part::read(alloc, two, &names)?;
-    let objects = names.len() as u32;
-    drop(names);
-    let parts = vec![in alloc; (Mon(1), first), (Mon(2), second)]?;
-    let logs = Logs::new(alloc, parts, objects)?;
-    Ok(logs)
+fn logs_over(alloc: Global, names: &Catalog) -> Option<Logs> {
+    let first = Part::read(alloc, b"a,5\n", names).ok()?;
+    let second = Part::read(alloc, b"b,3\n", names).ok()?;
+    let parts = vec![in alloc; (Mon(1), first), (Mon(2), second)].ok()?;
+    Logs::new(alloc, parts, names.len() as u32).ok()
 }
 
-/// The cut at these places, one for each monitor, or at the ends of shorter parts.
-fn cut_at(alloc: Global, logs: &Logs, places: &[u32]) -> Result<Cut, Fail>
-    ensures { IfOk result (λ cut. IsCut logs.now.logs cut) }
-{
-    let mut list = Vec::new(alloc);
-    for j in 0..logs.monitors() {
-        if logs.feeders(Mon(j + 1)) != 1 || places.len() <= j as usize {
-            return Err("another number of feeders")?;
-        }
-        let most = logs.length(Mon(j + 1), Feeder(1));
-        let place = places[j as usize].min(most);
-        list.push(Places::new(vec![in alloc; place]?))?;
-    }
-    Ok(Cut::new(list))
+/// A change of each monitor.
+fn logs(alloc: Global) -> Option<Logs> {
+    let names = Catalog::read(alloc, b"a\nb\n").ok()?;
+    logs_over(alloc, &names)
 }
 
-/// A world over such logs, with k 1 and epsilon 0, from some places on.
-fn world(alloc: Global, one: &[u8], two: &[u8], places: &[u32]) -> Result<World, Fail> {
-    let logs = logs_of(alloc, one, two)?;
+/// A world over them, with k 1 and epsilon 0.
+fn world(alloc: Global) -> Result<World, Fail> {
     let settings = Settings::new(1, 0, 1, 2, 2)?;
+    let Some(logs) = logs(alloc) else {
+        return Err("no logs")?;
+    };
     if settings.objects() != logs.objects() || settings.monitors() != logs.monitors() {
         return Err("other logs")?;
     }
-    let from = cut_at(alloc, &logs, places)?;
-    let world = World::new(alloc, settings, logs, from)?;
-    Ok(world)
+    let from = logs.start(alloc)?;
+    Ok(World::new(alloc, settings, logs, from)?)
 }
 
 fn moves(alloc: Global, world: &mut World, does: Does) -> Result<Moved, Fail> {

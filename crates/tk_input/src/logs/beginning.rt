@@ -20,7 +20,7 @@ pub fn cut_of(alloc: Global, rows: &[Vec<Part>]) -> Result<Cut, NoMemory>
 {
     let mut list = Vec::with_capacity(alloc, rows.len())?;
     for row in rows {
-        list.push(places_of(alloc, row.as_slice())?)?;
+        list.push_reserved(places_of(alloc, row.as_slice())?);
     }
     Ok(Cut::new(list))
 }

@@ -41,9 +41,10 @@ fn row_of(alloc: Global, parts: &[(Mon, Part)], mon: Mon) -> Result<Vec<Part>, N
 pub fn rows_of(alloc: Global, parts: &[(Mon, Part)]) -> Result<Vec<Vec<Part>>, NoMemory>
     ensures { IfOk result (λ rows. logs_in rows.items ≡ logs_by_monitor parts.now) }
 {
-    let mut rows = Vec::new(alloc);
-    for place in 0..last_monitor(parts) {
-        rows.push(row_of(alloc, parts, Mon(place + 1))?)?;
+    let last = last_monitor(parts);
+    let mut rows = Vec::with_capacity(alloc, last as usize)?;
+    for place in 0..last {
+        rows.push_reserved(row_of(alloc, parts, Mon(place + 1))?);
     }
     Ok(rows)
 }

@@ -1,8 +1,7 @@
-//! Files and sinks, in memory and of the system.
+//! Files and sinks in memory.
 
 use std::alloc::Global;
-use std::fs;
-use tk_input::{FileFault, Files, MapFiles, PutFailed, Sink, StdSink, TrueFiles, VecSink};
+use tk_input::{FileFault, Files, MapFiles, PutFailed, Sink, VecSink};
 
 /// A file in memory of so many letters.
 fn file(alloc: Global, name: &str, length: usize) -> Option<(String, Vec<u8>)> {
@@ -25,7 +24,7 @@ fn length_of(alloc: Global, files: &mut MapFiles, name: &str) -> Result<usize, F
 }
 
 /// The faults of a file, and the most bytes that were taken of it.
-fn counts_of(files: &impl Files, name: &str) -> (u64, u64) {
+fn counts_of(files: &MapFiles, name: &str) -> (u64, u64) {
     (files.faults(name), files.longest(name))
 }
 
@@ -150,43 +149,4 @@ fn a_sink_in_memory_fails_where_it_is_told_to(rt: HostRuntime) {
         None => false,
     };
     assert!(rt; is_filled);
-}
-
-const NAME: &str = "tk_input_test.csv";
-
-/// Whether a file has these bytes, or why it was not read.
-fn has_bytes(alloc: Global, files: &mut impl Files, wanted: &[u8]) -> Result<bool, FileFault> {
-    Ok(files.read_all(alloc, NAME)?.as_slice() == wanted)
-}
-
-/// The same, with the file's counts then.
-fn read(
-    alloc: Global,
-    files: &mut impl Files,
-    wanted: &[u8],
-) -> (Result<bool, FileFault>, (u64, u64)) {
-    let is_read = has_bytes(alloc, files, wanted);
-    (is_read, counts_of(files, NAME))
-}
-
-#[test]
-fn true_files_are_read(rt: HostRuntime) {
-    let mut files = TrueFiles::new(rt.alloc(), &rt);
-    let is_written = fs::write(&rt, NAME, "a\nb\n").is_ok();
-    let before = read(rt.alloc(), &mut files, b"a\nb\n");
-    let is_removed = fs::remove_file(&rt, NAME).is_ok();
-    let after = read(rt.alloc(), &mut files, b"");
-    drop(files);
-    assert!(rt; is_written && is_removed);
-    assert!(rt; before == (Ok(true), (0, 4)));
-    assert!(rt; after == (Err(FileFault::Failed), (1, 4)));
-}
-
-#[test]
-fn standard_output_is_written(rt: HostRuntime) {
-    let mut sink = StdSink::new(&rt);
-    let outcome = sink.put(b"to standard output\n");
-    let faults = sink.faults();
-    drop(sink);
-    assert!(rt; (outcome, faults) == (Ok(()), 0));
 }

@@ -28,16 +28,23 @@ impl Monitor {
         ensures ok { IfOk result (λ m. m ≡ made settings.now mon.0 parts.items from.now) }
         ensures legal { IfOk result (λ m. IsLegal m.setup m.trail) }
     {
+        let own = from.try_clone()?;
         let mut board = Board::new(alloc, settings.objects())?;
-        let next = start(alloc, &mut board, parts.as_slice(), from)?;
+        // Here and below by name: `?` would drop each field of the board, which is dear to prove.
+        let Ok(next) = start(alloc, &mut board, parts.as_slice(), from) else {
+            drop(board);
+            return Err(NoMemory);
+        };
         let left = left_of(parts.as_slice(), next.as_slice());
-        let trail = Trail::new(alloc, left)?;
-        let from = from.try_clone()?;
+        let Ok(trail) = Trail::new(alloc, left) else {
+            drop(board);
+            return Err(NoMemory);
+        };
         Ok(Monitor {
             settings: *settings,
             number: mon,
             parts,
-            from,
+            from: own,
             next,
             board,
             trail,

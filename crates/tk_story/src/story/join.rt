@@ -20,7 +20,8 @@ fn into_monitors(ends: Vec<MonEnd>, room: Vec<Monitor>) -> Vec<Monitor>
 {
     let mut monitors = room;
     for end in ends {
-        let MonEnd { monitor, .. } = end;
+        let MonEnd { monitor, odd } = end;
+        drop(odd);
         monitors.push_reserved(monitor);
     }
     monitors

@@ -23,6 +23,9 @@ pub fn kept_frame(alloc: Global, bytes: &[u8]) -> Result<(KeptFrame, &[u8]), Par
     let (frame, rest) = frame(alloc, bytes)?;
     match KeptFrame::new(alloc, frame) {
         Ok(frame) => Ok((frame, rest)),
-        Err(_) => Err(ParseFault::NoMemory),
+        Err(frame) => {
+            drop(frame);
+            Err(ParseFault::NoMemory)
+        }
     }
 }

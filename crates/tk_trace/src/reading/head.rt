@@ -78,5 +78,7 @@ pub fn names(alloc: Global, objects: u32, bytes: &[u8]) -> Result<(Catalog, &[u8
     ensures { Gives (λ x. (x.0, x.1.now)) result (names_at objects bytes.now) }
 {
     let (list, rest) = name_list(alloc, objects, bytes)?;
-    Ok((catalogue(alloc, list.as_slice())?, rest))
+    let names = catalogue(alloc, list.as_slice());
+    drop(list);
+    Ok((names?, rest))
 }

@@ -77,7 +77,10 @@ fn published(alloc: Global, monitors: u32, bytes: &[u8]) -> Result<(Noted, &[u8]
     let (publication, rest) = publication(alloc, monitors, bytes)?;
     match KeptPublication::new(alloc, publication) {
         Ok(publication) => Ok((Noted::Published(publication), rest)),
-        Err(_) => Err(ParseFault::NoMemory),
+        Err(publication) => {
+            drop(publication);
+            Err(ParseFault::NoMemory)
+        }
     }
 }
 

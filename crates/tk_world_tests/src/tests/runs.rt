@@ -20,7 +20,7 @@ fn are_published(story: &Story, first: Publishes<'_>, second: Publishes<'_>) -> 
 
 #[test]
 fn a_retune_deals_by_its_epsilon(rt: HostRuntime) -> Result<(), Fail> {
-    let mut world = world(rt.alloc(), b"a,5\n", b"b,3\n", &[0, 0])?;
+    let mut world = world(rt.alloc())?;
     let done = retune(rt.alloc(), &mut world);
     let story = story_of(world, done)?;
     let first = Publishes(1, 1, 0, false, &[1], &[0, 0]);
@@ -30,29 +30,5 @@ fn a_retune_deals_by_its_epsilon(rt: HostRuntime) -> Result<(), Fail> {
     let two = has_factors(&story, 2, &[(1, 4), (2, 2)]);
     drop(story);
     assert_eq!(rt; (sets, one, two), ((true, true), true, true));
-    Ok(())
-}
-
-/// Settles, raises both changes that are left and settles again. Before these it is at rest, and its cut has two monitors.
-fn run_on(alloc: Global, world: &mut World) -> Result<(), Fail> {
-    settle(alloc, world)?;
-    let monitors = world.cut()?.len();
-    if monitors != 2 || !world.quiet() || !world.is_settled() {
-        return Err("not at rest")?;
-    }
-    play(alloc, world, &[Does::Raise(1, 1), Does::Raise(2, 1)])?;
-    settle(alloc, world)
-}
-
-#[test]
-fn a_world_starts_from_a_cut(rt: HostRuntime) -> Result<(), Fail> {
-    let mut world = world(rt.alloc(), b"b,5\na,9\n", b"b,3\n", &[1, 0])?;
-    let done = run_on(rt.alloc(), &mut world);
-    let story = story_of(world, done)?;
-    let first = Publishes(1, 1, 0, false, &[2], &[1, 0]);
-    let last = Publishes(2, 1, 0, true, &[1], &[2, 1]);
-    let sets = are_published(&story, first, last);
-    drop(story);
-    assert_eq!(rt; sets, (true, true));
     Ok(())
 }

@@ -9,10 +9,6 @@ use tk_story::{Story, is_same_entry, is_same_noted};
 use tk_trail::Entry;
 use tk_world::{Moved, World, serialize};
 
-fn fresh(alloc: Global) -> Result<World, Fail> {
-    world(alloc, b"a,5\n", b"b,3\n", &[0, 0])
-}
-
 /// Settles before and after both changes.
 fn both_changes(alloc: Global, world: &mut World) -> Result<(), Fail> {
     settle(alloc, world)?;
@@ -22,7 +18,7 @@ fn both_changes(alloc: Global, world: &mut World) -> Result<(), Fail> {
 
 /// A story of both changes, with a list of events of `serialize`.
 fn listed(alloc: Global) -> Result<Story, Fail> {
-    let mut world = fresh(alloc)?;
+    let mut world = world(alloc)?;
     let done = both_changes(alloc, &mut world);
     match serialize(alloc, story_of(world, done)?) {
         Ok(story) => Ok(story),
@@ -46,7 +42,7 @@ fn step_all(world: &mut World, story: &Story) -> Result<(), Fail> {
 
 /// What a new world does with its events.
 fn again(alloc: Global, story: &Story) -> Result<Story, Fail> {
-    let mut world = fresh(alloc)?;
+    let mut world = world(alloc)?;
     let done = step_all(&mut world, story);
     story_of(world, done)
 }

@@ -1,8 +1,8 @@
-use Rattle.std.proofs.Common.{◌≡◌, None, sym, subst, ap, arith}
+use Rattle.std.proofs.Common.{◌≡◌, None, refl, sym, subst, ap, arith}
 use Rattle.tk_trail.specs.Frames.{due_at}
 use Rattle.tk_trail.specs.Setup.{IsSetup}
 use Rattle.tk_port.specs.declared.side.Side.{Side}
-use Rattle.tk_port.proofs.ExchangeLemmas.{exchanges_checked, exchanges_on, exchanges_same, none_due, rests}
+use Rattle.tk_port.proofs.ExchangeLemmas.{exchanges_checked, exchanges_on, exchanges_same, none_due, on_aside, rests, steady}
 use Rattle.tk_port.proofs.exchange.answer.Goals as goal
 
 pub speak-requires-clause-setup : goal.speak-requires-clause-setup
@@ -30,3 +30,21 @@ pub returns-in-Err-clause-exchanges : goal.returns-in-Err-clause-exchanges
 returns-in-Err-clause-exchanges g c =
     let before = c.args.side.now in
     exchanges_same c.args.link.now before (record { monitor = c.check.new.self }) (ap (λ m. record before { monitor = m }) c.in-Err.ensures.err)
+
+pub returns-in-Ok-clause-ends : goal.returns-in-Ok-clause-ends
+returns-in-Ok-clause-ends g c = c.speak.ensures.ends
+
+pub returns-in-Ok-clause-counts : goal.returns-in-Ok-clause-counts
+returns-in-Ok-clause-counts g c = c.speak.ensures.counts
+
+pub returns-in-Ok-clause-stops : goal.returns-in-Ok-clause-stops
+returns-in-Ok-clause-stops g c = c.speak.ensures.stops
+
+pub returns-in-Ok-clause-on : goal.returns-in-Ok-clause-on
+returns-in-Ok-clause-on g c = λ turn goes ends. c.speak.ensures.on turn goes (on_aside turn c.args.link.now c.args.side.now (record { monitor = c.check.new.self }) goes ends)
+
+pub returns-in-Err-clause-on : goal.returns-in-Err-clause-on
+returns-in-Err-clause-on g c = λ turn goes ends. on_aside turn c.args.link.now c.args.side.now (record { monitor = c.check.new.self }) goes ends
+
+pub returns-in-Err-clause-counts : goal.returns-in-Err-clause-counts
+returns-in-Err-clause-counts g c = steady c.args.link.now.counts c.args.link.now.counts refl

@@ -1,26 +1,11 @@
-use Rattle.tk_port.proofs.ExchangeLemmas.{exchanges_heard}
+use Rattle.tk_port.proofs.HearLemmas.{counts_turned, ends_turned, exchanges_turned}
 use Rattle.tk_port.proofs.exchange.hear.Goals as goal
 
-pub returns-in-Quiet-clause-exchanges : goal.returns-in-Quiet-clause-exchanges
-returns-in-Quiet-clause-exchanges g c = exchanges_heard 0 c.args.link.now c.hear.new.self c.args.side.now c.hear.new.actor c.in-Quiet.ensures.hears
+pub returns-clause-exchanges : goal.returns-clause-exchanges
+returns-clause-exchanges g c = exchanges_turned c.hear.result c.turn_of.result c.args.link.now c.hear.new.self c.args.side.now c.hear.new.actor c.turn_of.ensures c.hear.ensures.hears
 
-pub returns-in-More-clause-exchanges : goal.returns-in-More-clause-exchanges
-returns-in-More-clause-exchanges g c = exchanges_heard 64 c.args.link.now c.hear.new.self c.args.side.now c.hear.new.actor c.in-More.ensures.hears
+pub returns-clause-ends : goal.returns-clause-ends
+returns-clause-ends g c = ends_turned c.hear.result c.turn_of.result c.hear.new.self c.hear.new.actor c.turn_of.ensures c.hear.ensures.ends c.hear.ensures.part
 
-pub returns-in-Done-clause-exchanges : goal.returns-in-Done-clause-exchanges
-returns-in-Done-clause-exchanges g c = exchanges_heard 0 c.args.link.now c.hear.new.self c.args.side.now c.hear.new.actor c.in-Done.ensures.hears
-
-pub returns-in-Failed-clause-exchanges : goal.returns-in-Failed-clause-exchanges
-returns-in-Failed-clause-exchanges g c = exchanges_heard 0 c.args.link.now c.hear.new.self c.args.side.now c.hear.new.actor c.in-Failed.ensures.hears
-
-pub returns-in-Ended-clause-exchanges : goal.returns-in-Ended-clause-exchanges
-returns-in-Ended-clause-exchanges g c = exchanges_heard 0 c.args.link.now c.hear.new.self c.args.side.now c.hear.new.actor c.in-Ended.ensures.hears
-
-pub returns-in-Refused-clause-exchanges : goal.returns-in-Refused-clause-exchanges
-returns-in-Refused-clause-exchanges g c = exchanges_heard 0 c.args.link.now c.hear.new.self c.args.side.now c.hear.new.actor c.in-Refused.ensures.hears
-
-pub returns-in-Bad-clause-exchanges : goal.returns-in-Bad-clause-exchanges
-returns-in-Bad-clause-exchanges g c = exchanges_heard 0 c.args.link.now c.hear.new.self c.args.side.now c.hear.new.actor c.in-Bad.ensures.hears
-
-pub returns-in-NoMemory-clause-exchanges : goal.returns-in-NoMemory-clause-exchanges
-returns-in-NoMemory-clause-exchanges g c = exchanges_heard 0 c.args.link.now c.hear.new.self c.args.side.now c.hear.new.actor c.in-NoMemory.ensures.hears
+pub returns-clause-counts : goal.returns-clause-counts
+returns-clause-counts g c = counts_turned c.hear.result c.turn_of.result c.args.link.now.counts c.hear.new.self.counts c.turn_of.ensures c.hear.ensures.counted

@@ -5,7 +5,7 @@ use Rattle.std.proofs.lemmas.Bool.{both_ways}
 use Rattle.tk_border.specs.Levels.{greatest_of}
 use Rattle.tk_rank.specs.Blocks.{AreBlocks}
 use Rattle.tk_rank.specs.Tree.{greater, leaves_of, standing}
-use Rattle.tk_rank.proofs.BlockLemmas.{block_end, block_new, block_same, kept_blocks, put_blocks}
+use Rattle.tk_rank.proofs.BlockLemmas.{block_end, block_of_leaf, block_new, block_same, kept_blocks, put_blocks}
 use Rattle.tk_rank.proofs.NodeLemmas.{read_node}
 use Rattle.tk_rank.proofs.blocks.put_leaf.Goals as goal
 
@@ -64,3 +64,48 @@ returns-else-is_same-2-clause-blocks g c =
     let other : get_or leaves place None ≢ get_or (leaves_of nodes) (place / 64) None = λ same. both_ways c.is_same-else-is_same.result c.if-is_same-2.false (c.is_same-else-is_same.ensures.1 (old ∙ same ∙ sym c.leaf-top.ensures)) in
     subst (λ list. AreBlocks list nodes) (sym (map-set number c.args.leaves.now place c.args.number))
     (kept_blocks leaves nodes place x c.requires.blocks (block_same leaves nodes place x c.requires.blocks within other low))
+
+pub bounds-leaves-place : goal.bounds-leaves-place
+bounds-leaves-place g c = c.requires.within
+
+pub leaf-top-requires-clause-tree : goal.leaf-top-requires-clause-tree
+leaf-top-requires-clause-tree g c = c.requires.blocks.tree
+
+pub leaf-top-requires-clause-within : goal.leaf-top-requires-clause-within
+leaf-top-requires-clause-within g c = block_of_leaf g.N.Node.number c.args.leaves.now c.args.nodes.now c.args.place c.requires.blocks c.requires.within
+
+pub bounds-leaves-place-2 : goal.bounds-leaves-place-2
+bounds-leaves-place-2 g c = c.requires.within
+
+pub greater-requires : goal.greater-requires
+greater-requires g c κs = λ within. within
+
+pub is_same-requires : goal.is_same-requires
+is_same-requires g c κs = λ within. within
+
+pub put-requires-clause-tree : goal.put-requires-clause-tree
+put-requires-clause-tree g c = c.requires.blocks.tree
+
+pub put-requires-clause-within : goal.put-requires-clause-within
+put-requires-clause-within g c = block_of_leaf g.N.Node.number c.args.leaves.now c.args.nodes.now c.args.place c.requires.blocks c.requires.within
+
+pub is_same-requires-else-is_same : goal.is_same-requires-else-is_same
+is_same-requires-else-is_same g c κs = λ within. within
+
+pub overflow_mul-block : goal.overflow_mul-block
+overflow_mul-block g c = omega (arith, c.ranges.place.fits)
+
+pub end-requires : goal.end-requires
+end-requires g c = omega (arith, c.requires.within, c.requires.blocks.few, length-map c.args.leaves.now g.N.Node.number)
+
+pub greatest-mended-requires-clause-order : goal.greatest-mended-requires-clause-order
+greatest-mended-requires-clause-order g c = omega (arith, c.end.ensures, c.requires.within, length-set c.args.leaves.now c.args.place c.args.number)
+
+pub greatest-mended-requires-clause-within : goal.greatest-mended-requires-clause-within
+greatest-mended-requires-clause-within g c = omega (arith, c.end.ensures)
+
+pub put-requires-then-is_same-2-clause-tree : goal.put-requires-then-is_same-2-clause-tree
+put-requires-then-is_same-2-clause-tree g c = c.requires.blocks.tree
+
+pub put-requires-then-is_same-2-clause-within : goal.put-requires-then-is_same-2-clause-within
+put-requires-then-is_same-2-clause-within g c = block_of_leaf g.N.Node.number c.args.leaves.now c.args.nodes.now c.args.place c.requires.blocks c.requires.within

@@ -1,4 +1,4 @@
-use Rattle.std.proofs.Common.{◌≡◌, ◌<◌, refl, ◌/◌, ◌+◌, ◌∙◌, sym, ap, subst, arith, length, length-set, map, set}
+use Rattle.std.proofs.Common.{rules, ◌≡◌, ◌<◌, refl, ◌/◌, ◌+◌, ◌∙◌, sym, ap, subst, arith, length, length-set, map, set}
 use Rattle.std.proofs.lemmas.List.{length-map, map-set}
 use Rattle.tk_rank.specs.Tree.{leaves_of, width_of}
 use Rattle.tk_rank.proofs.NodeLemmas.{read_node, leaf_within, mending_starts, mending_goes_on, mending_ends, mending_stops, leaves-set, leaves-inner, IsMending}
@@ -56,3 +56,54 @@ returns-then-is_same-clause-tree g c =
 
 pub returns-clause-tree : goal.returns-clause-tree
 returns-clause-tree g c = mending_ends (map g.N.Node.number c.loop-child.nodes) c.loop-child.child c.loop-child.invariant.mending c.loop-child-test.false
+
+pub overflow_add-child : goal.overflow_add-child
+overflow_add-child g c = omega (arith, leaf_within g.N.Node.number c.args.nodes.now c.args.place c.requires.tree c.requires.within, length-map c.args.nodes.now g.N.Node.number, c.requires.tree.even, c.requires.tree.few)
+
+-- the bound of an index is named, and its offset follows from it
+pub offset_bounds-nodes-child : goal.offset_bounds-nodes-child
+offset_bounds-nodes-child g c =
+    let within = leaf_within g.N.Node.number c.args.nodes.now c.args.place c.requires.tree c.requires.within in search rules
+
+pub offset_bounds-nodes-child-in-loop-child : goal.offset_bounds-nodes-child-in-loop-child
+offset_bounds-nodes-child-in-loop-child g c =
+    let within : c.loop-child.child / 2 < length c.args.nodes.now =
+    omega (arith, c.loop-child.invariant.mending.within, c.loop-child.invariant.size, length-map c.loop-child.nodes g.N.Node.number) in
+    search rules
+
+pub offset_bounds-nodes-child-in-loop-child-2 : goal.offset_bounds-nodes-child-in-loop-child-2
+offset_bounds-nodes-child-in-loop-child-2 g c =
+    let within : c.loop-child.child / 2 < length c.args.nodes.now =
+    omega (arith, c.loop-child.invariant.mending.within, c.loop-child.invariant.size, length-map c.loop-child.nodes g.N.Node.number) in
+    search rules
+
+pub greater_child-mended-requires : goal.greater_child-mended-requires
+greater_child-mended-requires g c =
+    let m = c.loop-child.invariant.mending in
+    omega (arith, c.loop-child-test.true, m.even, m.within, length-map c.loop-child.nodes g.N.Node.number)
+
+pub bounds-nodes-child-in-loop-child : goal.bounds-nodes-child-in-loop-child
+bounds-nodes-child-in-loop-child g c =
+    omega (arith, c.loop-child.invariant.mending.within, length-map c.loop-child.nodes g.N.Node.number)
+
+pub is_same-requires : goal.is_same-requires
+is_same-requires g c κs = λ within. within
+
+pub returns-then-is_same-clause-leaves : goal.returns-then-is_same-clause-leaves
+returns-then-is_same-clause-leaves g c = c.loop-child.invariant.leaves
+
+pub returns-then-is_same-clause-size : goal.returns-then-is_same-clause-size
+returns-then-is_same-clause-size g c = c.loop-child.invariant.size
+
+pub bounds-nodes-child-in-loop-child-2 : goal.bounds-nodes-child-in-loop-child-2
+bounds-nodes-child-in-loop-child-2 g c =
+    omega (arith, c.loop-child.invariant.mending.within, length-map c.loop-child.nodes g.N.Node.number)
+
+pub loop-child-smaller : goal.loop-child-smaller
+loop-child-smaller g c = omega (arith, c.loop-child-test.true)
+
+pub returns-clause-leaves : goal.returns-clause-leaves
+returns-clause-leaves g c = c.loop-child.invariant.leaves
+
+pub returns-clause-size : goal.returns-clause-size
+returns-clause-size g c = c.loop-child.invariant.size

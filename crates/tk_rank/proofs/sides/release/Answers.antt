@@ -6,7 +6,7 @@ use Rattle.tk_base.specs.declared.ids.Obj.{Obj}
 use Rattle.tk_base.proofs.AscendingLemmas.{ascending_positive}
 use Rattle.tk_border.specs.Levels.{level_at}
 use Rattle.tk_rank.proofs.ExchangeLemmas.{release_goes_on}
-use Rattle.tk_rank.proofs.SidesLemmas.{member_here, number_at, turned, turned_back}
+use Rattle.tk_rank.proofs.SidesLemmas.{member_here, number_at, passed_on, turned, turned_back}
 use Rattle.tk_rank.proofs.sides.release.Goals as goal
 
 pub seat_of-requires : goal.seat_of-requires
@@ -47,3 +47,17 @@ loop-place-preserved c =
           rw (c.set.ensures.leaves, c.seat_of.ensures, is)
           (release_goes_on levels n c.loop-place.outsiders.leaves place o inside at some low (c.loop-place.invariant.sides levels all s));
     }
+
+pub number_in-level-requires-clause-within : goal.number_in-level-requires-clause-within
+number_in-level-requires-clause-within c = omega (arith, c.loop-place-test.true, c.requires.room)
+
+pub number_in-level-requires-clause-small : goal.number_in-level-requires-clause-small
+number_in-level-requires-clause-small c = c.requires.small
+
+pub overflow_sub-level : goal.overflow_sub-level
+overflow_sub-level c =
+    let small = c.number_in-level.ensures.size in
+    rw (passed_on c.number_in-level.result small) (omega (arith, ints, small))
+
+pub bounds-list-place : goal.bounds-list-place
+bounds-list-place c = c.loop-place-test.true

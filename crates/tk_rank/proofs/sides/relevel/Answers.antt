@@ -1,5 +1,6 @@
-use Rattle.std.proofs.Common.{◌≡◌, ◌∙◌, ap, sym, arith, true, false}
+use Rattle.std.proofs.Common.{◌≡◌, ◌∙◌, ap, sym, arith, refl, true, false}
 use Rattle.std.specs.Prelude.{is_some}
+use Rattle.std.proofs.lemmas.Int.{ints}
 use Rattle.std.proofs.lemmas.List.{length-map}
 use Rattle.tk_base.specs.Ascending.{numbers_of}
 use Rattle.tk_base.specs.Objects.{is_in}
@@ -23,3 +24,39 @@ returns-in-Some-clause-sides c levels within s =
     let list = c.args.list.now in
     rw (c.set-in-Some.ensures.leaves, turned c.args.level c.requires.size)
     (member_relevelled levels (numbers_of list) c.args.members.now.leaves c.args.outsiders.now.leaves o c.in-Some.place c.args.level c.requires.ascends c.requires.from_one within (omega (arith, c.in-Some.ensures.within, length-map list (λ (x : Obj). x.0))) c.in-Some.ensures.found s)
+
+pub seat_of-requires : goal.seat_of-requires
+seat_of-requires c = c.requires.from_one
+
+pub leaf-requires : goal.leaf-requires
+leaf-requires c = omega (arith, c.seat_of.ensures, c.requires.from_one, c.requires.within)
+
+pub seat_of-requires-then-is_some : goal.seat_of-requires-then-is_some
+seat_of-requires-then-is_some c = c.requires.from_one
+
+pub set-requires-clause-within : goal.set-requires-clause-within
+set-requires-clause-within c = omega (arith, c.seat_of-then-is_some.ensures, c.requires.from_one, c.requires.within)
+
+pub set-requires-clause-size : goal.set-requires-clause-size
+set-requires-clause-size c = rw (passed_on c.args.level c.requires.size) c.requires.size
+
+pub place_of-requires : goal.place_of-requires
+place_of-requires c = c.requires.ascends
+
+pub overflow_sub-level : goal.overflow_sub-level
+overflow_sub-level c = rw (passed_on c.args.level c.requires.size) (omega (arith, ints, c.requires.size))
+
+pub set-requires-in-Some-clause-within : goal.set-requires-in-Some-clause-within
+set-requires-in-Some-clause-within c = omega (arith, c.in-Some.ensures.within, c.requires.room)
+
+pub set-requires-in-Some-clause-size : goal.set-requires-in-Some-clause-size
+set-requires-in-Some-clause-size c = rw (turned c.args.level c.requires.size) (omega (arith, ints, c.requires.size))
+
+pub returns-then-is_some-clause-room : goal.returns-then-is_some-clause-room
+returns-then-is_some-clause-room c = refl
+
+pub returns-in-Some-clause-room : goal.returns-in-Some-clause-room
+returns-in-Some-clause-room c = c.set-in-Some.ensures.room
+
+pub returns-in_default-clause-room : goal.returns-in_default-clause-room
+returns-in_default-clause-room c = refl

@@ -7,7 +7,7 @@ use Rattle.tk_journal.specs.Legal.{IsLegal, start}
 use Rattle.tk_journal.specs.declared.noted.Noted.TheVariants as n
 use Rattle.tk_verify.specs.Driving.{Leads}
 use Rattle.tk_verify.proofs.JournalLemmas.{refused_leads, strange, turned}
-use Rattle.tk_verify.proofs.journals.take.Goals.{in-Ok, in-Err, then-mon-eq0-via-then-mon-eq0, then-mon-eq0-via-else-mon-eq0+then-mon-monitors}
+use Rattle.tk_verify.proofs.journals.take.Goals.{then-mon-eq0-via-then-mon-eq0, then-mon-eq0-via-else-mon-eq0+then-mon-monitors}
 use Rattle.tk_verify.proofs.journals.take.Goals as goal
 
 pub returns-then-mon-eq0-clause-leads : goal.returns-then-mon-eq0-clause-leads
@@ -23,18 +23,18 @@ returns-then-mon-eq0-clause-leads c =
           omega (arith, past, count, same, high))
     ]
 
-pub returns-clause-leads : goal.returns-clause-leads
-returns-clause-leads c =
+pub returns-in-Ok-clause-leads : goal.returns-in-Ok-clause-leads
+returns-in-Ok-clause-leads c =
     let old = c.args.coordinator.now in
     let new = c.take.new.self.journal in
-    let frame = c.in_ok-try_clone.field-0 in
-    elim c.match-take.branch [
-      | in-Ok w ↦
-          rw w.result-is
-          (subst (λ (f : Frame). Leads (IsLegal (start old.settings)) old.journal (n.Got c.args.mon f) new) c.in_ok-try_clone.ensures
-          (turned (start old.settings) old.journal (n.Got c.args.mon frame) new refl (c.take.ensures.legal (start old.settings) refl c.requires) w.in-Ok.ensures.turn))
-      | in-Err w ↦
-          rw w.result-is
-          (subst (λ (f : Frame). OnOk w.unless_memory.result (Leads (IsLegal (start old.settings)) old.journal (n.Got c.args.mon f) new)) c.in_ok-try_clone.ensures
-          (refused_leads old.settings old.journal c.args.mon frame w.in-Err.refusal new w.unless_memory.result c.requires (ap (λ (v : CoordinatorView). v.journal) w.in-Err.ensures.err.1) w.in-Err.ensures.refused w.unless_memory.ensures))
-    ]
+    let frame = c.in_ok-frame.frame in
+    subst (λ (f : Frame). Leads (IsLegal (start old.settings)) old.journal (n.Got c.args.mon f) new) c.in_ok-frame.ensures
+    (turned (start old.settings) old.journal (n.Got c.args.mon frame) new refl (c.take.ensures.legal (start old.settings) refl c.requires) c.in-Ok.ensures.turn)
+
+pub returns-in-Err-clause-leads : goal.returns-in-Err-clause-leads
+returns-in-Err-clause-leads c =
+    let old = c.args.coordinator.now in
+    let new = c.take.new.self.journal in
+    let frame = c.in_ok-frame.frame in
+    subst (λ (f : Frame). OnOk c.unless_memory.result (Leads (IsLegal (start old.settings)) old.journal (n.Got c.args.mon f) new)) c.in_ok-frame.ensures
+    (refused_leads old.settings old.journal c.args.mon frame c.in-Err.refusal new c.unless_memory.result c.requires (ap (λ (v : CoordinatorView). v.journal) c.in-Err.ensures.err.1) c.in-Err.ensures.refused c.unless_memory.ensures)

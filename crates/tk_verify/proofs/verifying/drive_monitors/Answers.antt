@@ -5,7 +5,7 @@ use Rattle.tk_story.specs.Story.{setup_of}
 use Rattle.tk_verify.specs.Driving.{Halts}
 use Rattle.tk_verify.specs.Recorded.{Finds, recorded_from, trails_in}
 use Rattle.tk_verify.specs.declared.finding.Finding.TheVariants as f
-use Rattle.tk_verify.proofs.RunLemmas.{halts_trail, legal_all, legal_more, made_more, trail_is, trails_more}
+use Rattle.tk_verify.proofs.RunLemmas.{halts_trail, legal_all, legal_more, made_more, one_longer, trail_is, trails_more}
 use Rattle.tk_verify.proofs.verifying.drive_monitors.Goals as goal
 
 pub returns-in-Err-clause-found : goal.returns-in-Err-clause-found
@@ -34,11 +34,13 @@ loop-j-preserved c =
     let at = slice_get_read trails (length trails) j trail refl (omega (arith, test, count, size)) c.index-trails-j.is in
     let same = c.as_slice-trail.ensures.value ∙ sym (trail_is trails j trail at) in
     record {
-      made = made_more settings c.args.logs.now c.args.from.now j c.loop-j.monitors.items c.in-Ok.monitor c.push.new.self.items c.in-Ok-push.ensures.items c.loop-j.invariant.made c.in-Ok.ensures.made;
-      trails = trails_more trails j trail c.loop-j.monitors.items c.in-Ok.monitor c.push.new.self.items c.in-Ok-push.ensures.items c.loop-j.invariant.trails at (c.in-Ok.ensures.trail ∙ c.as_slice-trail.ensures.value);
+      made = made_more settings c.args.logs.now c.args.from.now j c.loop-j.monitors.items c.in-Ok-drive_monitor.monitor c.push_reserved.new.self.items c.push_reserved.ensures.items c.loop-j.invariant.made c.in-Ok-drive_monitor.ensures.made;
+      trails = trails_more trails j trail c.loop-j.monitors.items c.in-Ok-drive_monitor.monitor c.push_reserved.new.self.items c.push_reserved.ensures.items c.loop-j.invariant.trails at (c.in-Ok-drive_monitor.ensures.trail ∙ c.as_slice-trail.ensures.value);
+      count = omega (arith, c.loop-j.invariant.count, one_longer c.loop-j.monitors.items c.in-Ok-drive_monitor.monitor c.push_reserved.new.self.items c.push_reserved.ensures.items);
+      room = omega (arith, c.loop-j.invariant.room, c.push_reserved.ensures.capacity);
       legal = λ journal.
           let s = recorded_from c.args.from.now settings c.args.logs.now journal (trails_in trails) in
-          legal_more s j (c.loop-j.invariant.legal journal) (subst (λ t. IsLegal (setup_of s (j + 1)) t) same c.in-Ok.ensures.legal);
+          legal_more s j (c.loop-j.invariant.legal journal) (subst (λ t. IsLegal (setup_of s (j + 1)) t) same c.in-Ok-drive_monitor.ensures.legal);
     }
 
 pub returns-clause-legal : goal.returns-clause-legal
@@ -46,3 +48,9 @@ returns-clause-legal c = λ journal.
     let past = c.loop-j-test.false in
     let count = c.monitors-j-end.ensures.value in
     legal_all (recorded_from c.args.from.now c.args.settings.now c.args.logs.now journal (trails_in c.args.trails.now)) c.loop-j.j (omega (arith, past, count)) (c.loop-j.invariant.legal journal)
+
+pub push_reserved-requires : goal.push_reserved-requires
+push_reserved-requires c =
+    let test = c.loop-j-test.true in
+    let count = c.monitors-j-end.ensures.value in
+    omega (arith, test, count, c.loop-j.invariant.count, c.loop-j.invariant.room)

@@ -1,4 +1,4 @@
-use Rattle.std.proofs.Common.{◌≡◌, List, map, take}
+use Rattle.std.proofs.Common.{◌≡◌, ◌≤◌, List, length, map, take, vec_capacity}
 use Rattle.std.specs.List.{range_with_len}
 use Rattle.tk_journal.specs.declared.noted.Noted.{Noted}
 use Rattle.tk_monitor.specs.Monitored.{MonitorView}
@@ -12,5 +12,7 @@ abbrev pub invariant-loop-j : goal.invariant-loop-j
 invariant-loop-j l = record {
   made : map as_made l.monitors.items ≡ map (made_for l.settings l.logs l.from) (range_with_len 1 l.j);
   trails : map (λ (m : MonitorView). m.trail) l.monitors.items ≡ take l.j (trails_in l.trails);
+  count : length l.monitors.items ≡ l.j;
+  room : l.settings.monitors ≤ vec_capacity l.monitors;
   legal : (journal : List Noted) → AreLegalTo l.j (recorded_from l.from l.settings l.logs journal (trails_in l.trails));
 }

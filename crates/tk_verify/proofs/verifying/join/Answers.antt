@@ -31,5 +31,5 @@ returns-in-Err-clause-found c =
     let s = recorded_from c.args.from c.args.settings c.args.logs c.args.coordinator.journal (map (λ (m : MonitorView). m.trail) c.args.monitors.items) in
     let kept = kept_is c.args.settings c.args.logs c.args.from c.args.coordinator c.args.monitors.items c.new-coordinator.result ends c.requires.settings_is c.new-coordinator.ensures.coordinator c.new-coordinator.ensures.odd c.in-Ok.ensures.monitors c.in-Ok.ensures.odds in
     let are = histories c.args.settings c.args.logs c.args.from c.args.coordinator c.args.monitors.items c.requires c.monitors.ensures.limits c.monitors-2.ensures.limits in
-    subst (λ found. (found ≡ f.NoMemory) ⊎ Finds s found) (sym c.unjoined.ensures)
+    subst (λ found. (found ≡ f.NoMemory) ⊎ Finds s found) (sym c.unjoined-finding.ensures)
     (unordered s c.in-Err.fault are (subst (λ (k : KeptEnds). TellsDifference k c.in-Err.fault) kept c.in-Err.ensures.differs))

@@ -1,5 +1,5 @@
-use Rattle.std.proofs.Common.{◌≡◌, ◌-◌, ◌<◌, ℕ, List, [], length, get_or, arith, Bool, if◌then◌else◌, ◌∙◌, refl, sym, ap}
-use Rattle.std.proofs.lemmas.List.{get_or_default}
+use Rattle.std.proofs.Common.{◌≡◌, ◌+◌, ◌-◌, ◌<◌, ◌≤◌, ℕ, List, [], length, get_or, set, arith, Bool, if◌then◌else◌, ◌∙◌, refl, sym, ap}
+use Rattle.std.proofs.lemmas.List.{get_or-set_other, get_or-set_same, get_or_default}
 use Rattle.std.proofs.lemmas.Option.{get_or_from_slice_get, slice_get_read}
 use Rattle.tk_story.specs.Story.{trail_of}
 use Rattle.tk_input.specs.declared.event.Event.{Event}
@@ -33,3 +33,26 @@ returns-clause-walking c = λ left w turn.
     ] in
     step_by c.args.story.now.story c.args.walk.now.places.items c.args.walk.now.events.items c.push.new.self.items left mon.0 x c.match-trail-place.event c.index-place.result.now is
     c.in_ok-push.ensures.items place (slice_get_read (trail_of s mon.0) (length (trail_of s mon.0)) c.index-place.result.now x refl inside (c.index-trail-place.is ∙ ap (λ (xs : List Entry). get_or xs c.index-place.result.now x) (sym trail))) c.requires.monitor w turn
+
+pub returns-clause-further : goal.returns-clause-further
+returns-clause-further c =
+    let i = c.args.mon.0 - 1 in
+    let places = c.args.walk.now.places.items in
+    let place = c.index-place.result.now in
+    let length' = c.match-trail-place.event.1 in
+    let within : i < length places = omega (arith, c.requires.can.walking.count, c.requires.monitor.from_one, c.requires.monitor.within) in
+    let old : place ≡ get_or places i 0 = c.index-place.ensures ∙ get_or_default places i place 0 within in
+    let new = get_or-set_same places i (place + length') 0 within in
+    let one : length' ≡ 1 → 1 ≤ length' = λ is. omega (arith, is) in
+    let two : length' ≡ 2 → 1 ≤ length' = λ is. omega (arith, is) in
+    let some : 1 ≤ length' = elim c.match-trail-place.branch [
+      | in-Raised w ↦ one (ap (λ (e : Event × ℕ × Bool). e.1) w.event-is)
+      | in-Took w ↦ two (ap (λ (e : Event × ℕ × Bool). e.1) w.event-is)
+      | in-Took-2 w ↦ one (ap (λ (e : Event × ℕ × Bool). e.1) w.event-is)
+      | in-Sent w ↦ one (ap (λ (e : Event × ℕ × Bool). e.1) w.event-is)
+    ] in
+    let more : get_or places i 0 < get_or (set places i (place + length')) i 0 = omega (arith, old, new, some) in
+    more
+
+pub returns-clause-others : goal.returns-clause-others
+returns-clause-others c = λ i apart. get_or-set_other c.args.walk.now.places.items (c.args.mon.0 - 1) i (c.index-place.result.now + c.match-trail-place.event.1) 0 apart

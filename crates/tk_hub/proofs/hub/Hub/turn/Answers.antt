@@ -1,12 +1,16 @@
-use Rattle.std.proofs.Common.{◌≡◌, ◌≤◌, ◌∙◌, length, sym, ap, subst}
+use Rattle.std.proofs.Common.{◌≡◌, ◌≤◌, ◌∙◌, None, Some, length, refl, sym, ap, arith, subst}
+use Rattle.std.proofs.lemmas.Option.{same_Some}
 use Rattle.tk_base.specs.History.{IsFront}
-use Rattle.tk_hub.specs.Hub.{HubView, Turns}
+use Rattle.tk_hub.specs.Hub.{HubView, IsFinished, IsHub, Turns}
 use Rattle.tk_hub.specs.Seats.{SeatsView}
+use Rattle.tk_hub.specs.Turn.{answer_of}
 use Rattle.tk_hub.specs.declared.course.Course.TheVariants as cs
 use Rattle.tk_hub.specs.Writing.{CutsLine, WritesLines}
 use Rattle.tk_hub.proofs.HubLemmas.{goes, open_hub, stands_of, turns_concluded}
 use Rattle.tk_hub.proofs.KeptLemmas.{hub_turned}
+use Rattle.tk_end.proofs.HearingLemmas.{front_refl}
 use Rattle.tk_hub.proofs.TakenLemmas.{reaches_settings}
+use Rattle.tk_hub.proofs.WriteLemmas.{writes_nothing}
 use Rattle.tk_hub.proofs.TurnLemmas.{reaches_grown}
 use Rattle.tk_hub.proofs.hub.Hub.turn.Goals as goal
 
@@ -83,3 +87,112 @@ returns-clause-grows g c =
     let mid = c.exchange-turn.new.seats in
     subst (λ v. IsFront v.coordinator.journal c.conclude-self-inside.new.seats.coordinator.journal) c.self.view_is
     (subst (λ v. IsFront s.seats.coordinator.journal v.coordinator.journal) (sym c.conclude-self-inside.ensures.rest) (reaches_grown s.seats.coordinator mid.coordinator c.exchange-turn.ensures.works.exchanges.reaches))
+
+pub returns-clause-course : goal.returns-clause-course
+returns-clause-course g c = c.conclude-self-inside.ensures.course
+
+pub returns-clause-failed : goal.returns-clause-failed
+returns-clause-failed g c = c.exchange-turn.ensures.failed
+
+pub returns-clause-counted : goal.returns-clause-counted
+returns-clause-counted g c = c.exchange-turn.ensures.counted
+
+pub returns-clause-forward : goal.returns-clause-forward
+returns-clause-forward g c = subst (λ v. v.lines.passed ≤ c.exchange-turn.new.lines.passed) c.self.view_is c.exchange-turn.ensures.forward
+
+-- it is closed, and nothing happens
+pub returns-in-Some-clause-closed : goal.returns-in-Some-clause-closed
+returns-in-Some-clause-closed g c =
+    let told = subst (λ v. answer_of v.course ≡ Some c.in-Some.turn) c.self.view_is (sym c.answer.ensures ∙ c.in-Some.is) in
+    λ turn is. (same_Some c.in-Some.turn turn (sym told ∙ is), refl)
+
+pub returns-in-Some-clause-over : goal.returns-in-Some-clause-over
+returns-in-Some-clause-over g c =
+    let told = subst (λ v. answer_of v.course ≡ Some c.in-Some.turn) c.self.view_is (sym c.answer.ensures ∙ c.in-Some.is) in
+    λ on _. let none : answer_of c.args.self.now.course ≡ None = ap answer_of on in cc
+
+pub returns-in-Some-clause-goes : goal.returns-in-Some-clause-goes
+returns-in-Some-clause-goes g c =
+    let told = subst (λ v. answer_of v.course ≡ Some c.in-Some.turn) c.self.view_is (sym c.answer.ensures ∙ c.in-Some.is) in
+    λ on _. let none : answer_of c.args.self.now.course ≡ None = ap answer_of on in cc
+
+pub returns-in-Some-clause-silent : goal.returns-in-Some-clause-silent
+returns-in-Some-clause-silent g c = λ _. refl
+
+pub returns-in-Some-clause-lines : goal.returns-in-Some-clause-lines
+returns-in-Some-clause-lines g c = λ _. writes_nothing c.args.names.now c.args.self.now.coordinator.journal c.args.self.now.lines (g.O.Sink.written c.args.out.now)
+
+pub returns-in-Some-clause-forward : goal.returns-in-Some-clause-forward
+returns-in-Some-clause-forward g c = omega arith
+
+pub returns-in-Some-clause-run : goal.returns-in-Some-clause-run
+returns-in-Some-clause-run g c = refl
+
+pub returns-in-Some-clause-settings : goal.returns-in-Some-clause-settings
+returns-in-Some-clause-settings g c = refl
+
+pub returns-in-Some-clause-grows : goal.returns-in-Some-clause-grows
+returns-in-Some-clause-grows g c = front_refl c.args.self.now.coordinator.journal
+
+pub returns-in-Some-clause-more : goal.returns-in-Some-clause-more
+returns-in-Some-clause-more g c = omega arith
+
+pub returns-in-Some-clause-kept : goal.returns-in-Some-clause-kept
+returns-in-Some-clause-kept g c = subst IsHub c.self.view_is c.self.invariant
+
+-- it has finished, and nothing happens
+pub returns-then-is_finished-clause-closed : goal.returns-then-is_finished-clause-closed
+returns-then-is_finished-clause-closed g c =
+    let none = subst (λ v. answer_of v.course ≡ None) c.self.view_is (sym c.answer.ensures ∙ c.in_default.is) in
+    λ turn is. let some : None ≡ Some turn = sym none ∙ is in absurd (cc)
+
+pub returns-then-is_finished-clause-over : goal.returns-then-is_finished-clause-over
+returns-then-is_finished-clause-over g c = λ _ _. (refl, refl)
+
+pub returns-then-is_finished-clause-silent : goal.returns-then-is_finished-clause-silent
+returns-then-is_finished-clause-silent g c = λ _. refl
+
+pub returns-then-is_finished-clause-goes : goal.returns-then-is_finished-clause-goes
+returns-then-is_finished-clause-goes g c =
+    let finished = subst (λ v. IsFinished v) c.self.view_is (c.is_finished.ensures.0 c.if-is_finished.true) in
+    λ _ not. absurd (not finished)
+
+pub returns-then-is_finished-clause-finished : goal.returns-then-is_finished-clause-finished
+returns-then-is_finished-clause-finished g c =
+    let finished = subst (λ v. IsFinished v) c.self.view_is (c.is_finished.ensures.0 c.if-is_finished.true) in
+    λ _. finished
+
+pub returns-then-is_finished-clause-lines : goal.returns-then-is_finished-clause-lines
+returns-then-is_finished-clause-lines g c = λ _. writes_nothing c.args.names.now c.args.self.now.coordinator.journal c.args.self.now.lines (g.O.Sink.written c.args.out.now)
+
+pub returns-then-is_finished-clause-cut : goal.returns-then-is_finished-clause-cut
+returns-then-is_finished-clause-cut g c = λ is. absurd (cc)
+
+pub returns-then-is_finished-clause-failed : goal.returns-then-is_finished-clause-failed
+returns-then-is_finished-clause-failed g c = λ is. absurd (cc)
+
+pub returns-then-is_finished-clause-forward : goal.returns-then-is_finished-clause-forward
+returns-then-is_finished-clause-forward g c = omega arith
+
+pub returns-then-is_finished-clause-counted : goal.returns-then-is_finished-clause-counted
+returns-then-is_finished-clause-counted g c = refl
+
+pub returns-then-is_finished-clause-run : goal.returns-then-is_finished-clause-run
+returns-then-is_finished-clause-run g c = refl
+
+pub returns-then-is_finished-clause-settings : goal.returns-then-is_finished-clause-settings
+returns-then-is_finished-clause-settings g c = refl
+
+pub returns-then-is_finished-clause-grows : goal.returns-then-is_finished-clause-grows
+returns-then-is_finished-clause-grows g c = front_refl c.args.self.now.coordinator.journal
+
+pub returns-then-is_finished-clause-more : goal.returns-then-is_finished-clause-more
+returns-then-is_finished-clause-more g c = omega arith
+
+pub returns-then-is_finished-clause-kept : goal.returns-then-is_finished-clause-kept
+returns-then-is_finished-clause-kept g c = subst IsHub c.self.view_is c.self.invariant
+
+pub returns-clause-closed : goal.returns-clause-closed
+returns-clause-closed g c =
+    let none = subst (λ v. answer_of v.course ≡ None) c.self.view_is (sym c.answer.ensures ∙ c.in_default.is) in
+    λ turn is. let some : None ≡ Some turn = sym none ∙ is in absurd (cc)

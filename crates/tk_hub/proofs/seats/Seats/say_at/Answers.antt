@@ -1,8 +1,8 @@
-use Rattle.std.proofs.Common.{◌-◌, sym, subst}
+use Rattle.std.proofs.Common.{◌-◌, arith, set, sym, subst}
 use Rattle.tk_journal.specs.Laws.{IsMonitor}
-use Rattle.tk_hub.specs.Seats.{IsWithin}
+use Rattle.tk_hub.specs.Seats.{IsWithin, link_at}
 use Rattle.tk_hub.specs.Slot.{SeatSays}
-use Rattle.tk_hub.proofs.SeatsLemmas.{is_within, read_at, seats_said, slot_is, within_of}
+use Rattle.tk_hub.proofs.SeatsLemmas.{is_within, links_at, read_at, seats_said, seen_at, slot_is, within_of}
 use Rattle.tk_hub.proofs.seats.Seats.say_at.Goals as goal
 
 pub say-requires-clause-within : goal.say-requires-clause-within
@@ -27,3 +27,26 @@ returns-clause-kept g c =
     let within = is_within c.args.mon.0 (record { run = s.run; coordinator = s.desk.coordinator; links = s.links.items }) is c.self.invariant in
     seats_said c.args.mon.0 (record { run = s.run; coordinator = s.desk.coordinator; links = s.links.items }) c.say.result c.say.new.seat is c.self.invariant
     (read_at s.links.items (c.args.mon.0 - 1) c.index_mut.result.now c.say.new.seat (λ o p. SeatSays c.args.mon.0 s.desk.coordinator c.say.result o p) within c.index_mut.ensures.value c.say.ensures)
+
+pub returns-clause-rest : goal.returns-clause-rest
+returns-clause-rest g c =
+    let s = c.self.inside in
+    let is = subst (λ v. IsMonitor v.coordinator.settings c.args.mon.0) (sym c.self.view_is) c.requires in
+    let within = is_within c.args.mon.0 (record { run = s.run; coordinator = s.desk.coordinator; links = s.links.items }) is c.self.invariant in
+    links_at c.args.mon.0 s.run s.desk.coordinator s.links.items c.say.new.seat c.args.self.now within c.self.view_is
+
+pub index_mut-requires : goal.index_mut-requires
+index_mut-requires g c =
+    let s = c.self.inside in
+    let is = subst (λ v. IsMonitor v.coordinator.settings c.args.mon.0) (sym c.self.view_is) c.requires in
+    let within = is_within c.args.mon.0 (record { run = s.run; coordinator = s.desk.coordinator; links = s.links.items }) is c.self.invariant in
+    omega (arith, within, s.links.ok.0)
+
+pub returns-clause-says : goal.returns-clause-says
+returns-clause-says g c =
+    let s = c.self.inside in
+    let is = subst (λ v. IsMonitor v.coordinator.settings c.args.mon.0) (sym c.self.view_is) c.requires in
+    let within = is_within c.args.mon.0 (record { run = s.run; coordinator = s.desk.coordinator; links = s.links.items }) is c.self.invariant in
+    let place = c.args.mon.0 - 1 in
+    subst (λ v. SeatSays c.args.mon.0 v.coordinator c.say.result (link_at v.links place) (link_at (set s.links.items place c.say.new.seat) place)) c.self.view_is
+    (seen_at s.links.items place c.index_mut.result.now c.say.new.seat (λ o p. SeatSays c.args.mon.0 s.desk.coordinator c.say.result o p) within c.index_mut.ensures.value c.say.ensures)

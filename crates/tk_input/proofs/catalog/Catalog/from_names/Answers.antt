@@ -1,44 +1,27 @@
-use Rattle.std.proofs.Common.{◌≡◌, ◌∷◌, ◌+◌, ℕ, List, Some, drop, length, sym, ap, ◌∙◌, arith}
+use Rattle.std.proofs.Common.{◌≡◌, ℕ, List, Some, Result, Ok, sym, subst, ap, ◌∙◌}
+use Rattle.std.specs.Prelude.{IfOk, IfErr}
 use Rattle.std.proofs.lemmas.Result.{err_from_is_err_and}
-use Rattle.tk_input.specs.Catalog.{names_of, next_name}
-use Rattle.tk_input.proofs.NamesLemmas.{catalog_fault, catalog_names, length-names_of, next_key, none_is, none_left, not_none, some_is}
-use Rattle.tk_input.proofs.ThroughLemmas.{through-some}
+use Rattle.tk_input.specs.Catalog.{IsFault, catalog_from, next_name, names_of, some_names}
+use Rattle.tk_input.specs.Records.{and_then, through}
+use Rattle.tk_input.specs.declared.catalog.CatalogFault.{CatalogFault}
+use Rattle.tk_input.proofs.NamesLemmas.{fault_ends}
 use Rattle.tk_input.proofs.catalog.Catalog.from_names.Goals as goal
 
-pub loop-name-preserved : goal.loop-name-preserved
-loop-name-preserved c =
-    let old = names_of c.loop-name.names.keys in
-    let new = names_of c.take_name.new.names.keys in
-    let i = c.loop-name.name-index in
-    let list = c.args.list.now in
-    let next : names_of (drop i list) ≡ c.as_slice.result.now ∷ names_of (drop (i + 1) list) =
-    next_key list i c.name-item.result c.loop-name-test.true c.name-item.is ∙ ap (λ (name : List ℕ). name ∷ names_of (drop (i + 1) list)) (sym c.as_slice.ensures.value) in
-    record {
-      same = sym (through-some (λ before name. next_name before (Some name)) old new c.as_slice.result.now (names_of (drop (i + 1) list)) (names_of (drop i list)) next c.in_ok-take_name.ensures.ok)
-          ∙ c.loop-name.invariant.same;
-      few = c.in_ok-take_name.ensures.few;
-    }
-
-pub returns-in_err-take_name-clause-err : goal.returns-in_err-take_name-clause-err
-returns-in_err-take_name-clause-err c =
-    let i = c.loop-name.name-index in
-    let list = c.args.list.now in
-    let next : names_of (drop i list) ≡ c.as_slice.result.now ∷ names_of (drop (i + 1) list) =
-    next_key list i c.name-item.result c.loop-name-test.true c.name-item.is ∙ ap (λ (name : List ℕ). name ∷ names_of (drop (i + 1) list)) (sym c.as_slice.ensures.value) in
-    let fault = catalog_fault (λ before name. next_name before (Some name)) (names_of list) (names_of c.loop-name.names.keys) c.as_slice.result.now (names_of (drop (i + 1) list)) (names_of (drop i list)) c.in_err-take_name.field-0.0 c.loop-name.invariant.same next c.in_err-take_name.ensures.err in
+pub returns-in_err-take_list-clause-err : goal.returns-in_err-take_list-clause-err
+returns-in_err-take_list-clause-err c =
     let given = err_from_is_err_and c.from_residual.result c.from_residual.ensures.1 in
-    rw (given.1, given.2) fault
+    rw (given.1, given.2)
+    (subst (λ (r : Result (List (List ℕ)) CatalogFault). IsFault c.in_err-take_list.field-0.0 (and_then some_names r)) (ap (λ ks. through (λ before name. next_name before (Some name)) (names_of ks) (names_of c.args.list.now)) c.with_hasher-names.ensures.empty)
+    (fault_ends _ c.in_err-take_list.field-0.0 some_names c.in_err-take_list.ensures.err))
 
-pub returns-then-is_empty-clause-err : goal.returns-then-is_empty-clause-err
-returns-then-is_empty-clause-err c =
-    let names = names_of c.loop-name.names.keys in
-    let list = c.args.list.now in
-    catalog_names (λ before name. next_name before (Some name)) (names_of list) names (names_of (drop c.loop-name.name-index list)) c.loop-name.invariant.same (none_left list c.loop-name.name-index c.loop-name-test.false)
-    ∙ none_is names (length-names_of c.loop-name.names.keys ∙ c.is_empty.ensures.0 c.if-is_empty.true)
+made : (c : goal.After-catalog_in) → catalog_from (names_of c.args.list.now) ≡ some_names (names_of c.take_list.new.names.keys)
+made c = ap (λ ks. and_then some_names (through (λ before name. next_name before (Some name)) (names_of ks) (names_of c.args.list.now))) (sym c.with_hasher-names.ensures.empty) ∙ ap (and_then some_names) c.in_ok-take_list.ensures.ok
 
 pub returns-clause-ok : goal.returns-clause-ok
-returns-clause-ok c =
-    let names = names_of c.loop-name.names.keys in
-    let list = c.args.list.now in
-    catalog_names (λ before name. next_name before (Some name)) (names_of list) names (names_of (drop c.loop-name.name-index list)) c.loop-name.invariant.same (none_left list c.loop-name.name-index c.loop-name-test.false)
-    ∙ some_is names (omega (arith, length-names_of c.loop-name.names.keys, not_none (length c.loop-name.names.keys) c.is_empty.result c.is_empty.ensures.1 c.if-is_empty.false))
+returns-clause-ok c = subst (λ (r : Result (List (List ℕ)) CatalogFault). IfOk c.catalog_in.result (λ names. r ≡ Ok names)) (sym (made c)) c.catalog_in.ensures.ok
+
+pub returns-clause-err : goal.returns-clause-err
+returns-clause-err c = subst (λ (r : Result (List (List ℕ)) CatalogFault). IfErr c.catalog_in.result (λ e. IsFault e r)) (sym (made c)) c.catalog_in.ensures.err
+
+pub returns-clause-within : goal.returns-clause-within
+returns-clause-within c = c.catalog_in.ensures.within

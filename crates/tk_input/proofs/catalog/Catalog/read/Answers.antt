@@ -1,48 +1,27 @@
-use Rattle.std.proofs.Common.{◌≡◌, ◌∷◌, [], ℕ, Bool, List, Ok, Option, length, sym, subst, ap, ◌∙◌, arith}
-use Rattle.std.specs.Prelude.{MatchBool}
+use Rattle.std.proofs.Common.{◌≡◌, ℕ, List, Result, Ok, sym, subst, ap, ◌∙◌}
+use Rattle.std.specs.Prelude.{IfOk, IfErr}
 use Rattle.std.proofs.lemmas.Result.{err_from_is_err_and}
-use Rattle.csv.specs.Records.{fields_of}
-use Rattle.tk_input.specs.Catalog.{IsNameFault, name_added, names_of, next_name}
-use Rattle.tk_input.specs.Records.{records_in}
-use Rattle.tk_input.proofs.NamesLemmas.{catalog_fault, catalog_names, length-names_of, none_is, not_none, some_is}
-use Rattle.tk_input.proofs.ThroughLemmas.{through-some}
+use Rattle.tk_input.specs.Catalog.{IsFault, catalog_of, name_added, names_of, some_names}
+use Rattle.tk_input.specs.Records.{and_then, records_in, through}
+use Rattle.tk_input.specs.declared.catalog.CatalogFault.{CatalogFault}
+use Rattle.tk_input.proofs.NamesLemmas.{fault_ends}
 use Rattle.tk_input.proofs.catalog.Catalog.read.Goals as goal
 
-pub loop-names-preserved : goal.loop-names-preserved
-loop-names-preserved c =
-    let old = names_of c.loop-names.names.keys in
-    let new = names_of c.take_name.new.names.keys in
-    let next : c.loop-names.rows ≡ fields_of c.next.new.row ∷ c.next.new.self =
-    subst (λ (found : Bool). MatchBool found (c.loop-names.rows ≡ fields_of c.next.new.row ∷ c.next.new.self) (c.loop-names.rows ≡ [])) c.if-branch.true c.in_ok-next.ensures in
-    let added : name_added old (fields_of c.next.new.row) ≡ Ok new = ap (λ (name : Option (List ℕ)). next_name old name) (sym c.only_field.ensures) ∙ c.in_ok-take_name.ensures.ok in
-    record {
-      same = sym (through-some name_added old new (fields_of c.next.new.row) c.next.new.self c.loop-names.rows next added) ∙ c.loop-names.invariant.same;
-      few = c.in_ok-take_name.ensures.few;
-    }
+pub returns-in_err-take_records-clause-err : goal.returns-in_err-take_records-clause-err
+returns-in_err-take_records-clause-err c =
+    let given = err_from_is_err_and c.from_residual.result c.from_residual.ensures.1 in
+    rw (given.1, given.2)
+    (subst (λ (r : Result (List (List ℕ)) CatalogFault). IsFault c.in_err-take_records.field-0.0 (and_then some_names r)) (ap (λ ks. through name_added (names_of ks) (records_in c.args.bytes.now)) c.with_hasher-names.ensures.empty)
+    (fault_ends _ c.in_err-take_records.field-0.0 some_names c.in_err-take_records.ensures.err))
 
-pub returns-in_err-take_name-clause-err : goal.returns-in_err-take_name-clause-err
-returns-in_err-take_name-clause-err c =
-    let old = names_of c.loop-names.names.keys in
-    let next : c.loop-names.rows ≡ fields_of c.next.new.row ∷ c.next.new.self =
-    subst (λ (found : Bool). MatchBool found (c.loop-names.rows ≡ fields_of c.next.new.row ∷ c.next.new.self) (c.loop-names.rows ≡ [])) c.if-branch.true c.in_ok-next.ensures in
-    let is : IsNameFault c.in_err-take_name.field-0.0 (name_added old (fields_of c.next.new.row)) =
-    subst (λ (name : Option (List ℕ)). IsNameFault c.in_err-take_name.field-0.0 (next_name old name)) c.only_field.ensures c.in_err-take_name.ensures.err in
-    let fault = catalog_fault name_added (records_in c.args.bytes.now) old (fields_of c.next.new.row) c.next.new.self c.loop-names.rows c.in_err-take_name.field-0.0 c.loop-names.invariant.same next is in
-    let given = err_from_is_err_and c.from_residual-in_err-take_name.result c.from_residual-in_err-take_name.ensures.1 in
-    rw (given.1, given.2) fault
-
-pub returns-then-is_empty-clause-err : goal.returns-then-is_empty-clause-err
-returns-then-is_empty-clause-err c =
-    let names = names_of c.loop-names.names.keys in
-    let ended : c.loop-names.rows ≡ [] =
-    subst (λ (found : Bool). MatchBool found (c.loop-names.rows ≡ fields_of c.next.new.row ∷ c.next.new.self) (c.loop-names.rows ≡ [])) c.if-branch.false c.in_ok-next.ensures in
-    catalog_names name_added (records_in c.args.bytes.now) names c.loop-names.rows c.loop-names.invariant.same ended
-    ∙ none_is names (length-names_of c.loop-names.names.keys ∙ c.is_empty.ensures.0 c.if-is_empty.true)
+made : (c : goal.After-catalog_in) → catalog_of c.args.bytes.now ≡ some_names (names_of c.take_records.new.names.keys)
+made c = ap (λ ks. and_then some_names (through name_added (names_of ks) (records_in c.args.bytes.now))) (sym c.with_hasher-names.ensures.empty) ∙ ap (and_then some_names) c.in_ok-take_records.ensures.ok
 
 pub returns-clause-ok : goal.returns-clause-ok
-returns-clause-ok c =
-    let names = names_of c.loop-names.names.keys in
-    let ended : c.loop-names.rows ≡ [] =
-    subst (λ (found : Bool). MatchBool found (c.loop-names.rows ≡ fields_of c.next.new.row ∷ c.next.new.self) (c.loop-names.rows ≡ [])) c.if-branch.false c.in_ok-next.ensures in
-    catalog_names name_added (records_in c.args.bytes.now) names c.loop-names.rows c.loop-names.invariant.same ended
-    ∙ some_is names (omega (arith, length-names_of c.loop-names.names.keys, not_none (length c.loop-names.names.keys) c.is_empty.result c.is_empty.ensures.1 c.if-is_empty.false))
+returns-clause-ok c = subst (λ (r : Result (List (List ℕ)) CatalogFault). IfOk c.catalog_in.result (λ names. r ≡ Ok names)) (sym (made c)) c.catalog_in.ensures.ok
+
+pub returns-clause-err : goal.returns-clause-err
+returns-clause-err c = subst (λ (r : Result (List (List ℕ)) CatalogFault). IfErr c.catalog_in.result (λ e. IsFault e r)) (sym (made c)) c.catalog_in.ensures.err
+
+pub returns-clause-within : goal.returns-clause-within
+returns-clause-within c = c.catalog_in.ensures.within

@@ -16,17 +16,17 @@ use Rattle.tk_monitor.proofs.monitor.Monitor.new.Goals as goal
 pub invariant_of-result : goal.invariant_of-result
 invariant_of-result c =
     let n = c.args.settings.now.objects in
-    let setup : MonitorSetup = record { number = c.args.mon.0; objects = n; parts = c.args.parts.items; from = c.in_ok-from.from } in
+    let setup : MonitorSetup = record { number = c.args.mon.0; objects = n; parts = c.args.parts.items; from = c.in_ok-own.own } in
     let limits = c.objects.ensures.limits in
-    let from : c.in_ok-from.from ≡ c.args.from.now = c.in_ok-from.ensures in
-    let trail : c.in_ok-trail.trail ≡ record { entries = []; raises = c.left_of-left.result; spare = 0 } = c.in_ok-trail.ensures in
-    let entries : c.in_ok-trail.trail.entries ≡ [] = ap (λ (l : TrailView). l.entries) trail in
-    let next : c.in_ok-next.next.items ≡ c.args.from.now = c.in_ok-next.ensures.next in
+    let from : c.in_ok-own.own ≡ c.args.from.now = c.in_ok-own.ensures in
+    let trail : c.in-Ok-new.trail ≡ record { entries = []; raises = c.left_of-left.result; spare = 0 } = c.in-Ok-new.ensures in
+    let entries : c.in-Ok-new.trail.entries ≡ [] = ap (λ (l : TrailView). l.entries) trail in
+    let next : c.in-Ok.next.items ≡ c.args.from.now = c.in-Ok.ensures.next in
     let zeros : length c.in_ok-board.board.levels ≡ n = ap (λ (s : BoardView). length s.levels) c.in_ok-board.ensures ∙ length-replicate {A = ℤ} c.objects.result (pos 0) ∙ c.objects.ensures.value in
-    let stands : StandsAt n c.args.parts.items c.in_ok-from.from c.start.new.board =
-    subst (λ (k : ℕ). StandsAt k c.args.parts.items c.in_ok-from.from c.start.new.board) zeros
-    (subst (λ (ps : List (List (ℕ × ℤ))). StandsAt (length c.in_ok-board.board.levels) ps c.in_ok-from.from c.start.new.board) c.as_slice.ensures.value
-    (subst (λ (ns : List ℕ). StandsAt (length c.in_ok-board.board.levels) c.as_slice.result.now ns c.start.new.board) (sym from) c.in_ok-next.ensures.board)) in
+    let stands : StandsAt n c.args.parts.items c.in_ok-own.own c.start.new.board =
+    subst (λ (k : ℕ). StandsAt k c.args.parts.items c.in_ok-own.own c.start.new.board) zeros
+    (subst (λ (ps : List (List (ℕ × ℤ))). StandsAt (length c.in_ok-board.board.levels) ps c.in_ok-own.own c.start.new.board) c.as_slice.ensures.value
+    (subst (λ (ns : List ℕ). StandsAt (length c.in_ok-board.board.levels) c.as_slice.result.now ns c.start.new.board) (sym from) c.in-Ok.ensures.board)) in
     record {
       within = record {
         some_object = limits.some_object;

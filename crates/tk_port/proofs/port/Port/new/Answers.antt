@@ -1,5 +1,5 @@
-use Rattle.std.proofs.Common.{rules, subst}
-use Rattle.tk_monitor.specs.Monitored.{MonitorView}
+use Rattle.std.proofs.Common.{rules, sym, subst}
+use Rattle.tk_monitor.proofs.StartLemmas.{start_legal}
 use Rattle.tk_trail.specs.Legal.{IsLegal}
 use Rattle.tk_port.proofs.port.Port.new.Goals as goal
 
@@ -7,7 +7,7 @@ pub invariant_of-result : goal.invariant_of-result
 invariant_of-result g c = record {
   version = (search rules);
   setup = c.requires.setup;
-  legal = subst (λ (m : MonitorView). IsLegal m.setup m.trail) c.monitor.view_is c.monitor.invariant.legal;
+  legal = subst (IsLegal c.args.monitor.setup) (sym c.requires.trail) (start_legal c.args.monitor.setup);
   written = (search rules);
   ends = record { came = (search rules); went = (search rules); covered = (search rules) };
   course = (search rules);

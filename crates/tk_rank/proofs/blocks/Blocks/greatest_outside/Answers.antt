@@ -6,9 +6,10 @@ use Rattle.tk_border.specs.Levels.{greatest_of, IsPassed}
 use Rattle.tk_border.proofs.PassedLemmas.{passed_none}
 use Rattle.tk_rank.specs.Blocks.{AreBlocks, blocks_of}
 use Rattle.tk_rank.specs.Tree.{LeavesView, greater, leaves_of, others_in, standing}
-use Rattle.tk_rank.proofs.BlockLemmas.{all_blocks, block_outside, nothing_yet, outside_more}
+use Rattle.tk_rank.proofs.BlockLemmas.{all_blocks, block_outside, nothing_yet, one_of_blocks, outside_more, passed_before}
+use Rattle.tk_rank.proofs.blocks.Blocks.greatest_outside.Given.{Over}
 use Rattle.tk_rank.proofs.blocks.Blocks.greatest_outside.Goals as goal
-use Rattle.tk_rank.proofs.blocks.Blocks.greatest_outside.Goals.{then-is_reached, else-is_reached}
+use Rattle.tk_rank.proofs.blocks.Blocks.greatest_outside.Goals.{After-end-to, then-is_reached, else-is_reached}
 
 pub loop-block-init : goal.loop-block-init
 loop-block-init g c =
@@ -48,7 +49,7 @@ loop-block-preserved g c =
         passed = subst (λ p. IsPassed set p (min (length leaves) (64 * (block + 1)) + 1)) (sym w.place-is) (subst (λ n. IsPassed set w.greatest_outside-number.result.1 (n + 1)) end w.greatest_outside-number.ensures.passed);
       }
       | else-is_reached w ↦
-          let here = subst (λ e. IsPassed set c.loop-block.place e) {x = min (length leaves) (64 * block) + 1} {y = 64 * block + 1} (omega (arith, before)) was.passed in
+          let here = passed_before set c.loop-block.place (length leaves) block before was.passed in
           let behind = c.is_reached.ensures.missed w.if-is_reached.false in
           record {
             most =
@@ -71,3 +72,60 @@ returns g c =
     ∙ c.loop-block.invariant.most
     ∙ ap (λ list. greatest_of (standing leaves (others_in c.args.set.now list)))
     (all_blocks (length leaves) c.loop-block.block (omega (arith, c.loop-block-test.false, c.count-block-end.ensures, ap blocks_of (ap length c.as_slice-leaves.ensures.value ∙ sym (length-map c.self.inside.leaves.items g.N.Node.number) ∙ ap (λ (t : LeavesView). length t.leaves) c.self.view_is))))
+
+pub count-block-end-requires : goal.count-block-end-requires
+count-block-end-requires g c = omega (arith, c.self.invariant.blocks.few, length-map c.self.inside.leaves.items g.N.Node.number, ap length c.as_slice-leaves.ensures.value)
+
+pub overflow_mul-from : goal.overflow_mul-from
+overflow_mul-from g c = omega (arith, c.loop-block-test.true, c.count-block-end.ensures, c.self.invariant.blocks.few, length-map c.self.inside.leaves.items g.N.Node.number, ap length c.as_slice-leaves.ensures.value)
+
+pub end-to-requires : goal.end-to-requires
+end-to-requires g c = omega (arith, c.loop-block-test.true, c.count-block-end.ensures, c.self.invariant.blocks.few, length-map c.self.inside.leaves.items g.N.Node.number, ap length c.as_slice-leaves.ensures.value)
+
+pub overflow_add-from : goal.overflow_add-from
+overflow_add-from g c = omega (arith, c.loop-block-test.true, c.count-block-end.ensures, c.self.invariant.blocks.few, length-map c.self.inside.leaves.items g.N.Node.number, ap length c.as_slice-leaves.ensures.value)
+
+pub overflow_add-to : goal.overflow_add-to
+overflow_add-to g c = omega (arith, c.end-to.ensures, c.self.invariant.blocks.few, length-map c.self.inside.leaves.items g.N.Node.number, ap length c.as_slice-leaves.ensures.value)
+
+-- the walk has passed all objects before this block
+passed : (g : Over) (c : After-end-to g) → IsPassed c.args.set.now c.loop-block.place (64 * c.loop-block.block + 1)
+passed g c =
+    let leaves = c.args.self.now.leaves in
+    let number = g.N.Node.number in
+    let items = c.self.inside.leaves.items in
+    let long : length c.as_slice-leaves.result.now ≡ length leaves = ap length c.as_slice-leaves.ensures.value ∙ sym (length-map items number) ∙ ap (λ (t : LeavesView). length t.leaves) c.self.view_is in
+    passed_before c.args.set.now c.loop-block.place (length leaves) c.loop-block.block (omega (arith, c.loop-block-test.true, c.count-block-end.ensures, ap blocks_of long)) c.loop-block.invariant.passed
+
+pub is_reached-requires-clause-passed : goal.is_reached-requires-clause-passed
+is_reached-requires-clause-passed g c = passed g c
+
+pub is_reached-requires-clause-order : goal.is_reached-requires-clause-order
+is_reached-requires-clause-order g c = omega (arith, c.loop-block-test.true, c.count-block-end.ensures, c.end-to.ensures)
+
+pub greatest_outside-number-requires-clause-order : goal.greatest_outside-number-requires-clause-order
+greatest_outside-number-requires-clause-order g c = omega (arith, c.loop-block-test.true, c.count-block-end.ensures, c.end-to.ensures)
+
+pub greatest_outside-number-requires-clause-within : goal.greatest_outside-number-requires-clause-within
+greatest_outside-number-requires-clause-within g c = omega (arith, c.end-to.ensures)
+
+pub greatest_outside-number-requires-clause-few : goal.greatest_outside-number-requires-clause-few
+greatest_outside-number-requires-clause-few g c = omega (arith, c.self.invariant.blocks.few, length-map c.self.inside.leaves.items g.N.Node.number, ap length c.as_slice-leaves.ensures.value)
+
+pub greatest_outside-number-requires-clause-passed : goal.greatest_outside-number-requires-clause-passed
+greatest_outside-number-requires-clause-passed g c = passed g (goal.at.greatest_outside-number-requires-clause-passed g c).After-end-to
+
+pub leaf-requires-clause-tree : goal.leaf-requires-clause-tree
+leaf-requires-clause-tree g c = rw c.as_slice.ensures.value c.self.invariant.blocks.tree
+
+pub leaf-requires-clause-within : goal.leaf-requires-clause-within
+leaf-requires-clause-within g c =
+    let number = g.N.Node.number in
+    let inside = c.self.inside in
+    let long : length c.as_slice-leaves.result.now ≡ length (map number inside.leaves.items) = ap length c.as_slice-leaves.ensures.value ∙ sym (length-map inside.leaves.items number) in
+    rw c.as_slice.ensures.value
+    (one_of_blocks (map number inside.leaves.items) (map number inside.nodes.items) c.loop-block.block c.self.invariant.blocks
+    (omega (arith, c.loop-block-test.true, c.count-block-end.ensures, ap blocks_of long)))
+
+pub loop-block-smaller : goal.loop-block-smaller
+loop-block-smaller g c = omega (arith, c.loop-block-test.true)

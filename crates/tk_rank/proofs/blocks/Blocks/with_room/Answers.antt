@@ -1,6 +1,8 @@
-use Rattle.std.proofs.Common.{◌*◌, subst, arith, map, [], refl}
+use Rattle.std.proofs.Common.{◌*◌, ◌∙◌, ap, subst, arith, length, map, [], refl}
+use Rattle.std.proofs.lemmas.List.{length-map}
 use Rattle.tk_rank.specs.Tree.{HasNodes}
 use Rattle.tk_rank.proofs.BlockLemmas.{empty_blocks}
+use Rattle.tk_rank.proofs.NodeLemmas.{power_positive}
 use Rattle.tk_rank.proofs.TreeLemmas.{room_for}
 use Rattle.tk_rank.proofs.blocks.Blocks.with_room.Goals as goal
 
@@ -15,3 +17,25 @@ invariant_of-result g c =
           (subst (λ n. HasNodes n (2 * c.next_power_of_two.result)) c.count.ensures
           (room_for c.count.result c.next_power_of_two.result c.next_power_of_two.ensures.power c.next_power_of_two.ensures.lower_bound));
     }
+
+pub count-requires : goal.count-requires
+count-requires g c = c.requires
+
+pub next_power_of_two-requires : goal.next_power_of_two-requires
+next_power_of_two-requires g c = omega (arith, c.count.ensures, c.requires)
+
+pub overflow_mul-next_power_of_two : goal.overflow_mul-next_power_of_two
+overflow_mul-next_power_of_two g c = omega (arith, c.next_power_of_two.ensures.upper_bound, c.count.ensures, c.requires)
+
+pub empty-requires-clause-few : goal.empty-requires-clause-few
+empty-requires-clause-few g c = omega arith
+
+pub empty-requires-clause-room : goal.empty-requires-clause-room
+empty-requires-clause-room g c width power low =
+    omega (arith, low, c.in_ok-nodes.ensures.exact, power_positive c.next_power_of_two.result c.next_power_of_two.ensures.power)
+
+pub returns-clause-none : goal.returns-clause-none
+returns-clause-none g c = length-map c.in_ok-room.room.items g.N.Node.number ∙ ap length c.in_ok-room.ensures.items
+
+pub returns-clause-room : goal.returns-clause-room
+returns-clause-room g c = c.in_ok-room.ensures.exact

@@ -6,7 +6,7 @@ use Rattle.tk_rank.specs.Rank.{RankView}
 use Rattle.tk_rank.specs.Sides.{levels_of, AreOutsiderLeaves, IsKept}
 use Rattle.tk_rank.specs.Tree.{HasRoom}
 use Rattle.tk_rank.proofs.RankLemmas.{read_members, short_members}
-use Rattle.tk_rank.proofs.SidesLemmas.{length_levels, small_outsiders}
+use Rattle.tk_rank.proofs.SidesLemmas.{length_levels, small_members, small_outsiders}
 use Rattle.tk_rank.proofs.rank.Rank.exchange.Goals as goal
 
 -- the levels, which stay
@@ -65,3 +65,9 @@ returns c =
     ap (λ list. ranked (levels_of c.self.inside.count list c.take.new.members.leaves c.take.new.outsiders.leaves) list) c.list_members.ensures.items
     ∙ ap (λ l. ranked l c.args.members.now) (kept c).0
     ∙ ap (λ (x : RankView). ranked x.levels c.args.members.now) c.self.view_is
+
+pub release-requires-clause-small : goal.release-requires-clause-small
+release-requires-clause-small c =
+    let r = c.self.inside in
+    let members = numbers_of r.list.items in
+    small_members (levels_of r.count members r.members.leaves r.outsiders.leaves) members r.members.leaves c.self.invariant.ranked.small c.self.invariant.sides.members

@@ -31,3 +31,29 @@ pub returns : goal.returns
 returns c =
     ap (λ list. ranked (levels_of (length c.args.levels.now) list c.take.new.members.leaves c.take.new.outsiders.leaves) list) c.list_members.ensures.items
     ∙ ap (λ l. ranked l c.args.members.now) (kept c).0
+
+pub with_room-requires : goal.with_room-requires
+with_room-requires c = c.requires.objects
+
+pub with_room-requires-2 : goal.with_room-requires-2
+with_room-requires-2 c = c.requires.objects
+
+pub seat-requires-clause-objects : goal.seat-requires-clause-objects
+seat-requires-clause-objects c = c.requires.objects
+
+pub seat-requires-clause-sizes : goal.seat-requires-clause-sizes
+seat-requires-clause-sizes c = c.requires.sizes
+
+pub seat-requires-clause-room : goal.seat-requires-clause-room
+seat-requires-clause-room c = c.in_ok-outsider_side.ensures
+
+pub take-requires-clause-few : goal.take-requires-clause-few
+take-requires-clause-few c =
+    omega (arith, short_members (length c.args.levels.now) c.args.members.now c.len.ensures.ascends c.requires.members.in_range, c.requires.objects)
+
+pub take-requires-clause-room : goal.take-requires-clause-room
+take-requires-clause-room c =
+    omega (arith, short_members (length c.args.levels.now) c.args.members.now c.len.ensures.ascends c.requires.members.in_range, c.in_ok-member_side.ensures)
+
+pub take-requires-clause-within : goal.take-requires-clause-within
+take-requires-clause-within c k d inside = omega (arith, c.requires.members.in_range k d inside, c.seat.ensures.room)

@@ -1,10 +1,32 @@
-use Rattle.std.proofs.Common.{◌≡◌, ◌∙◌, ◌-◌, ◌≤◌, ap, set, vec_capacity, length, ℤ, List}
+use Rattle.std.proofs.Common.{◌≡◌, ◌∙◌, ◌-◌, ◌≤◌, ap, arith, set, vec_capacity, length, ℤ, List}
+use Rattle.std.proofs.lemmas.List.{length-map}
 use Rattle.tk_base.specs.Ascending.{numbers_of}
+use Rattle.tk_base.specs.declared.ids.Obj.{Obj}
 use Rattle.tk_rank.specs.Rank.{RankView}
 use Rattle.tk_rank.specs.Sides.{levels_of, AreSides, IsKept}
 use Rattle.tk_rank.proofs.RankLemmas.{read_set}
 use Rattle.tk_rank.proofs.SidesLemmas.{length_levels, passed_on}
 use Rattle.tk_rank.proofs.rank.Rank.set.Goals as goal
+
+pub relevel-requires-clause-from_one : goal.relevel-requires-clause-from_one
+relevel-requires-clause-from_one c = c.requires.from_one
+
+pub relevel-requires-clause-within : goal.relevel-requires-clause-within
+relevel-requires-clause-within c =
+    let r = c.self.inside in
+    let within : c.args.o.0 ≤ length (levels_of r.count (numbers_of r.list.items) r.members.leaves r.outsiders.leaves) = rw (← c.self.view_is) at c.requires.within in
+    omega (arith, within, c.self.invariant.sides.outsiders.room)
+
+pub relevel-requires-clause-ascends : goal.relevel-requires-clause-ascends
+relevel-requires-clause-ascends c = rw c.as_slice.ensures.value c.self.invariant.ranked.ascends
+
+pub relevel-requires-clause-room : goal.relevel-requires-clause-room
+relevel-requires-clause-room c =
+    let list = c.self.inside.list in
+    omega (arith, ap length c.as_slice.ensures.value, length-map list.items (λ (x : Obj). x.0), c.self.invariant.sides.members.room)
+
+pub relevel-requires-clause-size : goal.relevel-requires-clause-size
+relevel-requires-clause-size c = rw (passed_on c.args.level c.requires.size) c.requires.size
 
 -- the levels before
 abbrev levels : (c : goal.After-relevel) → List ℤ

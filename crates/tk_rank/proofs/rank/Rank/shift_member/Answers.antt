@@ -1,14 +1,16 @@
-use Rattle.std.proofs.Common.{◌≡◌, ◌∙◌, ◌-◌, ◌<◌, ◌≤◌, ◌^◌, ap, arith, subst, sym, get_or, set, vec_capacity, length, ℤ, pos, ◌+ℤ◌, ◌-ℤ◌, List, Some}
+use Rattle.std.proofs.Common.{◌≡◌, false, true, ◌∙◌, ◌-◌, ◌<◌, ◌≤◌, ◌^◌, ap, arith, subst, sym, get_or, set, vec_capacity, length, ℤ, pos, ◌+ℤ◌, ◌-ℤ◌, List, Some}
 use Rattle.std.specs.Prelude.{unsigned_abs}
+use Rattle.std.proofs.lemmas.Bool.{both_ways}
 use Rattle.std.proofs.lemmas.Int.{ints}
 use Rattle.std.proofs.lemmas.List.{length-map}
 use Rattle.tk_base.specs.Ascending.{numbers_of}
 use Rattle.tk_base.specs.declared.ids.Obj.{Obj}
+use Rattle.tk_base.specs.Objects.{is_in}
 use Rattle.tk_border.specs.Levels.{level_at}
 use Rattle.tk_rank.specs.Rank.{RankView}
 use Rattle.tk_rank.specs.Sides.{levels_of, AreSides, IsKept}
 use Rattle.tk_rank.proofs.RankLemmas.{read_set}
-use Rattle.tk_rank.proofs.SidesLemmas.{length_levels, member_here, member_relevelled, shifted_back, turned_moves}
+use Rattle.tk_rank.proofs.SidesLemmas.{length_levels, member_here, member_relevelled, shifted_back, small_members, turned_moves}
 use Rattle.tk_rank.proofs.rank.Rank.shift_member.Goals as goal
 
 -- the levels before
@@ -79,3 +81,30 @@ pub returns-in-Some : goal.returns-in-Some
 returns-in-Some c =
     ap (with_levels (record { levels = levels c.before; members = numbers_of c.self.inside.list.items })) (kept c).0
     ∙ ap (λ (x : RankView). with_levels x (set x.levels (c.args.o.0 - 1) (level_at x.levels c.args.o.0 +ℤ c.args.by))) c.self.view_is
+
+pub place_of-requires : goal.place_of-requires
+place_of-requires c = rw c.as_slice.ensures.value c.self.invariant.ranked.ascends
+
+pub number_in-turned-requires-clause-within : goal.number_in-turned-requires-clause-within
+number_in-turned-requires-clause-within c =
+    let r = c.self.inside in
+    let low : c.in-Some.place < length r.list.items = rw c.as_slice.ensures.value at c.in-Some.ensures.within in
+    omega (arith, low, length-map r.list.items (λ (x : Obj). x.0), c.self.invariant.sides.members.room)
+
+pub number_in-turned-requires-clause-small : goal.number_in-turned-requires-clause-small
+number_in-turned-requires-clause-small c =
+    let r = c.self.inside in
+    let members = numbers_of r.list.items in
+    small_members (levels_of r.count members r.members.leaves r.outsiders.leaves) members r.members.leaves c.self.invariant.ranked.small c.self.invariant.sides.members
+
+pub set-requires-clause-within : goal.set-requires-clause-within
+set-requires-clause-within c = omega (arith, within c, c.self.invariant.sides.members.room)
+
+-- the object is a member, so it has a place
+pub returns-in_default : goal.returns-in_default
+returns-in_default c =
+    let o = c.args.o.0 in
+    let members = numbers_of c.self.inside.list.items in
+    let none : is_in members o ≡ false = rw c.as_slice.ensures.value at c.in_default.ensures.none in
+    let here : is_in members o ≡ true = rw (← c.self.view_is) at c.requires.member in
+    absurd (both_ways (is_in members o) none here)

@@ -50,6 +50,11 @@ returns-in_err-retune-clause-enabled g c =
     ∙ sym (c.retune_refusal.ensures ∙ ap (λ (x : CoordinatorView). retune_refusal_of x.settings x.journal c.k-k.result c.epsilon-epsilon.result) c.coordinator.ensures)
     ∙ not_some c.retune_refusal.result (sym c.is_some.ensures ∙ c.if-is_some.false)))
 
+pub retune-requires : goal.retune-requires
+retune-requires g c =
+    sym (c.retune_refusal.ensures ∙ ap (λ (x : CoordinatorView). retune_refusal_of x.settings x.journal c.k-k.result c.epsilon-epsilon.result) c.coordinator.ensures)
+    ∙ not_some c.retune_refusal.result (sym c.is_some.ensures ∙ c.if-is_some.false)
+
 -- the journal before is a front of that behind
 pub slice_bounds-insert_sent-count : goal.slice_bounds-insert_sent-count
 slice_bounds-insert_sent-count g c =
