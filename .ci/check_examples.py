@@ -6,7 +6,8 @@ prefixes, plus epsilon, is at least that of every object outside. An example wit
 fault stands in the file `fault`; of a run that is made from a seed the text alone is compared. What a live run prints
 depends on how its threads meet, so it has no expected text: each set that it prints is checked by plain sums. Where
 there is an awk, the change logs of the access logs are made once more and compared, too; where there is a program, so is
-the trace that is kept, each replay is run in pieces too, its trace is checked, and what is no whole trace is refused.
+the trace that is kept, each replay is run in pieces too, its trace is checked, what is no whole trace is refused, and so
+is each row of `refusals`.
 """
 import csv
 import os
@@ -26,6 +27,8 @@ WAYS = ("--piece 1", "--piece 7 --frames 2", "--piece 4096", "--frames 2")
 # A run, and its trace.
 TRACED = ROOT / "examples" / "two_monitors"
 TRACE = ROOT / "examples" / "checked" / "two_monitors.trace"
+# What is refused: a status, the words, and the fault that is told.
+REFUSALS = ROOT / "examples" / "refusals"
 
 
 def words_in(folder):
@@ -299,6 +302,27 @@ def ends_of_room():
                 yield f"room for {most} bytes: the program ends in another way, status {done.returncode}"
 
 
+def write_great_files(room):
+    """A log of the most changes, one of one more, and a file that is too long."""
+    (room / "most.csv").write_bytes(b"a,1\n" * 10**6)
+    (room / "more.csv").write_bytes(b"a,1\n" * (10**6 + 1))
+    with (room / "long.csv").open("wb") as file:
+        file.truncate(64 * 2**20 + 1)
+
+
+def refusals():
+    """Each row of refusals ends with its status and tells its fault, and a text is printed where there is none alone."""
+    with tempfile.TemporaryDirectory() as folder:
+        room = pathlib.Path(folder) / "files"
+        shutil.copytree(REFUSALS, room)
+        write_great_files(room)
+        for status, words, fault in csv.reader((room / "rows.csv").open(newline="")):
+            done = subprocess.run([PROGRAM, *words.split()], cwd=room, capture_output=True, text=True, timeout=60)
+            told = f"topk: {fault}\n" if fault else ""
+            if (done.returncode, done.stderr, done.stdout == "") != (int(status), told, fault != ""):
+                yield f"{words}: the program ends in another way, status {done.returncode}: {done.stderr.strip()}"
+
+
 def lost_edits():
     """The edits that docs/causes.md names are tried by the gate. A name without its crate is of the crate in front of it."""
     for line in (ROOT / "docs" / "causes.md").read_text().splitlines():
@@ -311,14 +335,14 @@ def lost_edits():
 
 
 def main():
-    folders = [folder for folder in sorted((ROOT / "examples").iterdir()) if folder.is_dir()]
+    folders = [words.parent for words in sorted((ROOT / "examples").glob("*/words"))]
     faults = [check(folder) for folder in folders]
     faults.append(altered())
     faults += lost_edits()
     if PROGRAM.exists():
         faults += [run(folder) for folder in folders]
         faults += [*ends_of_output(), *ends_of_room(), *traces()]
-        faults += [*replays_in_pieces(folders), *checked_replays(folders), *ends_of_checks()]
+        faults += [*replays_in_pieces(folders), *checked_replays(folders), *ends_of_checks(), *refusals()]
     if shutil.which("awk"):
         faults.append(made_again(ROOT / "examples" / "access_log"))
     readme = (ROOT / "README.md").read_text()

@@ -12,7 +12,3 @@ at_both one two =
     (record { mon = record { 0 = 1 }; changes = of_both one })
     ∷ (record { mon = record { 0 = 2 }; changes = of_both two })
     ∷ []
-
--- these factors at monitor 2 alone
-abbrev pub at_second : List (ℕ × ℤ) → List MonChange
-at_second factors = (record { mon = record { 0 = 2 }; changes = factors }) ∷ []

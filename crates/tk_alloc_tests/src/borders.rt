@@ -14,9 +14,9 @@ fn set(alloc: Global, numbers: &[u32]) -> Option<ObjSet> {
 }
 
 /// How many objects a set has, and which of the first three.
-pub(crate) type Shown = (usize, [bool; 3]);
+type Shown = (usize, [bool; 3]);
 
-pub(crate) fn shown(set: &ObjSet) -> Shown {
+fn shown(set: &ObjSet) -> Shown {
     (
         set.len(),
         [set.has(Obj(1)), set.has(Obj(2)), set.has(Obj(3))],

@@ -1,11 +1,9 @@
-//! Tests of tk_alloc, and of tk_share, tk_rows and tk_border below it, over their public calls: shares, rows of factors,
-//! borders, rounds and the choice of members, with numbers worked out by hand.
+//! Tests of tk_alloc, and of tk_share and tk_border below it, over their public calls: shares, borders and rounds, with
+//! numbers worked out by hand.
 #![tactic(auto)]
 
 #[cfg(test)]
 mod borders;
-#[cfg(test)]
-mod rows;
 #[cfg(test)]
 mod shares;
 #[cfg(test)]

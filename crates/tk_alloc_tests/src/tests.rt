@@ -1,4 +1,4 @@
-ghost use Rattle.std.specs.Prelude.{◌≡◌, ◌<◌, ◌≤◌, ◌≤ℤ◌, pos, negsuc, [], ◌∷◌, IfOk, length};
+ghost use Rattle.std.specs.Prelude.{◌≡◌, ◌≤ℤ◌, pos, negsuc, [], ◌∷◌, IfOk, length};
 ghost use Rattle.std.specs.List.{All};
 ghost use Rattle.tk_base.specs.Objects.{objects as objects_in};
 ghost use Rattle.tk_base.specs.Pairs.{objects_of};
@@ -7,11 +7,10 @@ ghost use Rattle.tk_alloc.specs.Resolving.{CanTakePart, IsReady, objects_over, r
 ghost use Rattle.tk_alloc.specs.Rounds.{AreReports, IsOfSize};
 ghost use Rattle.tk_alloc_tests.specs.Pairing.{at_both, of_both};
 
-use crate::borders::{Shown, shown};
 use std::alloc::Global;
 use std::test::Fail;
 use tk_alloc::{
-    AllocFault, Reported, full, full_with_border, pick, short, short_test, short_with_border, wide,
+    AllocFault, Reported, full, full_with_border, short, short_test, short_with_border, wide,
 };
 use tk_base::{Mon, Obj, ObjSet, Pairs, Settings};
 use tk_rows::{MonChange, Reallocation, Table};
@@ -31,37 +30,6 @@ fn pairs(alloc: Global, a: i128, b: i128) -> Result<Pairs, Fail>
     let list = [(Obj(1), a), (Obj(2), b)].to_vec(alloc)?;
     let pairs = Pairs::new(list)?;
     Ok(pairs)
-}
-
-fn totals(alloc: Global, numbers: [i128; 3]) -> Result<Pairs, Fail>
-    ensures { IfOk result (λ p. length p ≡ 3) }
-{
-    let [a, b, c] = numbers;
-    let list = [(Obj(1), a), (Obj(2), b), (Obj(3), c)].to_vec(alloc)?;
-    let totals = Pairs::new(list)?;
-    Ok(totals)
-}
-
-/// How many are picked where this one was a member, and which of the three objects.
-fn picked(alloc: Global, old: u32, k: u32, numbers: [i128; 3]) -> Result<Shown, Fail>
-    requires some { 0 < k }
-    requires enough { k ≤ 3 }
-{
-    let totals = totals(alloc, numbers)?;
-    let old = set_of(alloc, old)?;
-    let set = pick(alloc, &totals, &old, k)?;
-    Ok(shown(&set))
-}
-
-#[test]
-fn picks(rt: HostRuntime) -> Result<(), Fail> {
-    let third = picked(rt.alloc(), 3, 1, [3, 3, 3])?;
-    assert!(rt; third == (1, [false, false, true]));
-    let first_two = picked(rt.alloc(), 2, 2, [3, 3, 3])?;
-    assert!(rt; first_two == (2, [true, true, false]));
-    let greater = picked(rt.alloc(), 1, 1, [1, 5, 5])?;
-    assert!(rt; greater == (1, [false, true, false]));
-    Ok(())
 }
 
 fn reported(alloc: Global, mon: u32, border: i128, a: i128, b: i128) -> Result<Reported, Fail>

@@ -44,7 +44,7 @@ fn own_levels(alloc: Global, table: &Table, objects: u32) -> Result<Vec<i128>, N
 {
     let mut levels = Vec::with_capacity(alloc, objects as usize)?;
     for place in 0..objects {
-        levels.push(table.own(Obj(place + 1)))?;
+        levels.push_reserved(table.own(Obj(place + 1)));
     }
     Ok(levels)
 }

@@ -14,6 +14,7 @@ ghost use Rattle.tk_coord.specs.Grounds.{IsGrounded};
 
 mod make;
 mod retune;
+mod room;
 mod take;
 
 use crate::journal::Journal;

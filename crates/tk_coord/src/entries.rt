@@ -3,7 +3,7 @@ ghost use Rattle.std.specs.List.{All};
 ghost use Rattle.tk_base.specs.Objects.{objects};
 ghost use Rattle.tk_base.specs.Pairs.{objects_of as objects_in};
 ghost use Rattle.tk_journal.specs.Entries.{IsEntryOf};
-ghost use Rattle.tk_frames.specs.declared.frame.Frame.TheVariants.{Assign, Stop};
+ghost use Rattle.tk_frames.specs.declared.frame.Frame.TheVariants.{Assign, Collect, Stop};
 ghost use Rattle.tk_journal.specs.declared.noted.Noted.TheVariants.{Sent};
 ghost use Rattle.tk_journal.specs.Turns.{collects as collects_of};
 ghost use Rattle.tk_coord.specs.Batches.{AreOf, to_each};
@@ -28,13 +28,51 @@ pub fn sent(alloc: Global, mon: u32, frame: Frame) -> Result<Noted, NoMemory>
     }
 }
 
+/// An Assign to a monitor, with a copy of the members.
+pub fn assign(
+    alloc: Global,
+    mon: u32,
+    seq: u64,
+    members: &ObjSet,
+    changes: Pairs,
+) -> Result<Noted, NoMemory>
+    ensures value { IfOk result (λ n. n ≡ Sent (record { 0 = mon }) (Assign seq members.now changes)) }
+    ensures monitor { (monitors n : ℕ) → 0 < mon → mon ≤ monitors → IfOk result (IsEntryOf monitors n) }
+{
+    let members = match members.try_clone() {
+        Ok(members) => members,
+        Err(_fault) => {
+            drop(changes);
+            return Err(NoMemory);
+        }
+    };
+    sent(
+        alloc,
+        mon,
+        Frame::Assign {
+            seq,
+            members,
+            changes,
+        },
+    )
+}
+
+/// A Collect to a monitor, with a copy of the objects.
+fn collect(alloc: Global, mon: u32, round: u64, asked: &ObjSet) -> Result<Noted, NoMemory>
+    ensures value { IfOk result (λ n. n ≡ Sent (record { 0 = mon }) (Collect round asked.now)) }
+    ensures monitor { (monitors n : ℕ) → 0 < mon → mon ≤ monitors → IfOk result (IsEntryOf monitors n) }
+{
+    let objects = asked.try_clone()?;
+    sent(alloc, mon, Frame::Collect { round, objects })
+}
+
 /// The objects from 1 to n.
 pub fn first_objects(alloc: Global, n: u32) -> Result<ObjSet, NoMemory>
     ensures { IfOk result (λ s. s ≡ objects n) }
 {
     let mut list = Vec::with_capacity(alloc, n as usize)?;
     for o in 0..n {
-        list.push(Obj(o + 1))?;
+        list.push_reserved(Obj(o + 1));
     }
     match ObjSet::new(list) {
         Ok(objects) => Ok(objects),
@@ -69,14 +107,7 @@ pub fn first_assigns(alloc: Global, members: &ObjSet, monitors: u32) -> Result<V
 {
     let mut entries = Vec::with_capacity(alloc, monitors as usize)?;
     for j in 0..monitors {
-        let named = members.try_clone()?;
-        let changes = no_pairs(alloc);
-        let frame = Frame::Assign {
-            seq: 1,
-            members: named,
-            changes,
-        };
-        entries.push(sent(alloc, j + 1, frame)?)?;
+        entries.push_reserved(assign(alloc, j + 1, 1, members, no_pairs(alloc))?);
     }
     Ok(entries)
 }
@@ -88,7 +119,7 @@ pub fn objects_of(alloc: Global, values: &Pairs) -> Result<ObjSet, NoMemory>
     let mut list = Vec::with_capacity(alloc, values.len())?;
     for i in 0..values.len() {
         let (o, _) = values.at(i);
-        list.push(o)?;
+        list.push_reserved(o);
     }
     match ObjSet::new(list) {
         Ok(objects) => Ok(objects),
@@ -120,8 +151,7 @@ pub fn collects(
     let mut entries = Vec::with_capacity(alloc, monitors as usize)?;
     for j in 0..monitors {
         if !is_but(but, j + 1) {
-            let objects = asked.try_clone()?;
-            entries.push(sent(alloc, j + 1, Frame::Collect { round, objects })?)?;
+            entries.push_reserved(collect(alloc, j + 1, round, asked)?);
         }
     }
     Ok(entries)
@@ -154,15 +184,10 @@ pub fn assigns(
 {
     let mut entries = Vec::with_capacity(alloc, reallocation.at.len())?;
     for change in &reallocation.at {
-        let members = reallocation.members.try_clone()?;
         let seq = next_assign(peers, change.mon)?;
         let changes = change.changes.try_clone()?;
-        let frame = Frame::Assign {
-            seq,
-            members,
-            changes,
-        };
-        entries.push(sent(alloc, change.mon.0, frame)?)?;
+        let members = &reallocation.members;
+        entries.push_reserved(assign(alloc, change.mon.0, seq, members, changes)?);
     }
     Ok(entries)
 }

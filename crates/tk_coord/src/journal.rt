@@ -50,7 +50,7 @@ fn no_places(alloc: Global, monitors: u32) -> Result<Vec<Vec<usize>>, NoMemory>
 {
     let mut sent = Vec::with_capacity(alloc, monitors as usize)?;
     for j in 0..monitors {
-        sent.push(Vec::new(alloc))?;
+        sent.push_reserved(Vec::new(alloc));
     }
     Ok(sent)
 }

@@ -9,10 +9,9 @@ ghost use Rattle.tk_journal.specs.Entries.{IsEntryOf};
 ghost use Rattle.tk_journal.specs.Legal.{opened};
 ghost use Rattle.tk_coord.specs.Coordinator.{with_factors};
 
-use crate::entries::sent;
+use crate::entries::assign;
 use std::alloc::Global;
 use tk_base::{Mon, NoMemory, Obj, ObjSet, Pairs, Settings};
-use tk_frames::Frame;
 use tk_journal::Noted;
 use tk_rows::Table;
 
@@ -26,7 +25,7 @@ fn factors(alloc: Global, table: &Table, objects: u32, mon: Mon) -> Result<Pairs
     let mut list = Vec::with_capacity(alloc, objects as usize)?;
     for place in 0..objects {
         let o = Obj(place + 1);
-        list.push((o, table.at(mon, o)))?;
+        list.push_reserved((o, table.at(mon, o)));
     }
     match Pairs::new(list) {
         Ok(pairs) => Ok(pairs),
@@ -50,14 +49,8 @@ pub fn table_assigns(
     let mut entries = Vec::with_capacity(alloc, monitors as usize)?;
     for j in 0..monitors {
         let mon = Mon(j + 1);
-        let named = members.try_clone()?;
         let changes = factors(alloc, table, settings.objects(), mon)?;
-        let frame = Frame::Assign {
-            seq: 1,
-            members: named,
-            changes,
-        };
-        entries.push(sent(alloc, mon.0, frame)?)?;
+        entries.push_reserved(assign(alloc, mon.0, 1, members, changes)?);
     }
     Ok(entries)
 }

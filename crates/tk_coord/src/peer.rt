@@ -27,12 +27,12 @@ pub fn new_peers(alloc: Global, monitors: u32) -> Result<Vec<Peer>, NoMemory>
 {
     let mut peers = Vec::with_capacity(alloc, monitors as usize)?;
     for j in 0..monitors {
-        peers.push(Peer {
+        peers.push_reserved(Peer {
             assigns: 1,
             answer: None,
             progress: None,
             waits: false,
-        })?;
+        });
     }
     Ok(peers)
 }

@@ -89,6 +89,41 @@ fn cut_of(alloc: Global, answers: Answers) -> Result<Cut, NoMemory>
     Ok(Cut::new(list))
 }
 
+/// What is published, with copies of the members and of the places of all monitors.
+fn published(
+    alloc: Global,
+    answers: Answers,
+    settings: &Settings,
+    members: &ObjSet,
+    last: bool,
+    number: u64,
+) -> Result<KeptPublication, NoMemory>
+    ensures { IfOk result (λ p. p ≡ record {
+      number = number;
+      last = last;
+      k = settings.now.k;
+      epsilon = settings.now.epsilon;
+      members = members.now;
+      cut = map (λ said. said.places) (said_in answers.entry);
+    }) }
+{
+    let publication = Publication {
+        number,
+        last,
+        k: settings.k(),
+        epsilon: settings.epsilon(),
+        members: members.try_clone()?,
+        cut: cut_of(alloc, answers)?,
+    };
+    match KeptPublication::new(alloc, publication) {
+        Ok(kept) => Ok(kept),
+        Err(publication) => {
+            drop(publication);
+            Err(NoMemory)
+        }
+    }
+}
+
 /// The entries that end a turn in which every monitor has settled, and whether Stop is among them. The
 /// settings hold the k and epsilon in force; `news` is whether they or the members differ from the last set.
 pub fn publishing(
@@ -104,22 +139,12 @@ pub fn publishing(
     ensures ends { IfOk result (λ r. is_stopped r.0.items ≡ r.1) }
     ensures entries { (n : ℕ) → AreWithin n members.now → IfOk result (λ r. All (IsEntryOf settings.now.monitors n) r.0.items) }
 {
-    let mut entries = Vec::new(alloc);
     let last = all_last(answers);
     if !news && !last {
-        return Ok((entries, false));
+        return Ok((Vec::new(alloc), false));
     }
-    let publication = Publication {
-        number,
-        last,
-        k: settings.k(),
-        epsilon: settings.epsilon(),
-        members: members.try_clone()?,
-        cut: cut_of(alloc, answers)?,
-    };
-    let Ok(kept) = KeptPublication::new(alloc, publication) else {
-        return Err(NoMemory);
-    };
+    let kept = published(alloc, answers, settings, members, last, number)?;
+    let mut entries = Vec::new(alloc);
     entries.push(Noted::Published(kept))?;
     if last {
         push_stops(alloc, &mut entries, settings.monitors())?;

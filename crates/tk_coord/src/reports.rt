@@ -11,11 +11,11 @@ pub fn no_reports(alloc: Global, monitors: u32) -> Result<Vec<Reported>, NoMemor
 {
     let mut reports = Vec::with_capacity(alloc, monitors as usize)?;
     for j in 0..monitors {
-        reports.push(Reported {
+        reports.push_reserved(Reported {
             mon: Mon(j + 1),
             values: no_pairs(alloc),
             border: 0,
-        })?;
+        });
     }
     Ok(reports)
 }

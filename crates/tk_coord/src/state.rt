@@ -1,11 +1,12 @@
-ghost use Rattle.std.specs.Prelude.{◌≡◌, List, length, suc, IfOk};
+ghost use Rattle.std.specs.Prelude.{◌≡◌, ℕ, List, Some, length, slice_get, suc, IfOk};
 ghost use Rattle.tk_base.specs.Settings.{Setup};
 ghost use Rattle.std.specs.List.{list_all};
 ghost use Rattle.tk_journal.specs.Readings.{is_calm as is_calm_at};
 ghost use Rattle.tk_journal.specs.declared.noted.Noted.{Noted};
 ghost use Rattle.tk_coord.specs.Checks.{AreNamed};
-ghost use Rattle.tk_coord.specs.Keeping.{AreChanged, HasBegun, HasPlace, CanReply, assigned_at, has_settled};
+ghost use Rattle.tk_coord.specs.Keeping.{AreChanged, HasBegun, HasPlace, CanReply, assigned_at, first_peer, has_settled};
 ghost use Rattle.tk_coord.specs.State.{Holds};
+ghost use Rattle.tk_coord.specs.declared.peer.Peer.{Peer};
 ghost use Rattle.tk_coord.specs.Steps.{NotesReply, NotesTold, told_at, values_in, open_after};
 
 use crate::answer::Answer;
@@ -101,19 +102,34 @@ fn assign(peers: &mut [Peer], changes: &[MonChange])
     }
 }
 
+/// The peers of monitors to each of which one Assign was sent, and no report yet of each.
+fn first_lists(alloc: Global, monitors: u32) -> Result<(Vec<Peer>, Vec<Reported>), NoMemory>
+    ensures count { IfOk result (λ lists. length lists.0.items ≡ monitors) }
+    ensures peers { IfOk result (λ lists. (i : ℕ) (l : Peer) → slice_get lists.0.items i ≡ Some l → l ≡ first_peer) }
+    ensures reports { IfOk result (λ lists. length lists.1.items ≡ monitors) }
+{
+    let peers = new_peers(alloc, monitors)?;
+    let gathered = no_reports(alloc, monitors)?;
+    Ok((peers, gathered))
+}
+
 impl State {
     /// Before the first frame: each monitor was sent one Assign, and there was no round.
     pub fn begun(alloc: Global, board: Board, monitors: u32) -> Result<State, NoMemory>
         ensures { IfOk result (HasBegun monitors board) }
     {
-        let peers = new_peers(alloc, monitors)?;
-        let gathered = no_reports(alloc, monitors)?;
-        Ok(State {
-            board,
-            peers,
-            round: Round::none(alloc),
-            gathered,
-        })
+        match first_lists(alloc, monitors) {
+            Ok((peers, gathered)) => Ok(State {
+                board,
+                peers,
+                round: Round::none(alloc),
+                gathered,
+            }),
+            Err(fault) => {
+                drop(board);
+                Err(fault)
+            }
+        }
     }
 
     /// Whether no round is open and every monitor's current answer is a Settled.

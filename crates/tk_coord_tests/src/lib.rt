@@ -1,4 +1,4 @@
-//! Tests of tk_coord over its public calls: which frames and retunes it refuses, and what rounds give.
+//! Tests of tk_coord over its public calls: which frames it refuses, and what rounds give.
 #![tactic(auto)]
 
 #[cfg(test)]

@@ -2,7 +2,6 @@
 
 mod coordinator_refusals;
 mod factor_past_its_limit;
-mod retune;
 mod worked_rounds;
 
 use std::alloc::Global;

@@ -1,4 +1,4 @@
-//! The tests of tk_hub, of what no clause says, and each of its calls once.
+//! Tests of tk_hub over its public calls: who is a stranger, and what closes a hub and is left of it.
 #![tactic(auto)]
 
 #[cfg(test)]

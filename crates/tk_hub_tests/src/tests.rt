@@ -1,18 +1,17 @@
 //! Connections in plain bytes, and what a hub of run 5 makes of them, over two monitors and the objects a and b, with k 1.
 
-ghost use Rattle.std.specs.Prelude.{◌≡◌, ◌≤◌, IfOk, IfSome, length, true};
+ghost use Rattle.std.specs.Prelude.{◌≡◌, ◌≤◌, IfSome, length, true};
 ghost use Rattle.tk_hub.specs.declared.course.Course.TheVariants as on;
 ghost use Rattle.tk_hub.specs.Visitor.{IsUnused};
 
 use std::alloc::Global;
-use std::test::Fail;
 use tk_base::{Mon, Settings};
 use tk_coord::{CoordRefusal, Coordinator};
 use tk_frames::{BadFrame, Frame, Kind};
 use tk_hub::{Admitted, Hub, HubTurn, an_opening_has_no_input};
 use tk_input::{Catalog, VecSink};
 use tk_story::Received;
-use tk_wire::{Pipe, PipeWire, Piped, Pushed, Wire};
+use tk_wire::{Pipe, PipeWire, Piped, Wire};
 
 /// A length that no Hello has.
 const LONG: [u8; 4] = [0, 32, 0, 0];
@@ -37,10 +36,9 @@ const NO_KIND: [u8; 23] = [
     0, 0, 0, 14, 1, 0, 0, 0, 0, 0, 0, 0, 5, 1, 0, 0, 0, 2, 0, 0, 0, 1, 9,
 ];
 
-/// That Hello, and Settled 1 of the empty log of one feeder, which is the last.
-const SETTLED: [u8; 40] = [
-    0, 0, 0, 14, 1, 0, 0, 0, 0, 0, 0, 0, 5, 1, 0, 0, 0, 2, 0, 0, 0, 18, 6, 0, 0, 0, 0, 0, 0, 0, 1,
-    1, 0, 0, 0, 1, 0, 0, 0, 0,
+/// That Hello, and half of a frame.
+const CUT_OFF: [u8; 28] = [
+    0, 0, 0, 14, 1, 0, 0, 0, 0, 0, 0, 0, 5, 1, 0, 0, 0, 2, 0, 0, 0, 18, 6, 0, 0, 0, 0, 0,
 ];
 
 /// That Hello, and Report 1 with the border 1, the failed object b, and the values a 0 and b 3.
@@ -50,25 +48,6 @@ const BORDER_1: [u8; 99] = [
     0, 0, 0, 0, 0, 0, 0, 0, 0, 0, 0, 0, 0, 0, 0, 0, 0, 0, 0, 2, 0, 0, 0, 0, 0, 0, 0, 0, 0, 0, 0, 0,
     0, 0, 0, 3,
 ];
-
-/// Hello of monitor 1 in run 5 and version 1, and Settled 1 of an empty log of one feeder, which is the last.
-const FIRST: [u8; 40] = [
-    0, 0, 0, 14, 1, 0, 0, 0, 0, 0, 0, 0, 5, 1, 0, 0, 0, 1, 0, 0, 0, 18, 6, 0, 0, 0, 0, 0, 0, 0, 1,
-    1, 0, 0, 0, 1, 0, 0, 0, 0,
-];
-
-/// Hello of monitor 2 in run 5 and version 2, and the same Settled.
-const SECOND: [u8; 27] = [
-    0, 0, 0, 14, 1, 0, 0, 0, 0, 0, 0, 0, 5, 2, 0, 0, 0, 2, 0, 0, 0, 5, 6, 1, 1, 1, 0,
-];
-
-/// Assign 1 of the member a with no change, and Stop.
-const TO_FIRST: [u8; 30] = [
-    0, 0, 0, 21, 5, 0, 0, 0, 0, 0, 0, 0, 1, 0, 0, 0, 1, 0, 0, 0, 1, 0, 0, 0, 0, 0, 0, 0, 1, 7,
-];
-
-/// The same in version 2.
-const TO_SECOND: [u8; 14] = [0, 0, 0, 5, 5, 1, 1, 1, 0, 0, 0, 0, 1, 7];
 
 /// A connection: the bytes that wait on it, which call of its wire fails, if one does, whether a call moves one byte alone,
 /// and whether it has ended behind its bytes.
@@ -116,15 +95,18 @@ fn wire(alloc: Global, came: Connection<'_>) -> Option<PipeWire>
 }
 
 /// A hub of run 5: two monitors over the objects a and b, with k 1.
-fn hub(alloc: Global) -> Result<Hub<PipeWire>, Fail>
-    ensures course { IfOk result (λ hub. hub.course ≡ on.Open) }
-    ensures objects { IfOk result (λ hub. hub.coordinator.settings.objects ≤ 2) }
+fn hub(alloc: Global) -> Option<Hub<PipeWire>>
+    ensures course { IfSome result (λ hub. hub.course ≡ on.Open) }
+    ensures objects { IfSome result (λ hub. hub.coordinator.settings.objects ≤ 2) }
 {
-    let settings = Settings::new(1, 0, 1, 2, 2)?;
-    let coordinator = Coordinator::new(alloc, settings)?;
-    an_opening_has_no_input();
-    let hub = Hub::new(alloc, coordinator, 5)?;
-    Ok(hub)
+    let settings = Settings::new(1, 0, 1, 2, 2).ok()?;
+    match Coordinator::new(alloc, settings) {
+        Ok(coordinator) => {
+            an_opening_has_no_input();
+            Hub::new(alloc, coordinator, 5).ok()
+        }
+        Err(_) => None,
+    }
 }
 
 /// Lets a connection in.
@@ -137,10 +119,10 @@ fn let_in(hub: &mut Hub<PipeWire>, alloc: Global, came: Connection<'_>) -> Optio
     hub.admit(wire).ok()
 }
 
-/// What two turns answer, and whether they wrote this; none where the first one cannot write.
+/// What two turns answer, and whether they wrote nothing; none where the first one cannot write.
 type Turns = Option<(HubTurn, HubTurn, bool)>;
 
-fn both_turns(hub: &mut Hub<PipeWire>, names: &Catalog, out: &mut VecSink, text: &[u8]) -> Turns
+fn both_turns(hub: &mut Hub<PipeWire>, names: &Catalog, out: &mut VecSink) -> Turns
     requires course { hub.old.course ≡ on.Open }
     requires named { hub.old.coordinator.settings.objects ≤ length names.now }
 {
@@ -148,11 +130,11 @@ fn both_turns(hub: &mut Hub<PipeWire>, names: &Catalog, out: &mut VecSink, text:
     if first == HubTurn::WriteFailed {
         return None;
     }
-    Some((first, hub.turn(names, out), out.written() == text))
+    Some((first, hub.turn(names, out), out.written().is_empty()))
 }
 
 /// The same with names and a sink of their own.
-fn two_turns(hub: &mut Hub<PipeWire>, alloc: Global, text: &[u8]) -> Turns
+fn two_turns(hub: &mut Hub<PipeWire>, alloc: Global) -> Turns
     requires course { hub.old.course ≡ on.Open }
     requires objects { hub.old.coordinator.settings.objects ≤ 2 }
 {
@@ -161,7 +143,7 @@ fn two_turns(hub: &mut Hub<PipeWire>, alloc: Global, text: &[u8]) -> Turns
     let turns = if names.len() < 2 {
         None
     } else {
-        both_turns(hub, &names, &mut out, text)
+        both_turns(hub, &names, &mut out)
     };
     drop(names);
     drop(out);
@@ -174,7 +156,7 @@ fn over_one(hub: &mut Hub<PipeWire>, alloc: Global, came: Connection<'_>) -> Tur
     requires objects { hub.old.coordinator.settings.objects ≤ 2 }
 {
     let_in(hub, alloc, came)?;
-    two_turns(hub, alloc, b"")
+    two_turns(hub, alloc)
 }
 
 /// How many bytes the only wire took.
@@ -186,7 +168,7 @@ fn taken(wires: &[PipeWire]) -> Option<u64> {
 }
 
 /// What a hub does not take: a Hello of a run, a version and a monitor, the kind of a payload, or anything else.
-#[derive(Clone, Copy, Debug, PartialEq)]
+#[derive(Clone, Copy, PartialEq)]
 enum Odd {
     Hello(u64, u8, Mon),
     Kind(u8),
@@ -207,8 +189,8 @@ fn odd_of(received: &Received) -> Odd {
 /// What was not taken, and of which monitor.
 type Left = Option<(Mon, Odd)>;
 
-/// What a hub leaves that it did not take, and how many bytes its only wire took. Hubs are dropped by calls of `drop` alone,
-/// since each place that drops one by itself is dear to prove.
+/// What a hub leaves that it did not take, and how many bytes its only wire took. Hubs end here alone, since each place
+/// that drops one is dear to prove.
 fn left_by(hub: Hub<PipeWire>) -> (Left, Option<u64>) {
     let (end, wires) = hub.into_end();
     let taken = taken(&wires);
@@ -221,92 +203,91 @@ fn left_by(hub: Hub<PipeWire>) -> (Left, Option<u64>) {
     (left, taken)
 }
 
-/// What two turns of a hub answer and whether they write nothing, how many were strangers, and how many bytes the only wire
-/// that was admitted took.
-type Played = (Turns, u64, Option<u64>);
+/// What two turns of a hub answer and whether they write nothing, how many were strangers, how many bytes the only wire
+/// that was admitted took, and what was not taken.
+type Played = (Turns, u64, Option<u64>, Left);
 
-/// These of a hub to which one connection came, and what is left of that.
-fn seen_of(alloc: Global, came: Connection<'_>) -> Result<(Played, Left), Fail> {
-    let mut hub = hub(alloc)?;
+/// These of a hub to which one connection comes, and which then ends.
+fn last_played(hub: Hub<PipeWire>, alloc: Global, came: Connection<'_>) -> Played
+    requires course { hub.course ≡ on.Open }
+    requires objects { hub.coordinator.settings.objects ≤ 2 }
+{
+    let mut hub = hub;
     let turns = over_one(&mut hub, alloc, came);
     let strangers = hub.strangers();
     hub.halt();
     let (left, taken) = left_by(hub);
-    Ok(((turns, strangers, taken), left))
+    (turns, strangers, taken, left)
 }
 
-/// These of a hub for each of four connections.
-fn played_each(
-    alloc: Global,
-    first: Connection<'_>,
-    second: Connection<'_>,
-    third: Connection<'_>,
-    fourth: Connection<'_>,
-) -> Result<[Played; 4], Fail> {
-    let (first, _) = seen_of(alloc, first)?;
-    let (second, _) = seen_of(alloc, second)?;
-    let (third, _) = seen_of(alloc, third)?;
-    let (fourth, _) = seen_of(alloc, fourth)?;
-    Ok([first, second, third, fourth])
+/// The same of a new hub.
+fn played(alloc: Global, came: Connection<'_>) -> Option<Played> {
+    match hub(alloc) {
+        Some(hub) => Some(last_played(hub, alloc, came)),
+        None => None,
+    }
 }
 
-#[test]
-fn strangers_are_closed_and_counted(rt: HostRuntime) -> Result<(), Fail> {
-    let played = played_each(
-        rt.alloc(),
-        came(&LONG),
-        came(&HELLO_OF_3),
-        came(&HELLO_IN_3),
-        came(&HELLO_TO_6),
-    )?;
-    let turns = Some((HubTurn::Quiet, HubTurn::Quiet, true));
-    assert_eq!(rt; played, [(turns, 1, None); 4]);
-    Ok(())
-}
+/// Bytes that come and whether their connection ends behind them, what both turns answer, how many are strangers, how
+/// many bytes the only wire took, and what is not taken.
+type Case<'a> = (&'a [u8], bool, HubTurn, u64, Option<u64>, Left);
 
-/// A hub that monitor 2 closed, by so many bytes.
-fn closed(turn: HubTurn, taken: u64) -> Played {
-    (Some((turn, turn, true)), 0, Some(taken))
-}
-
-#[test]
-fn what_is_wrong_behind_a_hello_closes_the_hub(rt: HostRuntime) -> Result<(), Fail> {
-    let cut_off = Connection {
-        has_ended: true,
-        ..came(&SETTLED[..28])
+fn holds(alloc: Global, case: Case<'_>) -> bool {
+    let (bytes, has_ended, turn, strangers, taken, left) = case;
+    let connection = Connection {
+        has_ended,
+        ..came(bytes)
     };
-    let played = played_each(
-        rt.alloc(),
-        came(&TWICE),
-        came(&NO_KIND),
-        came(&BORDER_1),
-        cut_off,
-    )?;
-    let hello = CoordRefusal::NotForCoordinator(Kind::Hello);
-    let border = CoordRefusal::BadBorder {
+    let turns = Some((turn, turn, true));
+    played(alloc, connection) == Some((turns, strangers, taken, left))
+}
+
+/// The first case that does not hold, up to their number.
+fn first_wrong(alloc: Global, cases: &[Case<'_>]) -> usize {
+    for i in 0..cases.len() {
+        if !holds(alloc, cases[i]) {
+            return i;
+        }
+    }
+    cases.len()
+}
+
+#[test]
+fn strangers_are_closed_and_counted(rt: HostRuntime) {
+    static CASES: [Case<'static>; 4] = [
+        (&LONG, false, HubTurn::Quiet, 1, None, None),
+        (&HELLO_OF_3, false, HubTurn::Quiet, 1, None, None),
+        (&HELLO_IN_3, false, HubTurn::Quiet, 1, None, None),
+        (&HELLO_TO_6, false, HubTurn::Quiet, 1, None, None),
+    ];
+    assert!(rt; first_wrong(rt.alloc(), &CASES) == 4);
+}
+
+#[test]
+fn what_is_wrong_behind_a_hello_closes_the_hub_and_is_left(rt: HostRuntime) {
+    const HELLO: HubTurn = HubTurn::Refused(Mon(2), CoordRefusal::NotForCoordinator(Kind::Hello));
+    const BORDER: CoordRefusal = CoordRefusal::BadBorder {
         border: 1,
         least: 0,
     };
-    let wanted = [
-        closed(HubTurn::Refused(Mon(2), hello), 36),
-        closed(HubTurn::Bad(Mon(2), BadFrame::BadKind { kind: 9 }), 23),
-        closed(HubTurn::Refused(Mon(2), border), 99),
-        closed(HubTurn::Failed, 28),
+    const BAD: HubTurn = HubTurn::Bad(Mon(2), BadFrame::BadKind { kind: 9 });
+    const SECOND: Left = Some((Mon(2), Odd::Hello(5, 1, Mon(2))));
+    const KIND: Left = Some((Mon(2), Odd::Kind(9)));
+    const REPORT: Left = Some((Mon(2), Odd::Else));
+    static CASES: [Case<'static>; 4] = [
+        (&TWICE, false, HELLO, 0, Some(36), SECOND),
+        (&NO_KIND, false, BAD, 0, Some(23), KIND),
+        (
+            &BORDER_1,
+            false,
+            HubTurn::Refused(Mon(2), BORDER),
+            0,
+            Some(99),
+            REPORT,
+        ),
+        (&CUT_OFF, true, HubTurn::Failed, 0, Some(28), None),
     ];
-    assert_eq!(rt; played, wanted);
-    Ok(())
-}
-
-#[test]
-fn what_was_not_taken_is_left_at_the_end(rt: HostRuntime) -> Result<(), Fail> {
-    let (_, twice) = seen_of(rt.alloc(), came(&TWICE))?;
-    let (_, kind) = seen_of(rt.alloc(), came(&NO_KIND))?;
-    let hello = Odd::Hello(5, 1, Mon(2));
-    assert_eq!(rt;
-        (twice, kind),
-        (Some((Mon(2), hello)), Some((Mon(2), Odd::Kind(9))))
-    );
-    Ok(())
+    assert!(rt; first_wrong(rt.alloc(), &CASES) == 4);
 }
 
 /// The Hello of monitor 2 over a slow wire, of which a call behind those that bring it fails.
@@ -322,25 +303,25 @@ fn failing(call: u64) -> Connection<'static>
 }
 
 /// The first such call whose failure is not the answer of both turns, up to the call 21.
-fn first_late(alloc: Global) -> Result<u64, Fail> {
+fn first_late(alloc: Global) -> u64 {
+    let turns = Some((HubTurn::Failed, HubTurn::Failed, true));
     for call in 1..21 {
-        let (played, _) = seen_of(alloc, failing(call))?;
-        if played != closed(HubTurn::Failed, 18) {
-            return Ok(call);
+        if played(alloc, failing(call)) != Some((turns, 0, Some(18), None)) {
+            return call;
         }
     }
-    Ok(21)
+    21
 }
 
 #[test]
-fn a_failed_call_is_answered_at_every_turn(rt: HostRuntime) -> Result<(), Fail> {
-    let late = first_late(rt.alloc())?;
-    assert_eq!(rt; late, 21);
-    Ok(())
+fn a_failed_call_is_answered_at_every_turn(rt: HostRuntime) {
+    assert!(rt; first_late(rt.alloc()) == 21);
 }
 
 /// How many are strangers once one more connection is greeted, and whether monitor 2 is there.
-fn greeted(hub: &mut Hub<PipeWire>, alloc: Global, bytes: &[u8]) -> Option<(u64, bool)>
+type Greeted = Option<(u64, bool)>;
+
+fn greeted(hub: &mut Hub<PipeWire>, alloc: Global, bytes: &[u8]) -> Greeted
     requires { hub.old.course ≡ on.Open }
     ensures { hub.new.course ≡ on.Open }
 {
@@ -349,108 +330,28 @@ fn greeted(hub: &mut Hub<PipeWire>, alloc: Global, bytes: &[u8]) -> Option<(u64,
     Some((hub.strangers(), hub.is_admitted(Mon(2))))
 }
 
-#[test]
-fn a_monitor_is_admitted_once(rt: HostRuntime) -> Result<(), Fail> {
-    let alloc = rt.alloc();
-    let mut hub = hub(alloc)?;
+/// The same of a Hello to another run and of two Hellos of monitor 2, in a hub that then ends.
+fn last_greeted(hub: Hub<PipeWire>, alloc: Global) -> (Greeted, Greeted, Greeted)
+    requires { hub.course ≡ on.Open }
+{
+    let mut hub = hub;
     let other = greeted(&mut hub, alloc, &HELLO_TO_6);
     let first = greeted(&mut hub, alloc, &TWICE[..18]);
     let second = greeted(&mut hub, alloc, &TWICE[..18]);
-    drop(hub);
-    assert_eq!(rt;
-        (other, first, second),
-        (Some((1, false)), Some((1, true)), Some((2, true)))
-    );
-    Ok(())
+    left_by(hub);
+    (other, first, second)
 }
 
-/// What a hub does with the last two of 65 connections that say nothing.
-fn crowded(hub: &mut Hub<PipeWire>, alloc: Global) -> Option<(Admitted, Admitted)>
-    requires { hub.old.course ≡ on.Open }
-{
-    for _ in 0..63 {
-        let_in(hub, alloc, came(b""))?;
+/// The same of a new hub.
+fn all_greeted(alloc: Global) -> Option<(Greeted, Greeted, Greeted)> {
+    match hub(alloc) {
+        Some(hub) => Some(last_greeted(hub, alloc)),
+        None => None,
     }
-    Some((
-        let_in(hub, alloc, came(b""))?,
-        let_in(hub, alloc, came(b""))?,
-    ))
 }
 
 #[test]
-fn one_connection_too_many_is_closed(rt: HostRuntime) -> Result<(), Fail> {
-    let mut hub = hub(rt.alloc())?;
-    let last = crowded(&mut hub, rt.alloc());
-    drop(hub);
-    assert_eq!(rt; last, Some((Admitted::Kept, Admitted::Closed)));
-    Ok(())
-}
-
-/// Whether these bytes go out to a monitor.
-fn gives(hub: &mut Hub<PipeWire>, pipe: &mut Pipe, mon: Mon, bytes: &[u8]) -> bool {
-    if mon.0 == 0 || mon.0 > hub.coordinator().settings().monitors() {
-        return false;
-    }
-    let mut given = [0; 64];
-    hub.drain(mon, pipe);
-    let count = pipe.get(&mut given);
-    &given[..count] == bytes
-}
-
-/// What two turns answer over one connection of each version and whether they write the final line, and whether all that
-/// is due goes out to each.
-fn finished(
-    hub: &mut Hub<PipeWire>,
-    alloc: Global,
-) -> Option<((HubTurn, HubTurn, bool), bool, bool)>
-    requires course { hub.old.course ≡ on.Open }
-    requires objects { hub.old.coordinator.settings.objects ≤ 2 }
-{
-    let_in(hub, alloc, came(&SECOND))?;
-    let_in(hub, alloc, came(&FIRST))?;
-    let turns = two_turns(hub, alloc, b"final 1 cut 1:0 2:0 members a\n")?;
-    let mut pipe = Pipe::new(alloc, 256).ok()?;
-    let first = gives(hub, &mut pipe, Mon(1), &TO_FIRST);
-    Some((turns, first, gives(hub, &mut pipe, Mon(2), &TO_SECOND)))
-}
-
-#[test]
-fn a_hub_speaks_each_version_to_its_end(rt: HostRuntime) -> Result<(), Fail> {
-    let mut hub = hub(rt.alloc())?;
-    let seen = finished(&mut hub, rt.alloc());
-    drop(hub);
-    let turns = (HubTurn::Finished, HubTurn::Finished, true);
-    assert_eq!(rt; seen, Some((turns, true, true)));
-    Ok(())
-}
-
-/// What a push to monitor 2 answers behind a retune, and then two turns of one frame of it; none where it is not admitted.
-fn by_hand(hub: &mut Hub<PipeWire>) -> Option<(Pushed, HubTurn, HubTurn)>
-    requires { hub.old.course ≡ on.Open }
-{
-    hub.retune(1, 1).ok()?;
-    if !hub.is_admitted(Mon(2)) {
-        return None;
-    }
-    let pushed = hub.push(Mon(2)).ok()?;
-    if !hub.is_admitted(Mon(2)) {
-        return None;
-    }
-    let first = hub.take_one(Mon(2));
-    if first != HubTurn::More || !hub.is_admitted(Mon(2)) {
-        return None;
-    }
-    Some((pushed, first, hub.take_one(Mon(2))))
-}
-
-#[test]
-fn a_frame_is_taken_at_a_time(rt: HostRuntime) -> Result<(), Fail> {
-    let alloc = rt.alloc();
-    let mut hub = hub(alloc)?;
-    let greeted = greeted(&mut hub, alloc, &SETTLED);
-    let answers = by_hand(&mut hub);
-    drop(hub);
-    let wanted = (Pushed::Empty, HubTurn::More, HubTurn::Quiet);
-    assert_eq!(rt; (greeted, answers), (Some((0, true)), Some(wanted)));
-    Ok(())
+fn a_monitor_is_admitted_once(rt: HostRuntime) {
+    let wanted = (Some((1, false)), Some((1, true)), Some((2, true)));
+    assert!(rt; all_greeted(rt.alloc()) == Some(wanted));
 }

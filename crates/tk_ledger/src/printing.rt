@@ -5,7 +5,7 @@ ghost use Rattle.tk_base.specs.History.{last_of};
 ghost use Rattle.tk_input.specs.Files.{HasRisen};
 ghost use Rattle.tk_input.specs.Sink.{Grows, GrowsByFront};
 ghost use Rattle.tk_ledger.specs.Printing.{AreNamed, print_faults};
-ghost use Rattle.tk_ledger.specs.Text.{is_tuned, ledger_text, line_at, line_with, lines_of, monitors_text, sets_text, summary_of, text_by, text_of, ticked_at, ticked_text_of, ticks_text, totals_text};
+ghost use Rattle.tk_ledger.specs.Text.{is_tuned, ledger_text, line_at, line_with, lines_of, monitors_text, publications_text, sets_text, summary_of, text_by, text_of, ticked_at, ticked_text_of, ticks_text, totals_text};
 ghost use Rattle.tk_window.specs.TickEnds.{ticks_at};
 ghost use Rattle.tk_ledger.specs.declared.printing.PrintFault.TheVariants.{NoMemory as OutOfMemory, WriteFailed as NotWritten};
 
@@ -63,6 +63,21 @@ impl From<PutFailed> for PrintFault {
     }
 }
 
+/// Puts a line, and drops it by name: each place that drops one by itself is dear to prove.
+fn put_line<O: Sink>(line: Vec<u8>, out: &mut O) -> Result<(), PrintFault>
+    ensures ok { OnOk result (Grows (O.written out.old) (O.written out.new) line.items) }
+    ensures err { OnErr result (GrowsByFront (O.written out.old) (O.written out.new) line.items) }
+    ensures failed { IsErrOf result PrintFault.WriteFailed → HasRisen (O.fault_count out.old) (O.fault_count out.new) }
+    ensures counted { O.fault_count out.new ≡ print_faults result (O.fault_count out.old) }
+{
+    let put = out.put(line.as_slice());
+    drop(line);
+    match put {
+        Ok(()) => Ok(()),
+        Err(PutFailed) => Err(PrintFault::WriteFailed),
+    }
+}
+
 /// Writes the three lines over all monitors.
 fn print_totals<O: Sink>(alloc: Global, ledger: &Ledger, out: &mut O) -> Result<(), PrintFault>
     ensures ok { OnOk result (Grows (O.written out.old) (O.written out.new) (totals_text ledger.now)) }
@@ -70,9 +85,9 @@ fn print_totals<O: Sink>(alloc: Global, ledger: &Ledger, out: &mut O) -> Result<
     ensures failed { IsErrOf result PrintFault.WriteFailed → HasRisen (O.fault_count out.old) (O.fault_count out.new) }
     ensures counted { O.fault_count out.new ≡ print_faults result (O.fault_count out.old) }
 {
-    out.put(&frames_line(alloc, ledger)?)?;
-    out.put(&rounds_line(alloc, ledger)?)?;
-    out.put(&bytes_line(alloc, ledger)?)?;
+    put_line(frames_line(alloc, ledger)?, out)?;
+    put_line(rounds_line(alloc, ledger)?, out)?;
+    put_line(bytes_line(alloc, ledger)?, out)?;
     Ok(())
 }
 
@@ -84,7 +99,7 @@ fn print_monitors<O: Sink>(alloc: Global, per: &PerMonitor, out: &mut O) -> Resu
     ensures counted { O.fault_count out.new ≡ print_faults result (O.fault_count out.old) }
 {
     for i in 0..per.len() {
-        out.put(&monitor_line(alloc, i as u64 + 1, per.at(i))?)?;
+        put_line(monitor_line(alloc, i as u64 + 1, per.at(i))?, out)?;
     }
     Ok(())
 }
@@ -193,7 +208,7 @@ fn print_publications<O: Sink>(
     let mut tuned = false;
     for entry in journal {
         if let Some(line) = line_by(alloc, entry, names, tuned, ticks)? {
-            out.put(&line)?;
+            put_line(line, out)?;
         }
         tuned |= is_retune(entry);
     }
@@ -217,6 +232,18 @@ fn last_line(alloc: Global, journal: &[Noted], names: &Catalog) -> Result<(u64, 
         tuned |= is_retune(entry);
     }
     Ok((count, line))
+}
+
+/// Writes how many publications there are, and the line of the last of them.
+fn print_last<O: Sink>(alloc: Global, last: &(u64, Vec<u8>), out: &mut O) -> Result<(), PrintFault>
+    ensures ok { OnOk result (Grows (O.written out.old) (O.written out.new) (publications_text last.now.0 ++ last.now.1.items)) }
+    ensures err { OnErr result (GrowsByFront (O.written out.old) (O.written out.new) (publications_text last.now.0 ++ last.now.1.items)) }
+    ensures failed { IsErrOf result PrintFault.WriteFailed → HasRisen (O.fault_count out.old) (O.fault_count out.new) }
+    ensures counted { O.fault_count out.new ≡ print_faults result (O.fault_count out.old) }
+{
+    put_line(publications_line(alloc, last.0)?, out)?;
+    out.put(&last.1)?;
+    Ok(())
 }
 
 /// Writes the lines of the publications of a story, each by one put. From the first entry `Tuned` on, a publication's
@@ -287,8 +314,6 @@ pub fn print_summary<O: Sink>(
     ensures failed { IsErrOf result PrintFault.WriteFailed → HasRisen (O.fault_count out.old) (O.fault_count out.new) }
     ensures counted { O.fault_count out.new ≡ print_faults result (O.fault_count out.old) }
 {
-    let (count, line) = last_line(alloc, story.journal(), names)?;
-    out.put(&publications_line(alloc, count)?)?;
-    out.put(&line)?;
+    print_last(alloc, &last_line(alloc, story.journal(), names)?, out)?;
     print_totals(alloc, &Ledger::of(alloc, story)?, out)
 }

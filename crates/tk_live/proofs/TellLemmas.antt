@@ -13,7 +13,7 @@ use Rattle.tk_ledger.specs.declared.printing.PrintFault.{PrintFault}
 use Rattle.tk_ledger.specs.declared.printing.PrintFault.TheVariants as g
 use Rattle.std.specs.Prelude.{OnOk, OnErr}
 use Rattle.tk_load.specs.declared.input.Input.{Input}
-use Rattle.tk_run.specs.Headline.{IsSound}
+use Rattle.tk_verify.specs.Headline.{IsSound}
 use Rattle.tk_story.proofs.PublishedLemmas.{IsPublished, last_is_full, published_holds}
 use Rattle.tk_story.specs.Ends.{AreOfOneRun, TellsDifference, kept_by}
 use Rattle.tk_story.specs.Kept.{KeptStory}

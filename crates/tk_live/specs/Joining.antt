@@ -9,7 +9,7 @@ use Rattle.tk_ledger.specs.Text.{ledger_text, lines_of}
 use Rattle.tk_ledger.specs.declared.printing.PrintFault.{PrintFault}
 use Rattle.tk_ledger.specs.declared.printing.PrintFault.TheVariants as f
 use Rattle.tk_load.specs.declared.input.Input.{Input}
-use Rattle.tk_run.specs.Surroundings.{Output}
+use Rattle.tk_load.specs.Surroundings.{Output}
 use Rattle.tk_story.specs.Ends.{HaveNothingOdd, joined, kept_by}
 use Rattle.tk_story.specs.Story.{StoryView}
 use Rattle.tk_story.specs.declared.ends.Ends.{Ends}

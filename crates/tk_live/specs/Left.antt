@@ -4,7 +4,7 @@ use Rattle.std.specs.List.{concat}
 use Rattle.tk_input.specs.Sink.{GrowsByFront}
 use Rattle.tk_ledger.specs.Text.{lines_of}
 use Rattle.tk_load.specs.declared.input.Input.{Input}
-use Rattle.tk_run.specs.Surroundings.{Output}
+use Rattle.tk_load.specs.Surroundings.{Output}
 use Rattle.tk_serve.specs.declared.served.Why.TheVariants as w
 use Rattle.tk_story.specs.Ends.{joined, kept_by}
 use Rattle.tk_live.specs.Complete.{IsComplete}

@@ -6,8 +6,8 @@ use Rattle.tk_input.specs.Logs.{beginnings}
 use Rattle.tk_input.specs.Sink.{Grows, GrowsByFront}
 use Rattle.tk_ledger.specs.Text.{lines_of, text_of}
 use Rattle.tk_load.specs.declared.input.Input.{Input}
-use Rattle.tk_run.specs.Headline.{IsSound}
-use Rattle.tk_run.specs.Surroundings.{IsUnwritten, Output}
+use Rattle.tk_verify.specs.Headline.{IsSound}
+use Rattle.tk_load.specs.Surroundings.{IsUnwritten, Output}
 use Rattle.tk_story.specs.Ends.{AreOfOneRun, IsFirstOfAll, kept_by}
 use Rattle.tk_story.specs.Kept.{KeptStory}
 use Rattle.tk_story.specs.Moments.{IsOver}

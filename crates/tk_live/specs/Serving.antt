@@ -6,7 +6,7 @@ use Rattle.tk_load.specs.Reads.{Loads}
 use Rattle.tk_load.specs.declared.input.Input.{Input}
 use Rattle.tk_load.specs.declared.status.Status.{Status}
 use Rattle.tk_load.specs.declared.status.Status.TheVariants as s
-use Rattle.tk_run.specs.Surroundings.{IsUnwritten, Output}
+use Rattle.tk_load.specs.Surroundings.{IsUnwritten, Output}
 use Rattle.tk_live.specs.Lived.{Concludes}
 use Rattle.tk_live.specs.Traffic.{LiveSurroundings, Traffic}
 use Rattle.tk_live.specs.declared.outcome.Outcome.{Outcome}

@@ -3,7 +3,7 @@ use Rattle.std.specs.Prelude.{ℕ, List, Option}
 use Rattle.tk_input.specs.declared.files.Files.{Ghosts as FilesOf}
 use Rattle.tk_input.specs.declared.sink.Sink.{Ghosts as SinkOf}
 use Rattle.tk_load.specs.Reads.{FileReads, reads_by}
-use Rattle.tk_run.specs.Surroundings.{Output, output_by}
+use Rattle.tk_load.specs.Surroundings.{Output, output_by}
 use Rattle.tk_wire.specs.Net.{NetState}
 
 -- what its output was given, and how many bytes were taken from its links, before the run and after it

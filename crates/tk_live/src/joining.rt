@@ -1,7 +1,7 @@
 ghost use Rattle.std.specs.Prelude.{◌≡◌, OnOk, OnErr};
 ghost use Rattle.tk_input.specs.Files.{HasRisen};
 ghost use Rattle.tk_input.specs.Sink.{Grows, GrowsByFront};
-ghost use Rattle.tk_run.specs.Surroundings.{output_by};
+ghost use Rattle.tk_load.specs.Surroundings.{output_by};
 ghost use Rattle.tk_story.specs.Ends.{AreOfOneRun};
 ghost use Rattle.tk_live.specs.Joining.{ConcludesEnds, ConcludesStory, IsVerdictOf, ledger_lines};
 ghost use Rattle.tk_live.specs.declared.verdict.Verdict.TheVariants.{LinkFault as Unlinked, WriteFault as Unwritten};
@@ -11,8 +11,8 @@ use std::alloc::Global;
 use tk_base::{Cut, Settings};
 use tk_input::{Logs, Sink};
 use tk_ledger::{Ledger, PrintFault, print_ledger};
-use tk_run::a_finished_run_is_sound;
 use tk_story::{Ends, Story};
+use tk_verify::a_finished_run_is_sound;
 use tk_world::serialize;
 
 /// Writes the lines of the ledger of a story.

@@ -9,7 +9,7 @@ ghost use Rattle.tk_live.specs.Hosting.{CanHost};
 ghost use Rattle.tk_live.specs.Left.{ConcludesLeft};
 ghost use Rattle.tk_live.specs.Lived.{AreOfInput, EndsOver};
 ghost use Rattle.tk_live.specs.Made.{all_made};
-ghost use Rattle.tk_run.specs.Surroundings.{output_by};
+ghost use Rattle.tk_load.specs.Surroundings.{output_by};
 ghost use Rattle.tk_live.specs.declared.verdict.Verdict.TheVariants.{LinkFault as Unlinked, WriteFault as Unwritten};
 
 use crate::ending::{Choice, choose, is_odd};

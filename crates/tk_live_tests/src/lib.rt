@@ -1,5 +1,5 @@
-//! The tests of tk_live of what its runs leave and how they end, which no clause says: over links in memory and over sockets they
-//! are done, and just the bytes of their frames go over the links; over a net whose calls fail or that turns a byte they end with
+//! The tests of tk_live of what its runs leave and how they end, which no clause says: over links in memory they are done, and just
+//! the bytes of their frames go over the links; over a net whose calls fail or that turns a byte they end with
 //! their status; and two feeders run at once.
 #![tactic(auto)]
 

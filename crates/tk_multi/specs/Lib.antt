@@ -1,5 +1,6 @@
 pub mod Alone
 pub mod Answers
+pub mod Beginning
 pub mod Front
 pub mod Laws
 pub mod Multi

@@ -90,7 +90,8 @@ impl Multi {
         ensures err { IfErr result (λ e. Refuses e (multi_of names.now logs queries.now)) }
     {
         let alones = each_alone(alloc, names, &logs, queries)?;
-        let Begun { multi, .. } = begin(alloc, logs, alones)?;
+        let Begun { multi, names: own } = begin(alloc, logs, alones)?;
+        drop(own);
         Ok(multi)
     }
 }
@@ -111,7 +112,13 @@ impl<N: Nodes + Drop> Multi<N> {
           worlds = worlds.items;
         }) }
     {
-        let front = Front::start(alloc, &logs)?;
+        let Ok(front) = Front::start(alloc, &logs) else {
+            // By name: `?` would drop each of them here, which is dear to prove.
+            drop(logs);
+            drop(watches);
+            drop(worlds);
+            return Err(NoMemory);
+        };
         Ok(Multi {
             logs,
             front,

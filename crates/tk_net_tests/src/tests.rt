@@ -149,30 +149,6 @@ fn connected(net: &mut MemNet) -> Option<(MemLink, MemLink)>
     Some((below, above))
 }
 
-/// What comes of 1, 2 over one link and then 3, 4 over another, where this byte is turned.
-fn turned(alloc: Global, flip: Option<u64>) -> Option<[u8; 4]> {
-    let mut net = MemNet::new(alloc, Vec::new(alloc), flip).ok()?;
-    net.listen().ok()?;
-    let (mut first, mut of_first) = connected(&mut net)?;
-    let (mut second, mut of_second) = connected(&mut net)?;
-    first.give(&[1, 2]);
-    second.give(&[3, 4]);
-    let mut bytes = [0; 4];
-    of_first.take(&mut bytes[..2]);
-    of_second.take(&mut bytes[2..]);
-    Some(bytes)
-}
-
-#[test]
-fn one_byte_is_turned(rt: HostRuntime) -> Result<(), Fail> {
-    assert_eq!(rt; turned(rt.alloc(), None), Some([1, 2, 3, 4]));
-    assert_eq!(rt; turned(rt.alloc(), Some(0)), Some([254, 2, 3, 4]));
-    assert_eq!(rt; turned(rt.alloc(), Some(1)), Some([1, 253, 3, 4]));
-    assert_eq!(rt; turned(rt.alloc(), Some(3)), Some([1, 2, 3, 251]));
-    assert_eq!(rt; turned(rt.alloc(), Some(4)), Some([1, 2, 3, 4]));
-    Ok(())
-}
-
 /// What four gives of 70,000, 1, 1 and 2 bytes answer, where the other end takes one byte before the third.
 fn crowded(alloc: Global) -> Option<[Gave; 4]> {
     let many = Vec::from_elem(alloc, 7, 70_000).ok()?;

@@ -1,4 +1,4 @@
-//! The tests of tk_port, of what no clause says, and each of its calls once.
+//! Tests of tk_port over its public calls: what closes a port and is left of it, and what its turns answer.
 #![tactic(auto)]
 
 #[cfg(test)]

@@ -1,18 +1,16 @@
 //! Monitor 1 over a log of the objects a and b, at its end of a connection of run 5 over which these bytes come.
 
 ghost use Rattle.std.specs.Prelude.{◌≡◌, ◌<◌, ◌≤◌, [], IfSome, length};
-ghost use Rattle.tk_frames.specs.Spelling.{IsVersion};
 ghost use Rattle.tk_trail.specs.Setup.{IsSetup};
 ghost use Rattle.tk_port.specs.declared.course.Course.TheVariants as on;
 
 use std::alloc::Global;
-use std::test::Fail;
 use tk_base::{Feeder, Mon, Obj, Places, Settings};
 use tk_frames::{BadFrame, Frame};
 use tk_input::{Catalog, Logs, Part};
 use tk_monitor::{Checked, Monitor, Raised};
 use tk_port::{Port, Turn};
-use tk_story::{MonEnd, Received};
+use tk_story::Received;
 use tk_trail::MonitorRefusal;
 use tk_wire::{Pipe, PipeWire, Pushed, Wire};
 
@@ -51,23 +49,6 @@ const NO_KIND: [u8; 30] = [
     0, 0, 0, 21, 5, 0, 0, 0, 0, 0, 0, 0, 1, 0, 0, 0, 1, 0, 0, 0, 1, 0, 0, 0, 0, 0, 0, 0, 1, 9,
 ];
 
-/// Stop.
-const STOP: [u8; 5] = [0, 0, 0, 1, 7];
-
-/// Assign 1 with no change, in version 2.
-const ASSIGN_2: [u8; 9] = [0, 0, 0, 5, 5, 1, 1, 1, 0];
-
-/// Hello of monitor 1 in run 5 and version 1, and the answer of an empty log to Assign 1: a Settled that is the last.
-const GREETED_1: [u8; 40] = [
-    0, 0, 0, 14, 1, 0, 0, 0, 0, 0, 0, 0, 5, 1, 0, 0, 0, 1, 0, 0, 0, 18, 6, 0, 0, 0, 0, 0, 0, 0, 1,
-    1, 0, 0, 0, 1, 0, 0, 0, 0,
-];
-
-/// The same in version 2.
-const GREETED_2: [u8; 27] = [
-    0, 0, 0, 14, 1, 0, 0, 0, 0, 0, 0, 0, 5, 2, 0, 0, 0, 1, 0, 0, 0, 5, 6, 1, 1, 1, 0,
-];
-
 /// Logs of the objects a and b, with one part of these records.
 fn logs_of(alloc: Global, records: &[u8]) -> Option<Logs> {
     let names = Catalog::read(alloc, b"a\nb\n").ok()?;
@@ -75,7 +56,10 @@ fn logs_of(alloc: Global, records: &[u8]) -> Option<Logs> {
     let objects = names.len() as u32;
     drop(names);
     let part = part.ok()?;
-    let parts = vec![in alloc; (Mon(1), part)].ok()?;
+    let Ok(mut parts) = Vec::with_capacity(alloc, 1) else {
+        return None;
+    };
+    parts.push_reserved((Mon(1), part));
     Logs::new(alloc, parts, objects).ok()
 }
 
@@ -110,21 +94,19 @@ fn wire(alloc: Global, piece: usize, call: u64) -> Option<PipeWire>
     PipeWire::new(alloc, 256, piece, fails).ok()
 }
 
-/// A port of run 5 over such a wire: monitor 1 over these records of the objects a and b.
-fn port(
-    alloc: Global,
-    records: &[u8],
-    version: u8,
-    piece: usize,
-    call: u64,
-) -> Option<Port<PipeWire>>
-    requires version { IsVersion version }
+/// A port of run 5 in version 1 over such a wire: monitor 1 over these records of the objects a and b.
+fn port(alloc: Global, records: &[u8], piece: usize, call: u64) -> Option<Port<PipeWire>>
     requires piece { (0 < piece) × (piece ≤ 65536) }
     ensures { IfSome result (λ port. (port.course ≡ on.Open) × (length port.monitor.setup.parts ≡ 1)) }
 {
     let wire = wire(alloc, piece, call)?;
-    let monitor = monitor(alloc, records)?;
-    Port::new(alloc, wire, monitor, 5, version).ok()
+    match monitor(alloc, records) {
+        Some(monitor) => Port::new(alloc, wire, monitor, 5, 1).ok(),
+        None => {
+            drop(wire);
+            None
+        }
+    }
 }
 
 /// Puts bytes on their way to the port, as far as its wire lets them in.
@@ -138,23 +120,6 @@ fn send(port: &mut Port<PipeWire>, pipe: &mut Pipe, bytes: &[u8])
     }
 }
 
-/// A port of version 1 over such a wire, to which these bytes came.
-fn fed(
-    alloc: Global,
-    records: &[u8],
-    bytes: &[u8],
-    piece: usize,
-    call: u64,
-) -> Option<Port<PipeWire>>
-    requires { (0 < piece) × (piece ≤ 65536) }
-    ensures { IfSome result (λ port. (port.course ≡ on.Open) × (length port.monitor.setup.parts ≡ 1)) }
-{
-    let mut pipe = Pipe::new(alloc, 256).ok()?;
-    let mut port = port(alloc, records, 1, piece, call)?;
-    send(&mut port, &mut pipe, bytes);
-    Some(port)
-}
-
 /// What a turn answers, and how many entries the trail then has.
 type Turned = (Turn, usize);
 
@@ -166,7 +131,7 @@ fn turned(port: &mut Port<PipeWire>) -> Turned
 }
 
 /// What a port does not take: Stop, the kind of a payload or a length that no frame has, or anything else.
-#[derive(Clone, Copy, Debug, PartialEq)]
+#[derive(Clone, Copy, PartialEq)]
 enum Odd {
     Stop,
     Kind(u8),
@@ -186,6 +151,16 @@ fn odd_of(received: Option<&Received>) -> Odd {
     }
 }
 
+/// What a port leaves that it did not take, and how many bytes its wire took. Ports end here alone, since each place that
+/// drops one is dear to prove.
+fn left_by(port: Port<PipeWire>) -> (Odd, u64) {
+    let (end, wire) = port.into_end();
+    let left = (odd_of(end.odd.as_ref()), wire.taken());
+    drop(wire);
+    drop(end);
+    left
+}
+
 /// What is seen of a port: what three turns answered, whether the wire is shut, what was not taken, and how many bytes the
 /// wire took.
 #[derive(Clone, Copy)]
@@ -196,30 +171,32 @@ struct Seen {
     taken: u64,
 }
 
-/// What a port leaves that it did not take, and how many bytes its wire took. Ports are dropped by calls alone, since each
-/// place that drops one by itself is dear to prove.
-fn left_by(port: Port<PipeWire>) -> (Odd, u64) {
-    let (end, wire) = port.into_end();
-    let left = (odd_of(end.odd.as_ref()), wire.taken());
-    drop(wire);
-    drop(end);
-    left
-}
-
-/// What is seen of a port over a wire whose calls move so many bytes and of which one fails, once these bytes came.
-fn played(alloc: Global, bytes: &[u8], piece: usize, call: u64) -> Option<Seen>
-    requires { (0 < piece) × (piece ≤ 65536) }
+/// The same of a port to which these bytes come, and which then ends.
+fn last_seen(port: Port<PipeWire>, pipe: &mut Pipe, bytes: &[u8]) -> Seen
+    requires { port.course ≡ on.Open }
 {
-    let mut port = fed(alloc, b"a,5\n", bytes, piece, call)?;
+    let mut port = port;
+    send(&mut port, pipe, bytes);
     let turns = [turned(&mut port), turned(&mut port), turned(&mut port)];
     let is_shut = port.halted();
     let (odd, taken) = left_by(port);
-    Some(Seen {
+    Seen {
         turns,
         is_shut,
         odd,
         taken,
-    })
+    }
+}
+
+/// The same over a wire whose calls move so many bytes and of which one fails.
+fn played(alloc: Global, bytes: &[u8], piece: usize, call: u64) -> Option<Seen>
+    requires { (0 < piece) × (piece ≤ 65536) }
+{
+    let mut pipe = Pipe::new(alloc, 256).ok()?;
+    match port(alloc, b"a,5\n", piece, call) {
+        Some(port) => Some(last_seen(port, &mut pipe, bytes)),
+        None => None,
+    }
 }
 
 /// What three turns answer, once these bytes came in such pieces.
@@ -230,35 +207,63 @@ fn turns(alloc: Global, bytes: &[u8], piece: usize) -> Option<[Turned; 3]>
     Some(seen.turns)
 }
 
-/// The same answer at each of three turns, behind so many entries.
-fn thrice(turn: Turn, entries: usize) -> Option<[Turned; 3]> {
-    Some([(turn, entries); 3])
+/// Bytes that a port does not take: what it answers at each turn, behind how many entries, what is left of them at its
+/// end, and how many its wire took.
+type Case<'a> = (&'a [u8], Turn, usize, Odd, u64);
+
+fn holds(alloc: Global, case: Case<'_>) -> bool {
+    let (bytes, turn, entries, odd, taken) = case;
+    match played(alloc, bytes, 64, 0) {
+        Some(seen) => {
+            seen.turns == [(turn, entries); 3] && seen.odd == odd && seen.taken == taken
+        }
+        None => false,
+    }
+}
+
+/// The first case that does not hold, up to their number.
+fn first_wrong(alloc: Global, cases: &[Case<'_>]) -> usize {
+    for i in 0..cases.len() {
+        if !holds(alloc, cases[i]) {
+            return i;
+        }
+    }
+    cases.len()
 }
 
 #[test]
-fn what_a_port_does_not_take_closes_it(rt: HostRuntime) -> Result<(), Fail> {
-    let alloc = rt.alloc();
-    let found = [
-        turns(alloc, &TWICE, 64),
-        turns(alloc, &ASSIGN_PAST_LIMIT, 64),
-        turns(alloc, &ASKED_PAST, 64),
-        turns(alloc, &STOPPED, 64),
-        turns(alloc, &[0, 0, 0, 0], 64),
-        turns(alloc, &NO_KIND, 64),
-    ];
-    let wanted = [
-        thrice(
-            Turn::Refused(MonitorRefusal::WrongSequence { has: 1, got: 1 }),
+fn what_a_port_does_not_take_closes_it_and_is_left(rt: HostRuntime) {
+    const AGAIN: MonitorRefusal = MonitorRefusal::WrongSequence { has: 1, got: 1 };
+    const CHANGE: MonitorRefusal = MonitorRefusal::BadChange(Obj(1));
+    const LENGTH: BadFrame = BadFrame::BadLength { length: 0 };
+    const KIND: BadFrame = BadFrame::BadKind { kind: 9 };
+    static CASES: [Case<'static>; 6] = [
+        (&TWICE, Turn::Refused(AGAIN), 2, Odd::Else, 50),
+        (&ASSIGN_PAST_LIMIT, Turn::Refused(CHANGE), 0, Odd::Else, 45),
+        (
+            &ASKED_PAST,
+            Turn::Refused(MonitorRefusal::BadCollect),
             2,
+            Odd::Else,
+            46,
         ),
-        thrice(Turn::Refused(MonitorRefusal::BadChange(Obj(1))), 0),
-        thrice(Turn::Refused(MonitorRefusal::BadCollect), 2),
-        thrice(Turn::Refused(MonitorRefusal::EarlyStop), 2),
-        thrice(Turn::Bad(BadFrame::BadLength { length: 0 }), 0),
-        thrice(Turn::Bad(BadFrame::BadKind { kind: 9 }), 2),
+        (
+            &STOPPED,
+            Turn::Refused(MonitorRefusal::EarlyStop),
+            2,
+            Odd::Stop,
+            30,
+        ),
+        (
+            &[0, 0, 0, 0, 7],
+            Turn::Bad(LENGTH),
+            0,
+            Odd::Length([0; 4]),
+            5,
+        ),
+        (&NO_KIND, Turn::Bad(KIND), 2, Odd::Kind(9), 30),
     ];
-    assert_eq!(rt; found, wanted);
-    Ok(())
+    assert!(rt; first_wrong(rt.alloc(), &CASES) == 6);
 }
 
 /// What three turns answer where this call of the wire fails, and whether the wire is shut. The first gives 18 bytes and
@@ -281,78 +286,17 @@ fn first_late(alloc: Global) -> u64 {
 }
 
 #[test]
-fn a_failed_call_is_answered_at_every_turn(rt: HostRuntime) -> Result<(), Fail> {
-    let found = (first_late(rt.alloc()), failing(rt.alloc(), 20));
+fn a_failed_call_is_answered_at_every_turn(rt: HostRuntime) {
     let late = [(Turn::Quiet, 0), (Turn::Failed, 0), (Turn::Failed, 0)];
-    assert_eq!(rt; found, (20, Some((late, true))));
-    Ok(())
-}
-
-/// What is left of these bytes at a port's end, and how many its wire took.
-fn left_of(alloc: Global, bytes: &[u8]) -> Option<(Odd, u64)> {
-    let seen = played(alloc, bytes, 64, 0)?;
-    Some((seen.odd, seen.taken))
+    assert!(rt; first_late(rt.alloc()) == 20);
+    assert!(rt; failing(rt.alloc(), 20) == Some((late, true)));
 }
 
 #[test]
-fn what_was_not_taken_is_left_at_the_end(rt: HostRuntime) -> Result<(), Fail> {
-    let alloc = rt.alloc();
-    let found = [
-        left_of(alloc, &STOPPED),
-        left_of(alloc, &NO_KIND),
-        left_of(alloc, &[0, 0, 0, 0, 7]),
-    ];
-    let wanted = [
-        Some((Odd::Stop, 30)),
-        Some((Odd::Kind(9), 30)),
-        Some((Odd::Length([0; 4]), 5)),
-    ];
-    assert_eq!(rt; found, wanted);
-    Ok(())
-}
-
-#[test]
-fn a_turn_takes_64_pieces(rt: HostRuntime) -> Result<(), Fail> {
-    let found = (turns(rt.alloc(), &THREE, 1), turns(rt.alloc(), &THREE, 64));
+fn a_turn_takes_64_pieces(rt: HostRuntime) {
     let (more, quiet) = ((Turn::More, 4), (Turn::Quiet, 6));
-    assert_eq!(rt; found, (Some([more, quiet, quiet]), Some([quiet; 3])));
-    Ok(())
-}
-
-/// What both turns of an exchange answer, and whether what went out between them is what was wanted.
-type Exchanged = (Turn, Turn, bool);
-
-/// An exchange over an empty log: an Assign comes, this goes out, and later Stop comes.
-fn exchanged(port: &mut Port<PipeWire>, pipe: &mut Pipe, assign: &[u8], out: &[u8]) -> Exchanged
-    requires { port.old.course ≡ on.Open }
-{
-    let mut bytes = [0; 64];
-    send(port, pipe, assign);
-    let first = port.turn();
-    port.drain(pipe);
-    let count = pipe.get(&mut bytes);
-    send(port, pipe, &STOP);
-    (first, port.turn(), &bytes[..count] == out)
-}
-
-/// Such an exchange with a new port that speaks this version.
-fn greeted(alloc: Global, version: u8, assign: &[u8], out: &[u8]) -> Option<Exchanged>
-    requires { IsVersion version }
-{
-    let mut pipe = Pipe::new(alloc, 256).ok()?;
-    let mut port = port(alloc, b"", version, 64, 0)?;
-    let answers = exchanged(&mut port, &mut pipe, assign, out);
-    drop(port);
-    Some(answers)
-}
-
-#[test]
-fn a_port_greets_and_stops_in_each_version(rt: HostRuntime) -> Result<(), Fail> {
-    let first = greeted(rt.alloc(), 1, &STOPPED[..25], &GREETED_1);
-    let second = greeted(rt.alloc(), 2, &ASSIGN_2, &GREETED_2);
-    let answer = Some((Turn::Quiet, Turn::Stopped, true));
-    assert_eq!(rt; (first, second), (answer, answer));
-    Ok(())
+    assert!(rt; turns(rt.alloc(), &THREE, 1) == Some([more, quiet, quiet]));
+    assert!(rt; turns(rt.alloc(), &THREE, 64) == Some([quiet; 3]));
 }
 
 /// What a check, a push, a turn of one frame and, once the port is halted, two raises answer.
@@ -374,25 +318,36 @@ fn by_hand(port: &mut Port<PipeWire>) -> Option<Answers>
     Some((checked, pushed, taken, first, port.raise(Feeder(1))))
 }
 
-/// These answers of a port to which two Assigns came, and how many entries its trail then has.
-fn raised(alloc: Global) -> Option<(Option<Answers>, usize)> {
-    let mut port = fed(alloc, b"b,5\n", &TWICE, 64, 0)?;
+/// These answers of a port to which two Assigns come, and how many entries its trail has at its end.
+fn last_raised(port: Port<PipeWire>, pipe: &mut Pipe) -> (Option<Answers>, usize)
+    requires course { port.course ≡ on.Open }
+    requires feeder { length port.monitor.setup.parts ≡ 1 }
+{
+    let mut port = port;
+    send(&mut port, pipe, &TWICE);
     let answers = by_hand(&mut port);
     let entries = port.monitor().trail().len();
-    drop(port);
-    Some((answers, entries))
+    left_by(port);
+    (answers, entries)
+}
+
+/// The same of a new port.
+fn raised(alloc: Global) -> Option<(Option<Answers>, usize)> {
+    let mut pipe = Pipe::new(alloc, 256).ok()?;
+    match port(alloc, b"b,5\n", 64, 0) {
+        Some(port) => Some(last_raised(port, &mut pipe)),
+        None => None,
+    }
 }
 
 #[test]
-fn a_raise_is_counted_whatever_the_wire_does(rt: HostRuntime) -> Result<(), Fail> {
-    let seen = raised(rt.alloc());
-    let answers = (
+fn a_raise_is_counted_whatever_the_wire_does(rt: HostRuntime) {
+    const ANSWERS: Answers = (
         Checked::Nothing,
         Pushed::Empty,
         Some(Turn::More),
         Raised::Done { broken: true },
         Raised::Ended,
     );
-    assert_eq!(rt; seen, Some((Some(answers), 3)));
-    Ok(())
+    assert!(rt; raised(rt.alloc()) == Some((Some(ANSWERS), 3)));
 }

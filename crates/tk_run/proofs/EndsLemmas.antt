@@ -5,7 +5,7 @@ use Rattle.tk_load.specs.declared.status.Status.{Status}
 use Rattle.tk_load.specs.declared.status.Status.TheVariants as s
 use Rattle.tk_words.specs.Words.{Asked, words_of}
 use Rattle.tk_run.specs.Ends.{HasRun, IsCutShort, IsDone, IsRefused, served}
-use Rattle.tk_run.specs.Surroundings.{Output}
+use Rattle.tk_load.specs.Surroundings.{Output}
 
 module _ {I S : Type 0} (gives : Result I Status → Type 0) (IsOf : I → S → Type 0) (text : I → S → List ℕ) where
   module _ (output : Output) (input : I) (given : gives (Ok input)) (made : S) (story : IsOf input made) (bytes : List ℕ) (same : bytes ≡ text input made) where

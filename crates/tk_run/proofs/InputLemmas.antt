@@ -18,7 +18,7 @@ use Rattle.tk_run.specs.Ends.{Ends, EndsAsked, EndsWords, IsDone, IsStoryOf, IsT
 use Rattle.tk_run.specs.Laws.{GivesInput}
 use Rattle.tk_run.specs.Multi.{AreAnswersOf, multi_text}
 use Rattle.tk_run.specs.Sessions.{AreStoriesOf, sessions_text}
-use Rattle.tk_run.specs.Surroundings.{Output, Surroundings}
+use Rattle.tk_load.specs.Surroundings.{Output, Surroundings}
 use Rattle.tk_run.proofs.EndsLemmas.{not_refused}
 
 -- no fault is told of what is meant

@@ -3,5 +3,4 @@ mod EndsLemmas
 mod InputLemmas
 mod MultiLemmas
 mod OnceLemmas
-mod OverLemmas
 mod SessionsLemmas

@@ -18,7 +18,7 @@ use Rattle.tk_multi.specs.declared.event.MultiEvent.{MultiEvent}
 use Rattle.tk_story.specs.Kept.{KeptStory}
 use Rattle.tk_story.specs.Moments.{IsOver}
 use Rattle.tk_story.specs.Story.{IsStory, StoryView}
-use Rattle.tk_run.specs.Headline.{IsSound}
+use Rattle.tk_verify.specs.Headline.{IsSound}
 use Rattle.tk_run.specs.Multi.{AreAnswersOf}
 
 -- one more text

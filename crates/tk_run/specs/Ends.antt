@@ -26,7 +26,7 @@ use Rattle.tk_trace.specs.Spelling.{IsRecorded, trace_of}
 use Rattle.tk_trace.specs.declared.trace.Trace.{Trace}
 use Rattle.tk_run.specs.Multi.{AreAnswersOf, multi_text}
 use Rattle.tk_run.specs.Sessions.{AreStoriesOf, sessions_text}
-use Rattle.tk_run.specs.Surroundings.{IsUnwritten, Output, Surroundings}
+use Rattle.tk_load.specs.Surroundings.{IsUnwritten, Output, Surroundings}
 use Rattle.tk_run.specs.declared.outcome.Outcome.{Outcome}
 
 -- ---- the story of an input

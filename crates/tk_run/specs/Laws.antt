@@ -21,8 +21,8 @@ use Rattle.tk_load.specs.declared.input.Input.{Input}
 use Rattle.tk_load.specs.declared.status.Status.{Status}
 use Rattle.tk_load.specs.declared.status.Status.TheVariants.{WriteFault}
 use Rattle.tk_run.specs.Ends.{EndsWords, IsDone, IsStoryOf, IsTracedOf, trace_text}
-use Rattle.tk_run.specs.Headline.{IsSound}
-use Rattle.tk_run.specs.Surroundings.{Surroundings}
+use Rattle.tk_verify.specs.Headline.{IsSound}
+use Rattle.tk_load.specs.Surroundings.{Surroundings}
 
 -- nothing is wrong with the bytes of a trace
 abbrev pub IsRight : List ℕ → Type 0

@@ -7,7 +7,7 @@ use Rattle.tk_multi.specs.Answers.{AreAnswers, events_in}
 use Rattle.tk_multi.specs.Queries.{QueryView, entry_at}
 use Rattle.tk_multi.specs.declared.alone.Alone.{Alone}
 use Rattle.tk_story.specs.Kept.{KeptStory}
-use Rattle.tk_run.specs.Headline.{IsSound}
+use Rattle.tk_verify.specs.Headline.{IsSound}
 
 -- the stories of an input: one answer for each query, in order, and for each all of the headline holds
 pub record AreAnswersOf (input : MultiInput) (stories : List KeptStory) : Type 0 where

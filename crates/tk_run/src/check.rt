@@ -6,12 +6,11 @@ ghost use Rattle.tk_ledger.specs.Printing.{print_faults};
 ghost use Rattle.tk_load.specs.Reads.{AreKept};
 ghost use Rattle.tk_load.specs.declared.status.Status.TheVariants.{Done};
 ghost use Rattle.tk_run.specs.Ends.{EndsAsked, RunsAsked, yes_text};
-ghost use Rattle.tk_run.specs.Headline.{IsSound};
+ghost use Rattle.tk_verify.specs.Headline.{IsSound};
 ghost use Rattle.tk_run.specs.Outcome.{IfDone, IsWithout, faults_told};
-ghost use Rattle.tk_run.specs.Surroundings.{met_by};
+ghost use Rattle.tk_load.specs.Surroundings.{met_by};
 ghost use Rattle.tk_words.specs.Words.Asked.{Checks};
 
-use crate::headline::a_finished_run_is_sound;
 use crate::outcome::Outcome;
 use std::alloc::Global;
 use tk_input::{Catalog, Files, Sink};
@@ -19,6 +18,7 @@ use tk_ledger::{PrintFault, print_sets};
 use tk_load::{Status, load_trace};
 use tk_story::Story;
 use tk_trace::Trace;
+use tk_verify::a_finished_run_is_sound;
 
 /// Writes the sets that a run published, and that all of it is legal.
 fn print_yes<O: Sink>(

@@ -4,51 +4,19 @@ ghost use Rattle.tk_load.specs.declared.input.Input.{Input};
 ghost use Rattle.tk_base.specs.Settings.{Setup};
 ghost use Rattle.tk_input.specs.Logs.{LogSet};
 ghost use Rattle.tk_run.specs.Ends.{IsStoryOf};
-ghost use Rattle.tk_run.specs.Headline.{IsSound, IsSoundSoFar};
 ghost use Rattle.tk_run.specs.Laws.{InputIsRun, PublishedIsValidForItsWindows, WrittenTraceIsChecked};
 ghost use Rattle.tk_run.specs.Sessions.{AreSound};
 ghost use Rattle.tk_session.specs.Chain.{IsChainOf};
 ghost use Rattle.tk_session.specs.declared.session_line.SessionLine.{SessionLine};
 ghost use Rattle.tk_story.specs.Kept.{KeptStory};
-ghost use Rattle.tk_story.specs.Moments.{IsOver};
-ghost use Rattle.tk_story.specs.Story.{IsStory, StoryView};
-ghost use Rattle.tk_verify.specs.Recorded.{ReachesItsEnd};
 
-use tk_journal::{
-    a_start_is_set_up, publications_are_numbered, publications_never_go_back, stop_ends_the_journal,
-};
 use tk_load::{
     a_right_trace_is_read, a_valid_set_is_valid_for_its_windows, a_window_goes_over_the_logs,
     what_is_told_is_meant,
 };
 use tk_session::each_session_is_legal;
-use tk_story::{a_moment_is_a_story, published_is_valid, quiet_is_valid};
 use tk_trace::nothing_is_wrong_with_a_finished_run;
-
-/// A legal story that came to its end, whatever events made it: its journal, or each node's part too.
-pub fn a_finished_run_is_sound()
-    ensures finished { (s : StoryView) → IsStory s → ReachesItsEnd s → IsSound s }
-    ensures over { (s : StoryView) → IsStory s → IsOver s → IsSound s }
-{
-    a_moment_is_a_story();
-    quiet_is_valid();
-    published_is_valid();
-    a_start_is_set_up();
-    stop_ends_the_journal();
-    publications_are_numbered();
-    publications_never_go_back();
-}
-
-/// A legal story, wherever it stands.
-pub fn a_story_is_sound_so_far()
-    ensures { (s : StoryView) → IsStory s → IsSoundSoFar s }
-{
-    a_moment_is_a_story();
-    quiet_is_valid();
-    published_is_valid();
-    publications_are_numbered();
-    publications_never_go_back();
-}
+use tk_verify::{a_finished_run_is_sound, a_story_is_sound_so_far};
 
 /// Each session of an order is sound as far as it went, and the last one is finished.
 pub fn sessions_are_sound()

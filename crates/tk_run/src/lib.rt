@@ -20,9 +20,10 @@ mod titled;
 mod trace;
 
 pub use headline::{
-    a_finished_run_is_sound, a_set_is_valid_for_its_windows, a_story_is_sound_so_far,
-    a_written_trace_is_checked, an_input_has_one_story, an_input_is_run, sessions_are_sound,
+    a_set_is_valid_for_its_windows, a_written_trace_is_checked, an_input_has_one_story,
+    an_input_is_run, sessions_are_sound,
 };
 pub use outcome::Outcome;
 pub use serving::run;
 pub use tk_load::{InputKind, Status, fault_line};
+pub use tk_verify::{a_finished_run_is_sound, a_story_is_sound_so_far};

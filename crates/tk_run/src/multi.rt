@@ -7,11 +7,10 @@ ghost use Rattle.tk_load.specs.declared.status.Status.TheVariants.{Done};
 ghost use Rattle.tk_run.specs.Ends.{EndsAsked, RunsAsked};
 ghost use Rattle.tk_run.specs.Multi.{queries_text, query_title};
 ghost use Rattle.tk_run.specs.Outcome.{IfDone, IsWithout, faults_told};
-ghost use Rattle.tk_run.specs.Surroundings.{met_by};
+ghost use Rattle.tk_load.specs.Surroundings.{met_by};
 ghost use Rattle.tk_words.specs.Asked.{AreOfMonitors, asked_multi};
 ghost use Rattle.tk_words.specs.Words.Asked.{Queries as Asks};
 
-use crate::headline::a_finished_run_is_sound;
 use crate::outcome::Outcome;
 use crate::titled::print_titled;
 use std::alloc::Global;
@@ -23,6 +22,7 @@ use tk_ledger::PrintFault;
 use tk_load::{MultiInput, Status, load_multi};
 use tk_multi::{Queries, Told, tell};
 use tk_story::Story;
+use tk_verify::a_finished_run_is_sound;
 use tk_words::Multi;
 
 /// The line above the text of a query.

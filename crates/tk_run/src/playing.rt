@@ -2,12 +2,11 @@ ghost use Rattle.std.specs.Prelude.{◌≡◌, IfOk, OnOk, length};
 ghost use Rattle.tk_drain.specs.Drive.{Drives};
 ghost use Rattle.tk_load.specs.Whole.{AreAgreed};
 ghost use Rattle.tk_run.specs.Ends.{IsStoryOf, events_in};
-ghost use Rattle.tk_run.specs.Headline.{IsSound};
+ghost use Rattle.tk_verify.specs.Headline.{IsSound};
 ghost use Rattle.tk_story.specs.Moments.{IsOver};
 ghost use Rattle.tk_story.specs.Story.{IsStory};
 ghost use Rattle.tk_words.specs.Asked.{IsCarriage};
 
-use crate::headline::a_finished_run_is_sound;
 use std::alloc::Global;
 use tk_base::NoMemory;
 use tk_bytes::{ByteWorld, byte_world};
@@ -15,6 +14,7 @@ use tk_drain::{a_drive_is_reached, drive, finish, what_is_reached_runs};
 use tk_input::{Catalog, Order};
 use tk_load::Input;
 use tk_story::Story;
+use tk_verify::a_finished_run_is_sound;
 use tk_window::TickEnds;
 use tk_words::Carriage;
 

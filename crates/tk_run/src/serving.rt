@@ -2,9 +2,9 @@ ghost use Rattle.std.specs.Prelude.{◌≡◌, IfSome, map, string_bytes};
 ghost use Rattle.tk_load.specs.Reads.{AreKept};
 ghost use Rattle.tk_load.specs.declared.status.Status.TheVariants.{Done};
 ghost use Rattle.tk_run.specs.Ends.{EndsWords, RunsWords};
-ghost use Rattle.tk_run.specs.Headline.{IsSound};
+ghost use Rattle.tk_verify.specs.Headline.{IsSound};
 ghost use Rattle.tk_run.specs.Outcome.{IfDone, IsWithout, faults_told};
-ghost use Rattle.tk_run.specs.Surroundings.{met_by};
+ghost use Rattle.tk_load.specs.Surroundings.{met_by};
 
 use crate::check::serve_check;
 use crate::generated::serve as generate;

@@ -9,7 +9,7 @@ ghost use Rattle.tk_load.specs.declared.status.Status.TheVariants.{Done};
 ghost use Rattle.tk_run.specs.Ends.{EndsAsked, RunsAsked};
 ghost use Rattle.tk_run.specs.Outcome.{IfDone, IsWithout, faults_told};
 ghost use Rattle.tk_run.specs.Sessions.{AreStoriesOf, lines_in, session_title, stories_text};
-ghost use Rattle.tk_run.specs.Surroundings.{met_by};
+ghost use Rattle.tk_load.specs.Surroundings.{met_by};
 ghost use Rattle.tk_session.specs.Chain.{IsChainOf};
 ghost use Rattle.tk_words.specs.Asked.{AreOfMonitors, asked_sources};
 ghost use Rattle.tk_words.specs.Words.Asked.{Restarts};

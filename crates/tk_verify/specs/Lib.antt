@@ -1,4 +1,5 @@
 pub mod Driving
 pub mod Faults
+pub mod Headline
 pub mod Recorded
 pub mod Verifying

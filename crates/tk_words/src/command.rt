@@ -44,15 +44,19 @@ fn asked<'a>(alloc: Global, verb: Verb, matches: &ArgMatches<'a>) -> Result<Comm
 {
     match verb {
         Verb::Replay => Ok(Command::Replay(replay_with(alloc, matches, None)?)),
-        Verb::Generate => Ok(Command::Generate(generate::values(matches).ok_or(
-            WordsFault::Usage,
-        )?)),
+        Verb::Generate => match generate::values(matches) {
+            Some(values) => Ok(Command::Generate(values)),
+            None => Err(WordsFault::Usage),
+        },
         Verb::Live => Ok(Command::Live(live::values(alloc, matches)?)),
         Verb::Window => Ok(Command::Replay(window::values(alloc, matches)?)),
         Verb::Multi => Ok(Command::Multi(multi::values(alloc, matches)?)),
         Verb::Sessions => Ok(Command::Sessions(sessions::values(alloc, matches)?)),
         Verb::Trace => Ok(Command::Trace(replay_with(alloc, matches, None)?)),
-        Verb::Check => Ok(Command::Check(named_file(matches, "file").ok_or(WordsFault::Usage)?)),
+        Verb::Check => match named_file(matches, "file") {
+            Some(file) => Ok(Command::Check(file)),
+            None => Err(WordsFault::Usage),
+        },
     }
 }
 

@@ -36,7 +36,9 @@ pub fn values<'a>(alloc: Global, matches: &ArgMatches<'a>) -> Result<Live<'a>, W
     ensures monitors { IfOk result (λ l. AreOfMonitors l.sources.logs.items) }
     ensures version { IfOk result (λ l. (l.frames ≡ 1) ⊎ (l.frames ≡ 2)) }
 {
-    let frames = frames(matches).ok_or(WordsFault::Usage)?;
+    let Some(frames) = frames(matches) else {
+        return Err(WordsFault::Usage);
+    };
     let sources = sources_with(alloc, matches, None, None)?;
     Ok(Live { sources, frames })
 }

@@ -38,9 +38,15 @@ pub fn values<'a>(alloc: Global, matches: &ArgMatches<'a>) -> Result<Multi<'a>, 
     ensures usage { IsErrOf result WordsFault.Usage → multi_of (rows_of (found_of matches.now)) ≡ None }
     ensures monitors { IfOk result (λ m. AreOfMonitors m.logs.items) }
 {
-    let objects = named_file(matches, "objects").ok_or(WordsFault::Usage)?;
-    let queries = named_file(matches, "queries").ok_or(WordsFault::Usage)?;
-    let order = order(matches).ok_or(WordsFault::Usage)?;
+    let Some(objects) = named_file(matches, "objects") else {
+        return Err(WordsFault::Usage);
+    };
+    let Some(queries) = named_file(matches, "queries") else {
+        return Err(WordsFault::Usage);
+    };
+    let Some(order) = order(matches) else {
+        return Err(WordsFault::Usage);
+    };
     let logs = logs(alloc, matches)?;
     Ok(Multi {
         objects,

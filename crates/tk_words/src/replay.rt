@@ -38,8 +38,12 @@ pub fn replay_with<'a>(
     ensures monitors { IfOk result (λ r. AreOfMonitors r.sources.logs.items) }
     ensures carriage { IfOk result (λ r. IsCarriage r.carriage) }
 {
-    let carriage = carriage_in(matches).ok_or(WordsFault::Usage)?;
-    let order = order(matches).ok_or(WordsFault::Usage)?;
+    let Some(carriage) = carriage_in(matches) else {
+        return Err(WordsFault::Usage);
+    };
+    let Some(order) = order(matches) else {
+        return Err(WordsFault::Usage);
+    };
     let sources = sources_with(alloc, matches, order, width)?;
     Ok(Replay { sources, carriage })
 }

@@ -24,6 +24,8 @@ pub fn values<'a>(alloc: Global, matches: &ArgMatches<'a>) -> Result<Sources<'a>
     ensures usage { IsErrOf result WordsFault.Usage → sessions_of (rows_of (found_of matches.now)) ≡ None }
     ensures monitors { IfOk result (λ r. AreOfMonitors r.logs.items) }
 {
-    let order = order(matches).ok_or(WordsFault::Usage)?;
+    let Some(order) = order(matches) else {
+        return Err(WordsFault::Usage);
+    };
     sources_with(alloc, matches, order, None)
 }

@@ -86,10 +86,18 @@ pub fn sources_with<'a>(
         → spec.sources_with (text_in order.entry) width (rows_of (found_of matches.now)) ≡ None }
     ensures monitors { IfOk result (λ r. AreOfMonitors r.logs.items) }
 {
-    let k = short(matches, "k").ok_or(WordsFault::Usage)?;
-    let epsilon = long(matches, "epsilon").ok_or(WordsFault::Usage)?;
-    let own_weight = own_weight(matches).ok_or(WordsFault::Usage)?;
-    let objects = named_file(matches, "objects").ok_or(WordsFault::Usage)?;
+    let Some(k) = short(matches, "k") else {
+        return Err(WordsFault::Usage);
+    };
+    let Some(epsilon) = long(matches, "epsilon") else {
+        return Err(WordsFault::Usage);
+    };
+    let Some(own_weight) = own_weight(matches) else {
+        return Err(WordsFault::Usage);
+    };
+    let Some(objects) = named_file(matches, "objects") else {
+        return Err(WordsFault::Usage);
+    };
     let logs = logs(alloc, matches)?;
     Ok(Sources {
         k,

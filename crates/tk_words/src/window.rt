@@ -27,6 +27,8 @@ pub fn values<'a>(alloc: Global, matches: &ArgMatches<'a>) -> Result<Replay<'a>,
     ensures monitors { IfOk result (λ r. AreOfMonitors r.sources.logs.items) }
     ensures carriage { IfOk result (λ r. IsCarriage r.carriage) }
 {
-    let width = short(matches, "width").ok_or(WordsFault::Usage)?;
+    let Some(width) = short(matches, "width") else {
+        return Err(WordsFault::Usage);
+    };
     replay_with(alloc, matches, Some(width))
 }

@@ -13,6 +13,7 @@ pub mod SeatLemmas
 pub mod SerialLemmas
 pub mod SerializingLemmas
 pub mod StepLemmas
+pub mod StillLemmas
 pub mod TurnLemmas
 pub mod WalkLemmas
 pub mod WorkLemmas

@@ -6,6 +6,7 @@ pub mod Order
 pub mod Runs
 pub mod Seats
 pub mod Serializing
+pub mod Taking
 pub mod Work
 pub mod World
 pub use Rattle.tk_input.specs.Event

@@ -3,6 +3,7 @@ ghost use Rattle.tk_journal.specs.Refusal.{refusal_of};
 ghost use Rattle.tk_journal.specs.declared.noted.Noted.TheVariants.{Got};
 ghost use Rattle.tk_trail.specs.Refusal.{refusal_of as monitor_refusal_of};
 ghost use Rattle.tk_world.specs.Nodes.{IsFresh, having_taken, with_input};
+ghost use Rattle.tk_world.specs.Taking.{CanTakeDown, CanTakeUp, TakesDown, TakesUp};
 ghost use Rattle.tk_world.specs.World.{CanRun};
 
 use crate::nodes::Nodes;
@@ -103,6 +104,38 @@ fn hand_down(monitor: &mut Monitor, frame: Frame) -> Result<(), NoMemory>
     }
 }
 
+/// The coordinator takes the next frame of a seat. Like its counterpart it is a function over the parts, so that no place of
+/// its caller has more to show than that they go on.
+fn take_up(coordinator: &mut Coordinator, seat: &mut Seat, mon: Mon) -> Result<(), NoMemory>
+    requires some_monitor { 0 < mon.0 }
+    requires monitor { mon.0 ≤ coordinator.old.settings.monitors }
+    requires can { CanTakeUp coordinator.old mon.0 seat.old }
+    ensures ok { OnOk result (TakesUp mon coordinator.old coordinator.new seat.old seat.new) }
+    ensures coordinator { OnErr result (coordinator.new ≡ coordinator.old) }
+    ensures seat { OnErr result (seat.new ≡ seat.old) }
+{
+    let frame = seat.monitor.sent_at(seat.got).try_clone()?;
+    hand_up(coordinator, mon, frame)?;
+    prove!(seat.got < seat.monitor.sent());
+    seat.got += 1;
+    Ok(())
+}
+
+/// A monitor takes the next frame of the coordinator.
+fn take_down(coordinator: &Coordinator, seat: &mut Seat, mon: Mon) -> Result<(), NoMemory>
+    requires some_monitor { 0 < mon.0 }
+    requires monitor { mon.0 ≤ coordinator.now.settings.monitors }
+    requires can { CanTakeDown coordinator.now mon.0 seat.old }
+    ensures ok { OnOk result (TakesDown mon.0 coordinator.now seat.old seat.new) }
+    ensures err { OnErr result (seat.new ≡ seat.old) }
+{
+    let frame = coordinator.sent_at(mon, seat.taken).try_clone()?;
+    hand_down(&mut seat.monitor, frame)?;
+    prove!(seat.taken < coordinator.sent(mon));
+    seat.taken += 1;
+    Ok(())
+}
+
 /// The monitors of some seats.
 fn monitors_of(alloc: Global, seats: Vec<Seat>) -> Result<Vec<Monitor>, NoMemory>
     ensures { IfOk result (λ monitors. monitors.items ≡ map (λ seat. seat.monitor) seats.items) }
@@ -144,20 +177,16 @@ impl Nodes for Direct {
     }
 
     fn up(&mut self, mon: Mon) -> Result<(), NoMemory> {
-        let seat = &mut self.seats[mon.0 as usize - 1];
-        let frame = seat.monitor.sent_at(seat.got).try_clone()?;
-        hand_up(&mut self.coordinator, mon, frame)?;
-        prove!(seat.got < seat.monitor.sent());
-        seat.got += 1;
+        take_up(
+            &mut self.coordinator,
+            &mut self.seats[mon.0 as usize - 1],
+            mon,
+        )?;
         Ok(())
     }
 
     fn down(&mut self, mon: Mon) -> Result<(), NoMemory> {
-        let seat = &mut self.seats[mon.0 as usize - 1];
-        let frame = self.coordinator.sent_at(mon, seat.taken).try_clone()?;
-        hand_down(&mut seat.monitor, frame)?;
-        prove!(seat.taken < self.coordinator.sent(mon));
-        seat.taken += 1;
+        take_down(&self.coordinator, &mut self.seats[mon.0 as usize - 1], mon)?;
         Ok(())
     }
 

@@ -93,7 +93,7 @@ pub fn new_seats(
     let count = settings.monitors();
     let mut seats = Vec::with_capacity(alloc, count as usize)?;
     for j in 0..count {
-        seats.push(new_seat(alloc, settings, logs, from, Mon(j + 1))?)?;
+        seats.push_reserved(new_seat(alloc, settings, logs, from, Mon(j + 1))?);
     }
     Ok(seats)
 }

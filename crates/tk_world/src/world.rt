@@ -53,8 +53,14 @@ impl World {
         requires { CanRun settings logs from }
         ensures { IfOk result (λ w. w ≡ record { story = begin settings logs from; events = [] }) }
     {
-        let nodes = Direct::new(alloc, settings, &logs, &from)?;
-        World::over(alloc, nodes, logs, from)
+        match Direct::new(alloc, settings, &logs, &from) {
+            Ok(nodes) => World::over(alloc, nodes, logs, from),
+            Err(NoMemory) => {
+                drop(logs);
+                drop(from);
+                Err(NoMemory)
+            }
+        }
     }
 }
 
@@ -65,7 +71,15 @@ impl<N: Nodes + Drop> World<N> {
         requires fresh { IsFresh (N.seen nodes) logs from }
         ensures { IfOk result (λ w. w ≡ record { story = begin (N.seen nodes).coordinator.settings logs from; events = [] }) }
     {
-        let diary = Diary::new(alloc, left_after(&logs, &from))?;
+        // The logs are read for their clause, their limits.
+        let _ = logs.monitors();
+        let Ok(diary) = Diary::new(alloc, left_after(&logs, &from)) else {
+            // Here and below by name: `?` would drop each of them by itself, which is dear to prove.
+            drop(logs);
+            drop(from);
+            drop(nodes);
+            return Err(NoMemory);
+        };
         let mut work = Work::none();
         work.insert_sent(nodes.coordinator().journal());
         Ok(World {
@@ -282,7 +296,13 @@ impl<N: Nodes> World<N> {
             diary,
             ..
         } = self;
-        let (coordinator, monitors) = nodes.into_parts(diary.alloc())?;
+        let Ok(parts) = nodes.into_parts(diary.alloc()) else {
+            drop(logs);
+            drop(from);
+            drop(diary);
+            return Err(NoMemory);
+        };
+        let (coordinator, monitors) = parts;
         let settings = *coordinator.settings();
         Ok(Story::of(
             coordinator,

@@ -1,4 +1,4 @@
-//! Tests of tk_world over its public calls: which events are idle, and what runs give.
+//! Tests of tk_world over its public calls: what a run that is retuned gives.
 #![tactic(auto)]
 
 #[cfg(test)]

@@ -1,10 +1,6 @@
-//! Worlds of the objects a and b, with one feeder each for two monitors, and what their stories say.
-
-mod runs;
-mod serialized;
+//! A world of the objects a and b, with one feeder each for two monitors, and what its story says.
 
 use std::alloc::Global;
-use std::test::Fail;
 use tk_base::{Cut, Feeder, Mon, ObjSet, Pairs, Settings};
 use tk_frames::Frame;
 use tk_input::{Catalog, Event, Logs, Part};
@@ -22,23 +18,45 @@ enum Does {
     Retune(u64, u128),
 }
 
-/// Both monitors take their first Assign, and the coordinator their answers.
-const SETTLED: [Does; 4] = [Does::Down(1), Does::Down(2), Does::Up(1), Does::Up(2)];
+/// Both monitors take their first Assign, and the coordinator their answers; then a change at monitor 1, and k 2 and
+/// epsilon 7.
+const RETUNED: [Does; 6] = [
+    Does::Down(1),
+    Does::Down(2),
+    Does::Up(1),
+    Does::Up(2),
+    Does::Raise(1, 1),
+    Does::Retune(2, 7),
+];
 
-fn event(alloc: Global, does: Does) -> Result<Event, Fail> {
-    Ok(match does {
+/// What may go on by itself.
+const ROUND: [Does; 6] = [
+    Does::Check(1),
+    Does::Up(1),
+    Does::Down(1),
+    Does::Check(2),
+    Does::Up(2),
+    Does::Down(2),
+];
+
+fn event(alloc: Global, does: Does) -> Option<Event> {
+    Some(match does {
         Does::Raise(mon, f) => Event::Raise(Mon(mon), Feeder(f)),
         Does::Check(mon) => Event::Check(Mon(mon)),
         Does::Up(mon) => Event::Up(Mon(mon)),
         Does::Down(mon) => Event::Down(Mon(mon)),
-        Does::Retune(k, epsilon) => Event::retune(alloc, k, epsilon)?,
+        Does::Retune(k, epsilon) => Event::retune(alloc, k, epsilon).ok()?,
     })
 }
 
 fn logs_over(alloc: Global, names: &Catalog) -> Option<Logs> {
     let first = Part::read(alloc, b"a,5\n", names).ok()?;
     let second = Part::read(alloc, b"b,3\n", names).ok()?;
-    let parts = vec![in alloc; (Mon(1), first), (Mon(2), second)].ok()?;
+    let Ok(mut parts) = Vec::with_capacity(alloc, 2) else {
+        return None;
+    };
+    parts.push_reserved((Mon(1), first));
+    parts.push_reserved((Mon(2), second));
     Logs::new(alloc, parts, names.len() as u32).ok()
 }
 
@@ -49,59 +67,54 @@ fn logs(alloc: Global) -> Option<Logs> {
 }
 
 /// A world over them, with k 1 and epsilon 0.
-fn world(alloc: Global) -> Result<World, Fail> {
-    let settings = Settings::new(1, 0, 1, 2, 2)?;
-    let Some(logs) = logs(alloc) else {
-        return Err("no logs")?;
-    };
+fn world(alloc: Global) -> Option<World> {
+    let settings = Settings::new(1, 0, 1, 2, 2).ok()?;
+    let logs = logs(alloc)?;
     if settings.objects() != logs.objects() || settings.monitors() != logs.monitors() {
-        return Err("other logs")?;
+        drop(logs);
+        return None;
     }
-    let from = logs.start(alloc)?;
-    Ok(World::new(alloc, settings, logs, from)?)
+    let Ok(from) = logs.start(alloc) else {
+        drop(logs);
+        return None;
+    };
+    World::new(alloc, settings, logs, from).ok()
 }
 
-fn moves(alloc: Global, world: &mut World, does: Does) -> Result<Moved, Fail> {
+fn moves(alloc: Global, world: &mut World, does: Does) -> Option<Moved> {
     let event = event(alloc, does)?;
-    let moved = world.step(event)?;
-    Ok(moved)
+    world.step(event).ok()
 }
 
-/// Makes these events happen, none of which is idle.
-fn play(alloc: Global, world: &mut World, does: &[Does]) -> Result<(), Fail> {
+/// Makes these events happen, and answers whether none is idle.
+fn play(alloc: Global, world: &mut World, does: &[Does]) -> bool {
     for does in does {
-        if moves(alloc, world, *does)? == Moved::Idle {
-            return Err("idle")?;
+        if moves(alloc, world, *does) != Some(Moved::Yes) {
+            return false;
         }
     }
-    Ok(())
+    true
 }
 
-/// Checks and delivers until nothing of that is enabled.
-fn settle(alloc: Global, world: &mut World) -> Result<(), Fail> {
+/// Makes those of these events happen that are enabled.
+fn go_on(alloc: Global, world: &mut World, does: &[Does]) -> Option<()> {
+    for does in does {
+        moves(alloc, world, *does)?;
+    }
+    Some(())
+}
+
+/// Checks and delivers, and answers whether nothing of that is enabled any more.
+fn settle(alloc: Global, world: &mut World) -> bool {
     for _ in 0..40 {
-        for mon in 1..3 {
-            moves(alloc, world, Does::Check(mon))?;
-            moves(alloc, world, Does::Up(mon))?;
-            moves(alloc, world, Does::Down(mon))?;
+        if go_on(alloc, world, &ROUND).is_none() {
+            return false;
         }
         if world.is_settled() {
-            return Ok(());
+            return true;
         }
     }
-    Err("not settled")?
-}
-
-/// The story of a world, where what was done with it went well. Tests end a world here alone, since each place that may
-/// drop one is dear to prove.
-fn story_of(world: World, done: Result<(), Fail>) -> Result<Story, Fail> {
-    match done {
-        Ok(()) => Ok(world.into_story()?),
-        Err(fail) => {
-            drop(world);
-            Err(fail)
-        }
-    }
+    false
 }
 
 /// A publication in plain numbers: its number, k, epsilon, whether it is the last, its members, and the
@@ -176,4 +189,45 @@ fn has_factors(story: &Story, mon: u32, wanted: &[(u32, i128)]) -> bool {
         }
     }
     false
+}
+
+/// Whether a story has the sets before and behind the retune, and then the factors of each monitor.
+type Seen = (bool, bool, bool, bool);
+
+fn seen_in(story: &Story) -> Seen {
+    let first = Publishes(1, 1, 0, false, &[1], &[0, 0]);
+    let second = Publishes(2, 2, 7, false, &[1, 2], &[1, 0]);
+    (
+        is_published(story, first),
+        is_published(story, second),
+        has_factors(story, 1, &[(1, -1), (2, 2)]),
+        has_factors(story, 2, &[(1, 4), (2, 2)]),
+    )
+}
+
+/// What is seen of a world that is retuned, settles and ends. It ends here alone, since each place that may drop a world
+/// or a story is dear to prove.
+fn last_seen(alloc: Global, world: World) -> Option<Seen> {
+    let mut world = world;
+    let done = play(alloc, &mut world, &RETUNED) && settle(alloc, &mut world);
+    let Ok(story) = world.into_story() else {
+        return None;
+    };
+    let seen = seen_in(&story);
+    drop(story);
+    if done { Some(seen) } else { None }
+}
+
+/// The same of a new world.
+fn seen_of(alloc: Global) -> Option<Seen> {
+    match world(alloc) {
+        Some(world) => last_seen(alloc, world),
+        None => None,
+    }
+}
+
+#[test]
+fn a_retune_deals_by_its_epsilon(rt: HostRuntime) {
+    let seen = seen_of(rt.alloc());
+    assert!(rt; seen == Some((true, true, true, true)));
 }

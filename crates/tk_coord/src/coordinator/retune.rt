@@ -10,6 +10,7 @@ ghost use Rattle.tk_coord.specs.Grounds.{OpensOver};
 ghost use Rattle.tk_coord.specs.Steps.{IsRetuned, retuned_to};
 
 use crate::coordinator::Coordinator;
+use crate::coordinator::room::make_room;
 use crate::outcomes::open_wide;
 use crate::phase::Phase;
 use crate::step::{Outcome, retune_turn};
@@ -75,22 +76,23 @@ impl Coordinator {
         ensures legal { (o : Opening) → o.settings ≡ self.old.settings → IsLegal o self.old.journal → IsLegal o self.new.journal }
     {
         let next = self.tuned(k, epsilon)?;
-        let alloc = self.journal.alloc();
-        let (Ok(outcome), Ok(kept)) = (self.wide(), KeptEpsilon::new(alloc, next.epsilon())) else {
+        let Ok(kept) = KeptEpsilon::new(self.journal.alloc(), next.epsilon()) else {
             return Err(RetuneRefusal::NoMemory);
         };
-        let Outcome {
-            entries,
-            reply,
-            phase,
-        } = outcome;
-        let more = entries.len() + 1;
-        let (Ok(()), Ok(())) = (self.journal.reserve(more), self.turns.reserve()) else {
+        let Ok(outcome) = self.wide() else {
+            drop(kept);
             return Err(RetuneRefusal::NoMemory);
         };
+        let more = outcome.entries.len() + 1;
+        let Ok(()) = make_room(&mut self.journal, &mut self.turns, more) else {
+            drop(kept);
+            drop(outcome);
+            return Err(RetuneRefusal::NoMemory);
+        };
+        let phase = outcome.phase;
         self.journal.push(Noted::Tuned(next.k(), kept));
-        self.journal.append(entries);
-        self.state.reply(reply);
+        self.journal.append(outcome.entries);
+        self.state.reply(outcome.reply);
         self.phase = Phase { next, ..phase };
         let calm = self.state.is_calm();
         self.turns.push(retune_turn(calm));

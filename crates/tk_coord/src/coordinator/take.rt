@@ -23,6 +23,7 @@ ghost use Rattle.tk_coord.specs.declared.step.Reply.TheVariants.{Nothing};
 use crate::answer::Progress;
 use crate::checks::Known;
 use crate::coordinator::Coordinator;
+use crate::coordinator::room::keep;
 use crate::dealing::passes;
 use crate::outcomes::{end_round, end_short, nothing, open_full, open_wide};
 use crate::peer::waits_for_no_other;
@@ -32,7 +33,7 @@ use crate::refusals::{Shown, refusal_of, shown_of};
 use crate::step::{Outcome, Reply, Statement, Step, short_kind};
 use tk_alloc::Reported;
 use tk_base::{Mon, NoMemory};
-use tk_frames::{Frame, KeptFrame};
+use tk_frames::Frame;
 use tk_journal::{CoordRefusal, Noted, Turn, TurnKind};
 
 impl Coordinator {
@@ -283,19 +284,19 @@ impl Coordinator {
         ensures err { IfErr result (λ e. (e.0 ≡ NoRoom) × (e.1 ≡ frame) × (self.new ≡ self.old)) }
         ensures settings { self.new.settings ≡ self.old.settings }
     {
+        let more = step.outcome.entries.len() + 1;
+        let kept = match keep(&mut self.journal, &mut self.turns, frame, more) {
+            Ok(kept) => kept,
+            Err(frame) => {
+                drop(step);
+                return Err((CoordRefusal::NoMemory, frame));
+            }
+        };
         let Outcome {
             entries,
             reply,
             phase,
         } = step.outcome;
-        let kept = match KeptFrame::new(self.journal.alloc(), frame) {
-            Ok(kept) => kept,
-            Err(frame) => return Err((CoordRefusal::NoMemory, frame)),
-        };
-        let more = entries.len() + 1;
-        let (Ok(()), Ok(())) = (self.journal.reserve(more), self.turns.reserve()) else {
-            return Err((CoordRefusal::NoMemory, kept.into_frame()));
-        };
         self.journal.push(Noted::Got(mon, kept));
         self.journal.append(entries);
         self.state.take(mon, step.statement);

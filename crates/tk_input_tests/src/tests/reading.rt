@@ -58,62 +58,6 @@ fn a_catalogue_is_refused_at_its_first_fault(rt: HostRuntime) {
     assert!(rt; is_full && is_over && are_faults(rt.alloc(), &CASES));
 }
 
-/// How many names begin with a prefix, and which object a name is among them.
-fn among(
-    alloc: Global,
-    names: &Catalog,
-    prefix: &[u8],
-    name: &[u8],
-) -> Option<(usize, Option<Obj>)> {
-    match names.with_prefix(alloc, prefix) {
-        Ok(images) => Some((images.len(), images.find(name))),
-        Err(_) => None,
-    }
-}
-
-/// The same of three names.
-fn among_three(alloc: Global, prefix: &[u8], name: &[u8]) -> Option<(usize, Option<Obj>)> {
-    match Catalog::read(alloc, b"/a\n/img/b\n/img\n") {
-        Ok(names) => among(alloc, &names, prefix, name),
-        Err(_) => None,
-    }
-}
-
-#[test]
-fn a_catalogue_of_names_has_those_of_a_prefix(rt: HostRuntime) {
-    let alloc = rt.alloc();
-    assert!(rt; among_three(alloc, b"/img", b"/img") == Some((2, Some(Obj(2)))));
-    assert!(rt; among_three(alloc, b"/img", b"/a") == Some((2, None)));
-    assert!(rt; among_three(alloc, b"/img/bc", b"/img") == Some((0, None)));
-}
-
-/// So many equal names.
-fn equal_names(alloc: Global, many: usize) -> Option<Vec<Vec<u8>>> {
-    let mut list = Vec::new(alloc);
-    for _ in 0..many {
-        list.push(Vec::from_slice(alloc, b"a,b").ok()?).ok()?;
-    }
-    Some(list)
-}
-
-/// Why so many equal names make no catalogue, or that they do.
-fn fault_of_equal(alloc: Global, many: usize) -> Option<Option<CatalogFault>> {
-    let list = equal_names(alloc, many)?;
-    Some(Catalog::from_names(alloc, list.as_slice()).err())
-}
-
-#[test]
-fn names_are_a_catalogue_by_the_rules_of_a_file(rt: HostRuntime) {
-    let alloc = rt.alloc();
-    let faults = [
-        fault_of_equal(alloc, 0),
-        fault_of_equal(alloc, 1),
-        fault_of_equal(alloc, 2),
-    ];
-    let (empty, repeated) = (CatalogFault::Empty, CatalogFault::Repeated(2));
-    assert!(rt; faults == [Some(Some(empty)), Some(None), Some(Some(repeated))]);
-}
-
 /// Whether a log has these changes, each an object and a number.
 fn has_changes(part: &Part, wanted: &[(u32, i128)]) -> bool {
     for (i, (obj, by)) in wanted.iter().enumerate() {

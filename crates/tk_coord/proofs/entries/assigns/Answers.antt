@@ -1,4 +1,4 @@
-use Rattle.std.proofs.Common.{◌≡◌, ℕ, ◌+◌, ◌-◌, ◌^◌, ◌<◌, ◌≤◌, List, length, get_or, below_more, sym, ap, ◌∙◌, subst}
+use Rattle.std.proofs.Common.{◌≡◌, ℕ, ◌+◌, ◌-◌, ◌^◌, ◌<◌, ◌≤◌, List, length, get_or, below_more, arith, sym, ap, ◌∙◌, subst}
 use Rattle.std.proofs.lemmas.List.{get_or_default}
 use Rattle.std.proofs.lemmas.List.Elements.{All-push}
 use Rattle.tk_frames.specs.declared.frame.Frame.TheVariants as f
@@ -22,16 +22,18 @@ loop-change-preserved c =
     let low : 0 < item.mon.0 = subst (λ (x : MonChange). 0 < x.mon.0) (sym here) named.0 in
     let high : item.mon.0 ≤ length peers = subst (λ (x : MonChange). x.mon.0 ≤ length peers) (sym here) named.1 in
     let seq : c.in_ok-seq.seq ≡ assigns_by peers item.mon.0 + 1 = c.in_ok-seq.ensures.value in
-    let told : n.Sent (record { 0 = item.mon.0 }) (f.Assign c.in_ok-seq.seq c.in_ok-members.members c.in_ok-changes.changes) ≡ assign_to peers members (item.mon.0, item.changes) =
-    λ k. n.Sent (record { 0 = item.mon.0 }) (f.Assign (seq k) (c.in_ok-members.ensures k) (c.in_ok-changes.ensures k)) in
-    let each : ℕ → Type 0 = λ k. (d : MonChange) → assigns_by peers (get_or at k d).mon.0 < 2 ^ 64 - 1 in (
-      assigns_more peers members at i item within c.loop-change.invariant.0 c.in_ok-push.ensures.items
-          (c.in_ok-sent.ensures.value ∙ told ∙ ap (λ (x : MonChange). assign_to peers members (x.mon.0, x.changes)) here),
-      λ k d below.
-          below_more each i (λ q low' e. c.loop-change.invariant.1 q e low')
-          (λ e. subst (λ (x : MonChange). assigns_by peers x.mon.0 < 2 ^ 64 - 1) (here ∙ get_or_default at i item e within) c.in_ok-seq.ensures.room) k below d,
-      λ q.
-          rw c.in_ok-push.ensures.items
-          (All-push (IsEntryOf (length peers) q) c.loop-change.entries.items c.in_ok-sent.field-0 (c.loop-change.invariant.2 q)
-          (c.in_ok-sent.ensures.monitor (length peers) q low high)),
-    )
+    let told : n.Sent (record { 0 = item.mon.0 }) (f.Assign c.in_ok-seq.seq members c.in_ok-changes.changes) ≡ assign_to peers members (item.mon.0, item.changes) =
+    λ k. n.Sent (record { 0 = item.mon.0 }) (f.Assign (seq k) members (c.in_ok-changes.ensures k)) in
+    let each : ℕ → Type 0 = λ k. (d : MonChange) → assigns_by peers (get_or at k d).mon.0 < 2 ^ 64 - 1 in record {
+      same = assigns_more peers members at i item within c.loop-change.invariant.same c.push_reserved.ensures.items
+          (c.in_ok-assign.ensures.value ∙ told ∙ ap (λ (x : MonChange). assign_to peers members (x.mon.0, x.changes)) here);
+      few = λ k d below.
+          below_more each i (λ q low' e. c.loop-change.invariant.few q e low')
+          (λ e. subst (λ (x : MonChange). assigns_by peers x.mon.0 < 2 ^ 64 - 1) (here ∙ get_or_default at i item e within) c.in_ok-seq.ensures.room) k below d;
+      len = omega (arith, c.push_reserved.ensures.len, c.loop-change.invariant.len);
+      room = omega (arith, c.push_reserved.ensures.capacity, c.loop-change.invariant.room);
+      entries = λ q.
+          rw c.push_reserved.ensures.items
+          (All-push (IsEntryOf (length peers) q) c.loop-change.entries.items c.in_ok-assign.field-0 (c.loop-change.invariant.entries q)
+          (c.in_ok-assign.ensures.monitor (length peers) q low high));
+    }

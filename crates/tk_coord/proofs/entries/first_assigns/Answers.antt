@@ -1,4 +1,4 @@
-use Rattle.std.proofs.Common.{◌+◌, ℕ, ℤ, List, [], ap₂, ◌∙◌, arith}
+use Rattle.std.proofs.Common.{◌+◌, ℕ, ℤ, List, [], ap, ◌∙◌, arith}
 use Rattle.std.proofs.lemmas.List.Elements.{All-push}
 use Rattle.tk_frames.specs.declared.frame.Frame.TheVariants as f
 use Rattle.tk_journal.specs.declared.noted.Noted.TheVariants as n
@@ -7,11 +7,13 @@ use Rattle.tk_coord.proofs.BatchLemmas.{one_more}
 use Rattle.tk_coord.proofs.entries.first_assigns.Goals as goal
 
 pub loop-j-preserved : goal.loop-j-preserved
-loop-j-preserved c = (
-  one_more (f.Assign 1 c.args.members.now []) c.loop-j.j [] c.in_ok-push.ensures.items c.loop-j.invariant.0
-      (c.in_ok-sent.ensures.value ∙ ap₂ (λ (m : List ℕ) (p : List (ℕ × ℤ)). n.Sent (record { 0 = c.loop-j.j + 1 }) (f.Assign 1 m p)) c.in_ok-named.ensures c.no_pairs-changes.ensures),
-  λ n.
-      rw c.in_ok-push.ensures.items
-      (All-push (IsEntryOf c.args.monitors n) c.loop-j.entries.items c.in_ok-sent.field-0 (c.loop-j.invariant.1 n)
-      (c.in_ok-sent.ensures.monitor c.args.monitors n (omega arith) (omega arith))),
-)
+loop-j-preserved c = record {
+  same = one_more (f.Assign 1 c.args.members.now []) c.loop-j.j [] c.push_reserved.ensures.items c.loop-j.invariant.same
+      (c.in_ok-assign.ensures.value ∙ ap (λ (p : List (ℕ × ℤ)). n.Sent (record { 0 = c.loop-j.j + 1 }) (f.Assign 1 c.args.members.now p)) c.no_pairs.ensures);
+  len = omega (arith, c.push_reserved.ensures.len, c.loop-j.invariant.len);
+  room = omega (arith, c.push_reserved.ensures.capacity, c.loop-j.invariant.room);
+  entries = λ n.
+      rw c.push_reserved.ensures.items
+      (All-push (IsEntryOf c.args.monitors n) c.loop-j.entries.items c.in_ok-assign.field-0 (c.loop-j.invariant.entries n)
+      (c.in_ok-assign.ensures.monitor c.args.monitors n (omega arith) (omega arith)));
+}

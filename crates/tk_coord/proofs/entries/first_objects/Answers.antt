@@ -1,4 +1,4 @@
-use Rattle.std.proofs.Common.{◌≡◌, ◌+◌, ◌∷◌, [], ◌++◌, List, ℕ, refl, ap, sym, ◌∙◌, subst, false, true}
+use Rattle.std.proofs.Common.{◌≡◌, ◌+◌, ◌∷◌, [], ◌++◌, List, ℕ, refl, ap, sym, ◌∙◌, subst, arith, false, true}
 use Rattle.std.proofs.lemmas.List.{map-append}
 use Rattle.tk_base.specs.Ascending.{IsAscending, numbers_of}
 use Rattle.tk_base.specs.Objects.{objects}
@@ -11,17 +11,25 @@ unfolding objects
 objects_none = refl
 
 pub loop-o-init : goal.loop-o-init
-loop-o-init c = rw c.in_ok-list.ensures.items (sym objects_none)
+loop-o-init c = record {
+  same = rw c.in_ok-list.ensures.items (sym objects_none);
+  len = c.in_ok-list.ensures.len;
+  room = c.in_ok-list.ensures.capacity;
+}
 
 pub loop-o-preserved : goal.loop-o-preserved
-loop-o-preserved c =
-    ap numbers_of c.in_ok-push.ensures.items
-    ∙ map-append (λ o. o.0) c.loop-o.list.items (record { 0 = c.loop-o.o + 1 } ∷ [])
-    ∙ ap (λ (l : List ℕ). l ++ (c.loop-o.o + 1) ∷ []) c.loop-o.invariant
-    ∙ sym (objects_more c.loop-o.o)
+loop-o-preserved c = record {
+  same =
+      ap numbers_of c.push_reserved.ensures.items
+      ∙ map-append (λ o. o.0) c.loop-o.list.items (record { 0 = c.loop-o.o + 1 } ∷ [])
+      ∙ ap (λ (l : List ℕ). l ++ (c.loop-o.o + 1) ∷ []) c.loop-o.invariant.same
+      ∙ sym (objects_more c.loop-o.o);
+  len = omega (arith, c.push_reserved.ensures.len, c.loop-o.invariant.len);
+  room = omega (arith, c.push_reserved.ensures.capacity, c.loop-o.invariant.room);
+}
 
 pub unreachable-requires : goal.unreachable-requires
 unreachable-requires c =
-    let up : IsAscending (numbers_of c.loop-o.list.items) = subst IsAscending (sym c.loop-o.invariant) (ascends (objects c.loop-o.o) (rises-objects c.loop-o.o)) in
+    let up : IsAscending (numbers_of c.loop-o.list.items) = subst IsAscending (sym c.loop-o.invariant.same) (ascends (objects c.loop-o.o) (rises-objects c.loop-o.o)) in
     let never : false ≡ true = c.in-Err.ensures.ascends.1 up in
     cc

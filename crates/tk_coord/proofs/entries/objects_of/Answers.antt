@@ -10,7 +10,11 @@ loop-i-preserved c =
     let objects = objects_of c.args.values.now in
     let within : c.loop-i.i < length objects = omega (arith, length-objects_of c.args.values.now, c.len-i-end.ensures.value, c.loop-i-test.true) in
     let here = object_at c.args.values.now c.loop-i.i (c.at.result.0.0, c.at.result.1) 0 c.at.ensures.value in
-    ap numbers_of c.in_ok-push.ensures.items
-    ∙ map-append (λ o. o.0) c.loop-i.list.items (record { 0 = c.at.result.0.0 } ∷ [])
-    ∙ ap₂ (λ (l : List ℕ) (o : ℕ). l ++ o ∷ []) c.loop-i.invariant (sym here)
-    ∙ sym (take_more objects c.loop-i.i 0 within)
+    record {
+      same = ap numbers_of c.push_reserved.ensures.items
+          ∙ map-append (λ o. o.0) c.loop-i.list.items (record { 0 = c.at.result.0.0 } ∷ [])
+          ∙ ap₂ (λ (l : List ℕ) (o : ℕ). l ++ o ∷ []) c.loop-i.invariant.same (sym here)
+          ∙ sym (take_more objects c.loop-i.i 0 within);
+      len = omega (arith, c.push_reserved.ensures.len, c.loop-i.invariant.len);
+      room = omega (arith, c.push_reserved.ensures.capacity, c.loop-i.invariant.room);
+    }

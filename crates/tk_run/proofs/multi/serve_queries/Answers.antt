@@ -6,7 +6,7 @@ use Rattle.tk_story.specs.Kept.{KeptStory}
 use Rattle.tk_words.specs.Asked.{asked_multi}
 use Rattle.tk_run.specs.Ends.{HasRun}
 use Rattle.tk_run.specs.Multi.{AreAnswersOf, multi_text, queries_text}
-use Rattle.tk_run.specs.Surroundings.{output_by}
+use Rattle.tk_load.specs.Surroundings.{output_by}
 use Rattle.tk_run.proofs.EndsLemmas.{cut_short, has_run}
 use Rattle.tk_run.proofs.MultiLemmas.{all_named, are_sound}
 use Rattle.tk_run.proofs.multi.serve_queries.Goals as goal

@@ -5,7 +5,7 @@ use Rattle.tk_drain.specs.Drive.{Drives}
 use Rattle.tk_world.specs.Events.{begin}
 use Rattle.tk_input.specs.Logs.{beginnings}
 use Rattle.tk_run.specs.Ends.{IsStoryOf, events_in}
-use Rattle.tk_run.specs.Headline.{IsSound}
+use Rattle.tk_verify.specs.Headline.{IsSound}
 use Rattle.tk_run.proofs.playing.story_of.Goals as goal
 
 pub returns-clause-sound : goal.returns-clause-sound

@@ -5,7 +5,7 @@ use Rattle.tk_story.specs.Kept.{KeptStory}
 use Rattle.tk_words.specs.Asked.{asked_sources}
 use Rattle.tk_run.specs.Ends.{HasRun}
 use Rattle.tk_run.specs.Sessions.{AreStoriesOf, sessions_text, stories_text}
-use Rattle.tk_run.specs.Surroundings.{output_by}
+use Rattle.tk_load.specs.Surroundings.{output_by}
 use Rattle.tk_run.proofs.EndsLemmas.{has_run}
 use Rattle.tk_run.proofs.sessions.serve_sessions.Goals as goal
 

@@ -2,7 +2,7 @@ use Rattle.std.proofs.Common.{rules}
 use Rattle.tk_load.specs.Reads.{Loads, reads_by}
 use Rattle.tk_words.specs.Asked.{asked_sources}
 use Rattle.tk_run.specs.Ends.{IsStoryOf, IsTracedOf, trace_text}
-use Rattle.tk_run.specs.Surroundings.{output_by}
+use Rattle.tk_load.specs.Surroundings.{output_by}
 use Rattle.tk_run.proofs.EndsLemmas.{cut_short, has_run}
 use Rattle.tk_run.proofs.trace.serve_trace.Goals as goal
 

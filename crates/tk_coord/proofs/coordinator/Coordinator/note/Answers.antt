@@ -26,7 +26,7 @@ reply-requires c =
 -- the journal with the frame and what follows it
 noted_of : (c : goal.After-push-2) → c.append.new.self.entries ≡ c.self.inside.journal.entries ++ n.Got c.args.mon c.args.frame ∷ c.args.step.outcome.entries.items
 noted_of c =
-    appended _ c.args.step.outcome.entries.items c.reserve.ensures.entries (ap (λ (k : JournalView). k.entries) c.push.ensures) c.append.ensures.entries
+    appended _ c.args.step.outcome.entries.items c.keep.ensures.entries (ap (λ (k : JournalView). k.entries) c.push.ensures) c.append.ensures.entries
     ∙ ap (λ (x : Frame). c.self.inside.journal.entries ++ n.Got c.args.mon x ∷ c.args.step.outcome.entries.items) c.in-Ok.ensures.ok
 
 pub invariant_of-self-2 : goal.invariant_of-self-2
@@ -40,11 +40,11 @@ invariant_of-self-2 c =
     let range : IsMonitor f.settings mon.0 = subst (λ (v : CoordinatorView). IsMonitor v.settings mon.0) (sym c.self.view_is) c.requires.monitor in
     let taken : refusal_of f.settings j mon.0 frame ≡ None = subst (λ (v : CoordinatorView). refusal_of v.settings v.journal mon.0 frame ≡ None) (sym c.self.view_is) c.requires.taken in
     let told = c.take.ensures f.settings j frame step.told range k.holds in
-    let replied = c.reply-2.ensures f.settings (with_got j mon frame) (demanded f.settings j mon.0 frame) step.outcome.reply told in (
-      kept_taken f.settings j c.append.new.self.entries mon frame c.args.step c.is_calm-calm.result f.state c.reply-2.new.self f.phase f.turns.list c.push-2.new.self.list
+    let replied = c.reply.ensures f.settings (with_got j mon frame) (demanded f.settings j mon.0 frame) step.outcome.reply told in (
+      kept_taken f.settings j c.append.new.self.entries mon frame c.args.step c.is_calm-calm.result f.state c.reply.new.self f.phase f.turns.list c.push-2.new.self.list
           k range taken step (noted_of c) replied c.is_calm-calm.ensures
-          (c.push-2.ensures ∙ ap (λ (xs : List Turn). xs ++ record c.args.step.turn { calm = c.is_calm-calm.result } ∷ []) c.reserve-2.ensures.list),
-      c.append.ensures.monitors ∙ ap (λ (v : JournalView). v.monitors) c.push.ensures ∙ c.reserve.ensures.monitors ∙ c.self.invariant.1,
+          (c.push-2.ensures ∙ ap (λ (xs : List Turn). xs ++ record c.args.step.turn { calm = c.is_calm-calm.result } ∷ []) c.keep.ensures.list),
+      c.append.ensures.monitors ∙ ap (λ (v : JournalView). v.monitors) c.push.ensures ∙ c.keep.ensures.monitors ∙ c.self.invariant.1,
     )
 
 pub returns-clause-ok : goal.returns-clause-ok

@@ -1,16 +1,19 @@
-use Rattle.std.proofs.Common.{◌∷◌, ◌++◌, [], ◌∙◌, List, length, refl, sym, ap, arith}
+use Rattle.std.proofs.Common.{◌∷◌, ◌++◌, [], ◌∙◌, List, length, refl, sym, ap, arith, subst}
+use Rattle.std.proofs.lemmas.Result.{err_from_is_err_and}
 use Rattle.std.specs.Prelude.{is_some}
 use Rattle.tk_input.specs.declared.event.Event.{Event}
 use Rattle.tk_input.specs.declared.event.Event.TheVariants.{Down}
 use Rattle.tk_story.specs.Kept.{KeptStory}
+use Rattle.tk_story.specs.Story.{IsStory}
 use Rattle.tk_world.specs.Diary.{DiaryView}
 use Rattle.tk_world.specs.Events.{next_of}
 use Rattle.tk_world.specs.Seats.{story_with}
 use Rattle.tk_coord.specs.Coordinator.{CoordinatorView}
 use Rattle.tk_journal.specs.Links.{frames_to}
 use Rattle.tk_world.proofs.EnabledLemmas.{on_err}
-use Rattle.tk_world.proofs.NodesLemmas.{down_allowed, down_off, down_on, down_with}
+use Rattle.tk_world.proofs.NodesLemmas.{down_allowed, down_off, down_on, down_with, has_seat}
 use Rattle.tk_world.proofs.WorldLemmas.{Leaves, rests}
+use Rattle.tk_world.proofs.StillLemmas.{holds_still, legal_still, same_story}
 use Rattle.tk_world.proofs.world.World.down.Goals as goal
 
 pub returns-then-not-contains-clause-ok : goal.returns-then-not-contains-clause-ok
@@ -69,3 +72,77 @@ returns-clause-ok g c = (
 
 pub returns-clause-legal : goal.returns-clause-legal
 returns-clause-legal g c = (leaves g c).holds.story
+
+pub returns-then-not-contains-clause-enabled : goal.returns-then-not-contains-clause-enabled
+returns-then-not-contains-clause-enabled g c = tt
+
+pub returns-then-not-contains-clause-err : goal.returns-then-not-contains-clause-err
+returns-then-not-contains-clause-err g c = tt
+
+pub returns-then-not-contains-clause-legal : goal.returns-then-not-contains-clause-legal
+returns-then-not-contains-clause-legal g c = subst (λ (k : KeptStory). IsStory k.story) c.self.view_is c.self.invariant.story
+
+pub returns-then-taken-sent-clause-enabled : goal.returns-then-taken-sent-clause-enabled
+returns-then-taken-sent-clause-enabled g c = tt
+
+pub returns-then-taken-sent-clause-err : goal.returns-then-taken-sent-clause-err
+returns-then-taken-sent-clause-err g c = tt
+
+pub returns-then-taken-sent-clause-legal : goal.returns-then-taken-sent-clause-legal
+returns-then-taken-sent-clause-legal g c = subst (λ (k : KeptStory). IsStory k.story) c.self.view_is c.self.invariant.story
+
+pub taken-requires : goal.taken-requires
+taken-requires g c =
+    let w = c.self.inside in
+    has_seat (g.N.Nodes.seen w.nodes) w.logs w.from c.args.mon.0 c.self.invariant.story (c.self.invariant.within c.args.mon.0 (sym c.contains.ensures ∙ c.if-not-contains.false))
+
+pub down-requires-clause-seat : goal.down-requires-clause-seat
+down-requires-clause-seat g c =
+    let w = c.self.inside in
+    has_seat (g.N.Nodes.seen w.nodes) w.logs w.from c.args.mon.0 c.self.invariant.story (c.self.invariant.within c.args.mon.0 (sym c.contains.ensures ∙ c.if-not-contains.false))
+
+-- there is no memory, and the world is as it was
+pub returns-in_err-reserve-clause-ok : goal.returns-in_err-reserve-clause-ok
+returns-in_err-reserve-clause-ok g c = let p = err_from_is_err_and c.from_residual.result c.from_residual.ensures.1 in rw p.1 tt
+
+pub returns-in_err-reserve-clause-err : goal.returns-in_err-reserve-clause-err
+returns-in_err-reserve-clause-err g c =
+    let w = c.self.inside in
+    let v = g.N.Nodes.seen w.nodes in
+    on_err c.from_residual.result (same_story v v w.logs w.from w.diary.events c.reserve.new.self.events c.args.self.now refl c.reserve.ensures.events c.self.view_is)
+
+pub returns-in_err-reserve-clause-legal : goal.returns-in_err-reserve-clause-legal
+returns-in_err-reserve-clause-legal g c = c.self.invariant.story
+
+pub invariant_of-self : goal.invariant_of-self
+invariant_of-self g c =
+    let w = c.self.inside in
+    let v = g.N.Nodes.seen w.nodes in
+    holds_still v v w.logs w.from w.diary.raises c.reserve.new.self.raises w.work refl c.reserve.ensures.raises c.self.invariant
+
+pub returns-in_err-down-clause-ok : goal.returns-in_err-down-clause-ok
+returns-in_err-down-clause-ok g c = let p = err_from_is_err_and c.from_residual-in_err-down.result c.from_residual-in_err-down.ensures.1 in rw p.1 tt
+
+pub returns-in_err-down-clause-err : goal.returns-in_err-down-clause-err
+returns-in_err-down-clause-err g c =
+    let w = c.self.inside in
+    let v = g.N.Nodes.seen w.nodes in
+    on_err c.from_residual-in_err-down.result (same_story v (g.N.Nodes.seen c.down.new.self) w.logs w.from w.diary.events c.reserve.new.self.events c.args.self.now c.in_err-down.ensures.err c.reserve.ensures.events c.self.view_is)
+
+pub returns-in_err-down-clause-legal : goal.returns-in_err-down-clause-legal
+returns-in_err-down-clause-legal g c =
+    let w = c.self.inside in
+    let v = g.N.Nodes.seen w.nodes in
+    legal_still v (g.N.Nodes.seen c.down.new.self) w.logs w.from c.in_err-down.ensures.err c.self.invariant.story
+
+pub invariant_of-self-in_err-down : goal.invariant_of-self-in_err-down
+invariant_of-self-in_err-down g c =
+    let w = c.self.inside in
+    let v = g.N.Nodes.seen w.nodes in
+    holds_still v (g.N.Nodes.seen c.down.new.self) w.logs w.from w.diary.raises c.reserve.new.self.raises w.work c.in_err-down.ensures.err c.reserve.ensures.raises c.self.invariant
+
+pub returns-clause-enabled : goal.returns-clause-enabled
+returns-clause-enabled g c = tt
+
+pub returns-clause-err : goal.returns-clause-err
+returns-clause-err g c = tt

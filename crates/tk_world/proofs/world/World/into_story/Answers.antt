@@ -10,14 +10,14 @@ of-requires-clause-settings g c = sym c.settings-settings.ensures
 pub of-requires-clause-story : goal.of-requires-clause-story
 of-requires-clause-story g c =
     let w = c.self.inside in
-    let parts = c.in_ok-coordinator in
-    subst IsStory (sym (parts_are (g.N.Nodes.seen w.nodes) w.logs w.from parts.coordinator parts.monitors.items c.settings-settings.result.now c.settings-settings.ensures parts.ensures.coordinator parts.ensures.monitors)) c.self.invariant.story
+    let parts = c.in-Ok.parts in
+    subst IsStory (sym (parts_are (g.N.Nodes.seen w.nodes) w.logs w.from parts.0 parts.1.items c.settings-settings.result.now c.settings-settings.ensures c.in-Ok.ensures.coordinator c.in-Ok.ensures.monitors)) c.self.invariant.story
 
 pub returns : goal.returns
 returns g c =
     let w = c.self.inside in
-    let parts = c.in_ok-coordinator in
+    let parts = c.in-Ok.parts in
     ap₂ (λ (s : StoryView) (es : List Event). record { story = s; events = es })
-    (c.of.ensures.story ∙ parts_are (g.N.Nodes.seen w.nodes) w.logs w.from parts.coordinator parts.monitors.items c.settings-settings.result.now c.settings-settings.ensures parts.ensures.coordinator parts.ensures.monitors)
+    (c.of.ensures.story ∙ parts_are (g.N.Nodes.seen w.nodes) w.logs w.from parts.0 parts.1.items c.settings-settings.result.now c.settings-settings.ensures c.in-Ok.ensures.coordinator c.in-Ok.ensures.monitors)
     (c.of.ensures.events ∙ c.into_events.ensures)
     ∙ c.self.view_is

@@ -1,8 +1,10 @@
 use Rattle.std.proofs.Common.{◌≡◌, ◌∷◌, ◌++◌, [], ◌∙◌, ℕ, All, List, length, refl, sym, ap, ap₂, subst, arith}
+use Rattle.std.proofs.lemmas.Result.{err_from_is_err_and}
 use Rattle.std.specs.Prelude.{is_some}
 use Rattle.tk_input.specs.declared.event.Event.{Event}
 use Rattle.tk_input.specs.declared.event.Event.TheVariants.{Retune}
 use Rattle.tk_story.specs.Kept.{KeptStory}
+use Rattle.tk_story.specs.Story.{IsStory}
 use Rattle.tk_world.specs.Diary.{DiaryView}
 use Rattle.tk_world.specs.Events.{next_of}
 use Rattle.tk_world.specs.Seats.{story_with}
@@ -13,6 +15,7 @@ use Rattle.tk_world.proofs.EnabledLemmas.{on_err, retune_enabled, there_is}
 use Rattle.tk_world.proofs.NodesLemmas.{retune_goes_on, retune_with}
 use Rattle.tk_world.proofs.TurnLemmas.{retune_stays}
 use Rattle.tk_world.proofs.WorldLemmas.{Leaves, adds_behind, few_behind}
+use Rattle.tk_world.proofs.StillLemmas.{holds_still, legal_still, same_story}
 use Rattle.tk_world.proofs.world.World.retune.Goals as goal
 use Rattle.tk_input.proofs.CountLemmas.{not_some}
 
@@ -110,3 +113,58 @@ returns-clause-ok g c = (
 
 pub returns-clause-legal : goal.returns-clause-legal
 returns-clause-legal g c = (leaves g c).holds.story
+
+pub returns-then-is_some-clause-enabled : goal.returns-then-is_some-clause-enabled
+returns-then-is_some-clause-enabled g c = tt
+
+pub returns-then-is_some-clause-err : goal.returns-then-is_some-clause-err
+returns-then-is_some-clause-err g c = tt
+
+pub returns-then-is_some-clause-legal : goal.returns-then-is_some-clause-legal
+returns-then-is_some-clause-legal g c = subst (λ (k : KeptStory). IsStory k.story) c.self.view_is c.self.invariant.story
+
+-- there is no memory, and the world is as it was
+pub returns-in_err-reserve-clause-ok : goal.returns-in_err-reserve-clause-ok
+returns-in_err-reserve-clause-ok g c = let p = err_from_is_err_and c.from_residual.result c.from_residual.ensures.1 in rw p.1 tt
+
+pub returns-in_err-reserve-clause-err : goal.returns-in_err-reserve-clause-err
+returns-in_err-reserve-clause-err g c =
+    let w = c.self.inside in
+    let v = g.N.Nodes.seen w.nodes in
+    on_err c.from_residual.result (same_story v v w.logs w.from w.diary.events c.reserve.new.self.events c.args.self.now refl c.reserve.ensures.events c.self.view_is)
+
+pub returns-in_err-reserve-clause-legal : goal.returns-in_err-reserve-clause-legal
+returns-in_err-reserve-clause-legal g c = c.self.invariant.story
+
+pub invariant_of-self : goal.invariant_of-self
+invariant_of-self g c =
+    let w = c.self.inside in
+    let v = g.N.Nodes.seen w.nodes in
+    holds_still v v w.logs w.from w.diary.raises c.reserve.new.self.raises w.work refl c.reserve.ensures.raises c.self.invariant
+
+pub returns-in_err-retune-clause-ok : goal.returns-in_err-retune-clause-ok
+returns-in_err-retune-clause-ok g c = let p = err_from_is_err_and c.from_residual-in_err-retune.result c.from_residual-in_err-retune.ensures.1 in rw p.1 tt
+
+pub returns-in_err-retune-clause-err : goal.returns-in_err-retune-clause-err
+returns-in_err-retune-clause-err g c =
+    let w = c.self.inside in
+    let v = g.N.Nodes.seen w.nodes in
+    on_err c.from_residual-in_err-retune.result (same_story v (g.N.Nodes.seen c.retune.new.self) w.logs w.from w.diary.events c.reserve.new.self.events c.args.self.now c.in_err-retune.ensures.err c.reserve.ensures.events c.self.view_is)
+
+pub returns-in_err-retune-clause-legal : goal.returns-in_err-retune-clause-legal
+returns-in_err-retune-clause-legal g c =
+    let w = c.self.inside in
+    let v = g.N.Nodes.seen w.nodes in
+    legal_still v (g.N.Nodes.seen c.retune.new.self) w.logs w.from c.in_err-retune.ensures.err c.self.invariant.story
+
+pub invariant_of-self-in_err-retune : goal.invariant_of-self-in_err-retune
+invariant_of-self-in_err-retune g c =
+    let w = c.self.inside in
+    let v = g.N.Nodes.seen w.nodes in
+    holds_still v (g.N.Nodes.seen c.retune.new.self) w.logs w.from w.diary.raises c.reserve.new.self.raises w.work c.in_err-retune.ensures.err c.reserve.ensures.raises c.self.invariant
+
+pub returns-clause-enabled : goal.returns-clause-enabled
+returns-clause-enabled g c = tt
+
+pub returns-clause-err : goal.returns-clause-err
+returns-clause-err g c = tt

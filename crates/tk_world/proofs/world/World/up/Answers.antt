@@ -1,16 +1,19 @@
 use Rattle.std.proofs.Common.{◌≡◌, ◌∷◌, ◌++◌, [], ◌∙◌, List, All, length, refl, sym, ap, subst, arith}
+use Rattle.std.proofs.lemmas.Result.{err_from_is_err_and}
 use Rattle.std.specs.Prelude.{is_some}
 use Rattle.tk_input.specs.declared.event.Event.{Event}
 use Rattle.tk_input.specs.declared.event.Event.TheVariants.{Up}
 use Rattle.tk_story.specs.Kept.{KeptStory}
+use Rattle.tk_story.specs.Story.{IsStory}
 use Rattle.tk_world.specs.Diary.{DiaryView}
 use Rattle.tk_world.specs.Events.{next_of}
 use Rattle.tk_world.specs.Seats.{story_with}
 use Rattle.tk_coord.specs.Coordinator.{CoordinatorView}
 use Rattle.tk_journal.specs.Entries.{IsEntryOf}
 use Rattle.tk_world.proofs.EnabledLemmas.{on_err}
-use Rattle.tk_world.proofs.NodesLemmas.{up_allowed, up_goes_on, up_off, up_on, up_with}
+use Rattle.tk_world.proofs.NodesLemmas.{has_seat, up_allowed, up_goes_on, up_off, up_on, up_with}
 use Rattle.tk_world.proofs.WorldLemmas.{Leaves, adds_behind, few_behind, rests}
+use Rattle.tk_world.proofs.StillLemmas.{holds_still, legal_still, same_story}
 use Rattle.tk_world.proofs.world.World.up.Goals as goal
 
 pub returns-then-not-contains-clause-ok : goal.returns-then-not-contains-clause-ok
@@ -100,3 +103,82 @@ returns-clause-ok g c = (
 
 pub returns-clause-legal : goal.returns-clause-legal
 returns-clause-legal g c = (leaves g c).holds.story
+
+pub returns-then-not-contains-clause-enabled : goal.returns-then-not-contains-clause-enabled
+returns-then-not-contains-clause-enabled g c = tt
+
+pub returns-then-not-contains-clause-err : goal.returns-then-not-contains-clause-err
+returns-then-not-contains-clause-err g c = tt
+
+pub returns-then-not-contains-clause-legal : goal.returns-then-not-contains-clause-legal
+returns-then-not-contains-clause-legal g c = subst (λ (k : KeptStory). IsStory k.story) c.self.view_is c.self.invariant.story
+
+pub returns-then-got-sent-clause-enabled : goal.returns-then-got-sent-clause-enabled
+returns-then-got-sent-clause-enabled g c = tt
+
+pub returns-then-got-sent-clause-err : goal.returns-then-got-sent-clause-err
+returns-then-got-sent-clause-err g c = tt
+
+pub returns-then-got-sent-clause-legal : goal.returns-then-got-sent-clause-legal
+returns-then-got-sent-clause-legal g c = subst (λ (k : KeptStory). IsStory k.story) c.self.view_is c.self.invariant.story
+
+pub got-requires : goal.got-requires
+got-requires g c =
+    let w = c.self.inside in
+    has_seat (g.N.Nodes.seen w.nodes) w.logs w.from c.args.mon.0 c.self.invariant.story (c.self.invariant.within c.args.mon.0 (sym c.contains.ensures ∙ c.if-not-contains.false))
+
+pub monitor-requires : goal.monitor-requires
+monitor-requires g c =
+    let w = c.self.inside in
+    has_seat (g.N.Nodes.seen w.nodes) w.logs w.from c.args.mon.0 c.self.invariant.story (c.self.invariant.within c.args.mon.0 (sym c.contains.ensures ∙ c.if-not-contains.false))
+
+pub up-requires-clause-seat : goal.up-requires-clause-seat
+up-requires-clause-seat g c =
+    let w = c.self.inside in
+    has_seat (g.N.Nodes.seen w.nodes) w.logs w.from c.args.mon.0 c.self.invariant.story (c.self.invariant.within c.args.mon.0 (sym c.contains.ensures ∙ c.if-not-contains.false))
+
+-- there is no memory, and the world is as it was
+pub returns-in_err-reserve-clause-ok : goal.returns-in_err-reserve-clause-ok
+returns-in_err-reserve-clause-ok g c = let p = err_from_is_err_and c.from_residual.result c.from_residual.ensures.1 in rw p.1 tt
+
+pub returns-in_err-reserve-clause-err : goal.returns-in_err-reserve-clause-err
+returns-in_err-reserve-clause-err g c =
+    let w = c.self.inside in
+    let v = g.N.Nodes.seen w.nodes in
+    on_err c.from_residual.result (same_story v v w.logs w.from w.diary.events c.reserve.new.self.events c.args.self.now refl c.reserve.ensures.events c.self.view_is)
+
+pub returns-in_err-reserve-clause-legal : goal.returns-in_err-reserve-clause-legal
+returns-in_err-reserve-clause-legal g c = c.self.invariant.story
+
+pub invariant_of-self : goal.invariant_of-self
+invariant_of-self g c =
+    let w = c.self.inside in
+    let v = g.N.Nodes.seen w.nodes in
+    holds_still v v w.logs w.from w.diary.raises c.reserve.new.self.raises w.work refl c.reserve.ensures.raises c.self.invariant
+
+pub returns-in_err-up-clause-ok : goal.returns-in_err-up-clause-ok
+returns-in_err-up-clause-ok g c = let p = err_from_is_err_and c.from_residual-in_err-up.result c.from_residual-in_err-up.ensures.1 in rw p.1 tt
+
+pub returns-in_err-up-clause-err : goal.returns-in_err-up-clause-err
+returns-in_err-up-clause-err g c =
+    let w = c.self.inside in
+    let v = g.N.Nodes.seen w.nodes in
+    on_err c.from_residual-in_err-up.result (same_story v (g.N.Nodes.seen c.up.new.self) w.logs w.from w.diary.events c.reserve.new.self.events c.args.self.now c.in_err-up.ensures.err c.reserve.ensures.events c.self.view_is)
+
+pub returns-in_err-up-clause-legal : goal.returns-in_err-up-clause-legal
+returns-in_err-up-clause-legal g c =
+    let w = c.self.inside in
+    let v = g.N.Nodes.seen w.nodes in
+    legal_still v (g.N.Nodes.seen c.up.new.self) w.logs w.from c.in_err-up.ensures.err c.self.invariant.story
+
+pub invariant_of-self-in_err-up : goal.invariant_of-self-in_err-up
+invariant_of-self-in_err-up g c =
+    let w = c.self.inside in
+    let v = g.N.Nodes.seen w.nodes in
+    holds_still v (g.N.Nodes.seen c.up.new.self) w.logs w.from w.diary.raises c.reserve.new.self.raises w.work c.in_err-up.ensures.err c.reserve.ensures.raises c.self.invariant
+
+pub returns-clause-enabled : goal.returns-clause-enabled
+returns-clause-enabled g c = tt
+
+pub returns-clause-err : goal.returns-clause-err
+returns-clause-err g c = tt
