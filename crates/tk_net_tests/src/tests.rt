@@ -149,6 +149,28 @@ fn connected(net: &mut MemNet) -> Option<(MemLink, MemLink)>
     Some((below, above))
 }
 
+/// What comes of 1, 2 up a link and then of 3, 4 down it, where this byte is turned.
+fn turned(alloc: Global, flip: Option<u64>) -> Option<[u8; 4]> {
+    let mut net = MemNet::new(alloc, Vec::new(alloc), flip).ok()?;
+    net.listen().ok()?;
+    let (mut below, mut above) = connected(&mut net)?;
+    below.give(&[1, 2]);
+    above.give(&[3, 4]);
+    let mut bytes = [0; 4];
+    above.take(&mut bytes[..2]);
+    below.take(&mut bytes[2..]);
+    Some(bytes)
+}
+
+#[test]
+fn one_byte_is_turned(rt: HostRuntime) {
+    let alloc = rt.alloc();
+    assert!(rt; turned(alloc, None) == Some([1, 2, 3, 4]));
+    assert!(rt; turned(alloc, Some(1)) == Some([1, 253, 3, 4]));
+    assert!(rt; turned(alloc, Some(2)) == Some([1, 2, 252, 4]));
+    assert!(rt; turned(alloc, Some(4)) == Some([1, 2, 3, 4]));
+}
+
 /// What four gives of 70,000, 1, 1 and 2 bytes answer, where the other end takes one byte before the third.
 fn crowded(alloc: Global) -> Option<[Gave; 4]> {
     let many = Vec::from_elem(alloc, 7, 70_000).ok()?;
