@@ -17,14 +17,14 @@ TICKS = os.sysconf("SC_CLK_TCK")
 KINDS = ("proof", "tests", "edits")
 
 
-def session_and_seconds(pid):
-    """The session of a process and the seconds it took, or None where it is gone."""
+def state(pid):
+    """The session of a process, when it began and the seconds it took, or None where it is gone."""
     try:
         with open(f"/proc/{pid}/stat") as stat:
             fields = stat.read().rpartition(")")[2].split()
     except OSError:
         return None
-    return int(fields[3]), (int(fields[11]) + int(fields[12])) / TICKS
+    return int(fields[3]), int(fields[19]), (int(fields[11]) + int(fields[12])) / TICKS
 
 
 def prover(pid):
@@ -45,14 +45,16 @@ def prover(pid):
 
 def watch(first, goes_on):
     """Seconds by crate and kind, of all processes in the session of the first one, as long as the gate goes on."""
-    session, _ = session_and_seconds(first)
+    session, _, _ = state(first)
     seen = {}
     while goes_on():
         for pid in filter(str.isdigit, os.listdir("/proc")):
-            now = session_and_seconds(pid)
+            now = state(pid)
             if now and now[0] == session:
-                kind = seen[pid][0] if pid in seen else prover(pid)
-                seen[pid] = kind, now[1]
+                # Numbers of processes come again, and a look may fall before a new one is a prover.
+                known = pid, now[1]
+                kind = (seen[known][0] if known in seen else None) or prover(pid)
+                seen[known] = kind, now[2]
         time.sleep(0.5)
     return seen
 
@@ -74,7 +76,7 @@ def main():
     parser.add_argument("--watch", type=int, metavar="PID")
     pid = parser.parse_args().watch
     if pid:
-        table(watch(pid, lambda: session_and_seconds(pid)))
+        table(watch(pid, lambda: state(pid)))
         return
     top = os.path.dirname(os.path.dirname(os.path.abspath(__file__)))
     with open("gate.log", "wb") as log:

@@ -4,6 +4,7 @@ use Rattle.std.specs.List.{range_with_len}
 use Rattle.tk_base.specs.Settings.{Setup}
 use Rattle.tk_base.specs.History.{IsFront}
 use Rattle.tk_input.specs.Logs.{LogSet, parts_of}
+use Rattle.tk_input.specs.Order.{OrderView}
 use Rattle.tk_input.specs.declared.event.Event.{Event}
 use Rattle.tk_journal.specs.Readings.{monitors}
 use Rattle.tk_story.specs.Kept.{KeptStory}
@@ -76,6 +77,11 @@ pub record IsFinishing (begun end : KeptStory) : Type 0 where
   pub count : ℕ
   pub settles : Settles begun settled count
   pub finishes : Finishes (all_raises begun.story.logs) settled end
+
+-- the events of an order, where there is one
+abbrev pub events_in : Option OrderView → List Event
+events_in None = []
+events_in (Some order) = order.events
 
 -- the drive of an order from a beginning: its events, each kept where it is enabled, and then finishing
 pub record Drives (order : List Event) (begun end : KeptStory) : Type 0 where

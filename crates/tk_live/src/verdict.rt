@@ -136,4 +136,18 @@ impl Lived {
             ends: None,
         }
     }
+
+    /// How the run ended, without what it left.
+    pub fn into_verdict(self) -> Verdict
+        ensures { result ≡ self.verdict }
+    {
+        let Lived {
+            verdict,
+            story,
+            ends,
+        } = self;
+        drop(story);
+        drop(ends);
+        verdict
+    }
 }

@@ -1,84 +1,76 @@
 //! Live runs over the objects a and b.
+ghost use Rattle.std.specs.Prelude.{◌≡◌, ◌≤◌, IfSome};
+ghost use Rattle.tk_load.specs.Whole.{AreAgreed};
 
 use std::alloc::Global;
-use tk_input::{MapFiles, VecSink};
+use tk_base::{Mon, Settings};
+use tk_input::{Catalog, Logs, Part};
+use tk_load::Input;
 
-/// How much text a run may write.
-const ROOM: usize = 1_000;
-
-/// The words of a live run, its files, and its text.
-#[derive(Drop)]
-pub struct Case {
-    pub words: Vec<String>,
-    pub files: MapFiles,
-    pub out: VecSink,
+/// The two logs of a run.
+#[derive(Clone, Copy)]
+pub enum Case {
+    /// At the first monitor a rises by 5, at the second b by 3.
+    TwoMonitors,
+    /// At one monitor a rises by 5; its second feeder has no change.
+    OneMonitor,
+    /// One monitor with two feeders.
+    TwoFeeders,
 }
 
-/// The words of all runs here, but those of the logs.
-const WORDS: [&str; 7] = [
-    "live",
-    "--k",
-    "1",
-    "--epsilon",
-    "0",
-    "--objects",
-    "objects.csv",
-];
+/// The log of a first monitor, and that of a second one or of a second feeder of the first.
+fn logs_of(alloc: Global, names: &Catalog, second: Mon, texts: (&[u8], &[u8])) -> Option<Logs>
+    requires { (1 ≤ second.0) × (second.0 ≤ 64) }
+{
+    let one = Part::read(alloc, texts.0, names).ok()?;
+    let Ok(two) = Part::read(alloc, texts.1, names) else {
+        drop(one);
+        return None;
+    };
+    let Ok(mut parts) = Vec::with_capacity(alloc, 2) else {
+        drop(one);
+        drop(two);
+        return None;
+    };
+    parts.push_reserved((Mon(1), one));
+    parts.push_reserved((second, two));
+    Logs::new(alloc, parts, names.len() as u32).ok()
+}
 
-fn add_words(alloc: Global, words: &mut Vec<String>, list: &[&str]) -> Option<()> {
-    for word in list {
-        words.push(String::from_str(alloc, word).ok()?).ok()?;
+/// An input with k 1 and epsilon 0 over these logs.
+fn input_of(alloc: Global, second: Mon, texts: (&[u8], &[u8])) -> Option<Input>
+    requires { (1 ≤ second.0) × (second.0 ≤ 64) }
+    ensures { IfSome result (λ input. AreAgreed input.names input.settings input.logs) }
+{
+    let settings = Settings::new(1, 0, 1, 2, u64::from(second.0)).ok()?;
+    let names = Catalog::read(alloc, b"a\nb\n").ok()?;
+    let Some(logs) = logs_of(alloc, &names, second, texts) else {
+        drop(names);
+        return None;
+    };
+    let (objects, monitors) = (settings.objects(), settings.monitors());
+    if names.len() as u32 != objects || logs.objects() != objects || logs.monitors() != monitors {
+        drop(names);
+        drop(logs);
+        return None;
     }
-    Some(())
+    Some(Input {
+        names,
+        settings,
+        logs,
+        ends: None,
+        order: None,
+    })
 }
 
-/// The words of a run over these logs.
-fn words_of(alloc: Global, logs: &[&str]) -> Option<Vec<String>> {
-    let mut words = Vec::new(alloc);
-    add_words(alloc, &mut words, &WORDS)?;
-    add_words(alloc, &mut words, logs)?;
-    Some(words)
-}
-
-fn add_file(
-    alloc: Global,
-    files: &mut Vec<(String, Vec<u8>)>,
-    name: &str,
-    text: &str,
-) -> Option<()> {
-    let name = String::from_str(alloc, name).ok()?;
-    let bytes = Vec::from_slice(alloc, text.as_bytes()).ok()?;
-    files.push((name, bytes)).ok()
-}
-
-/// The files of the objects and of two logs with these changes.
-fn files_of(alloc: Global, one: &str, two: &str) -> Option<MapFiles> {
-    let mut files = Vec::new(alloc);
-    add_file(alloc, &mut files, "objects.csv", "a\nb\n")?;
-    add_file(alloc, &mut files, "one.csv", one)?;
-    add_file(alloc, &mut files, "two.csv", two)?;
-    Some(MapFiles::new(alloc, files, Vec::new(alloc)))
-}
-
-/// A run over these logs, of which the files `one.csv` and `two.csv` have the changes.
-fn of_logs(alloc: Global, logs: &[&str], one: &str, two: &str) -> Option<Case> {
-    let words = words_of(alloc, logs)?;
-    let files = files_of(alloc, one, two)?;
-    let out = VecSink::new(alloc, ROOM, Vec::new(alloc)).ok()?;
-    Some(Case { words, files, out })
-}
-
-/// At the first monitor a rises by 5, at the second b by 3.
-pub fn two_monitors(alloc: Global) -> Option<Case> {
-    of_logs(alloc, &["1=one.csv", "2=two.csv"], "a,5\n", "b,3\n")
-}
-
-/// One monitor, at which a rises by 5.
-pub fn one_monitor(alloc: Global) -> Option<Case> {
-    of_logs(alloc, &["1=one.csv"], "a,5\n", "")
-}
-
-/// One monitor with two feeders.
-pub fn two_feeders(alloc: Global) -> Option<Case> {
-    of_logs(alloc, &["1=one.csv", "1=two.csv"], "a,1\n", "a,2\nb,1\n")
+impl Case {
+    pub fn input(self, alloc: Global) -> Option<Input>
+        ensures { IfSome result (λ input. AreAgreed input.names input.settings input.logs) }
+    {
+        match self {
+            Case::TwoMonitors => input_of(alloc, Mon(2), (b"a,5\n", b"b,3\n")),
+            Case::OneMonitor => input_of(alloc, Mon(1), (b"a,5\n", b"")),
+            Case::TwoFeeders => input_of(alloc, Mon(1), (b"a,1\n", b"a,2\nb,1\n")),
+        }
+    }
 }

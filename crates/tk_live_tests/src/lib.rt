@@ -1,6 +1,6 @@
 //! The tests of tk_live of what its runs leave and how they end, which no clause says: over links in memory they are done, and just
 //! the bytes of their frames go over the links; over a net whose calls fail or that turns a byte they end with
-//! their status; and two feeders run at once.
+//! a failed link or a difference; and two feeders run at once. What is run is an input, so no words and files are linked.
 #![tactic(auto)]
 
 #[cfg(test)]

@@ -1,9 +1,11 @@
-ghost use Rattle.std.specs.Prelude.{◌≡◌, ◌+◌, ◌<◌, true, IfSome};
+ghost use Rattle.std.specs.Prelude.{◌≡◌, ◌+◌, ◌<◌, false, true, IfSome, length};
 
 use std::alloc::Global;
+use std::marker::Sync;
 use std::test::Fail;
 use std::thread;
-use tk_net::{LoopNet, MemLink, MemNet};
+use std::thread::Threads;
+use tk_net::{LoopNet, MemLink, MemNet, MemRest};
 use tk_wire::{Bell, Gave, Net, Rest, Took, Wire};
 
 /// How often a test looks whether something has come: a second at the most over sockets.
@@ -80,8 +82,10 @@ fn whole() -> Exchange {
 fn bytes_go_both_ways_in_memory(rt: HostRuntime) -> Result<(), Fail> {
     let mut net = MemNet::new(rt.alloc(), Vec::new(rt.alloc()), None)?;
     net.listen()?;
-    assert_eq!(rt; exchanged(&mut net), Some(whole()));
-    assert_eq!(rt; (net.given(), net.taken(), net.faults()), (6, 6, 1));
+    let exchanged = exchanged(&mut net);
+    let counts = (net.given(), net.taken(), net.faults());
+    drop(net);
+    assert_eq!(rt; (exchanged, counts), (Some(whole()), (6, 6, 1)));
     Ok(())
 }
 
@@ -89,28 +93,16 @@ fn bytes_go_both_ways_in_memory(rt: HostRuntime) -> Result<(), Fail> {
 fn bytes_go_both_ways_over_sockets(rt: HostRuntime) -> Result<(), Fail> {
     let mut net = LoopNet::new(rt.alloc(), &rt)?;
     net.listen()?;
-    assert_eq!(rt; exchanged(&mut net), Some(whole()));
-    assert_eq!(rt; (net.taken(), net.faults()), (6, 1));
+    let exchanged = exchanged(&mut net);
+    let counts = (net.taken(), net.faults());
+    drop(net);
+    assert_eq!(rt; (exchanged, counts), (Some(whole()), (6, 1)));
     Ok(())
 }
 
-/// Which of seven calls failed where this one is listed, 8 if none, and the faults of the net in the end.
-fn failed(alloc: Global, call: u64) -> Option<(u64, u64)> {
-    let fails = Vec::from_slice(alloc, &[call]).ok()?;
-    let mut net = MemNet::new(alloc, fails, None).ok()?;
-    if net.listen().is_err() {
-        return Some((1, net.faults()));
-    }
-    let Ok((mut link, mut rest, _)) = net.connect() else {
-        return Some((2, net.faults()));
-    };
-    let Ok(Some(above)) = net.accept() else {
-        return Some((3, net.faults()));
-    };
-    if net.wait().is_err() {
-        return Some((4, net.faults()));
-    }
-    let number = if link.give(b"a") == Gave::Failed {
+/// Which of the last three of seven calls failed, 8 if none.
+fn failed_there(link: &mut MemLink, rest: &mut MemRest) -> u64 {
+    if link.give(b"a") == Gave::Failed {
         5
     } else if link.take(&mut [0]) == Took::Failed {
         6
@@ -118,11 +110,44 @@ fn failed(alloc: Global, call: u64) -> Option<(u64, u64)> {
         7
     } else {
         8
+    }
+}
+
+/// Which of seven calls failed, 8 if none.
+fn failed_call(net: &mut MemNet) -> u64
+    requires listens { net.old.state.listens ≡ false }
+    requires links { net.old.state.links < 64 }
+{
+    if net.listen().is_err() {
+        return 1;
+    }
+    let Ok((mut link, mut rest, _)) = net.connect() else {
+        return 2;
+    };
+    let Ok(Some(above)) = net.accept() else {
+        drop(link);
+        drop(rest);
+        return 3;
+    };
+    let number = if net.wait().is_err() {
+        4
+    } else {
+        failed_there(&mut link, &mut rest)
     };
     net.back(link);
     net.back(above);
     net.back_rest(rest);
-    Some((number, net.faults()))
+    number
+}
+
+/// Which call failed where this one is listed, and the faults of the net in the end.
+fn failed(alloc: Global, call: u64) -> Option<(u64, u64)> {
+    let fails = Vec::from_slice(alloc, &[call]).ok()?;
+    let mut net = MemNet::new(alloc, fails, None).ok()?;
+    let number = failed_call(&mut net);
+    let faults = net.faults();
+    drop(net);
+    Some((number, faults))
 }
 
 #[test]
@@ -149,39 +174,78 @@ fn connected(net: &mut MemNet) -> Option<(MemLink, MemLink)>
     Some((below, above))
 }
 
-/// What comes of 1, 2 up a link and then of 3, 4 down it, where this byte is turned.
-fn turned(alloc: Global, flip: Option<u64>) -> Option<[u8; 4]> {
+/// A net in memory that listens, and turns this byte. Here and below nets and links are lent or dropped by name: a place that
+/// drops one by itself is dear to prove.
+fn listening(alloc: Global, flip: Option<u64>) -> Option<MemNet>
+    ensures listens { IfSome result (λ net. net.state.listens ≡ true) }
+    ensures links { IfSome result (λ net. net.state.links ≡ 0) }
+{
     let mut net = MemNet::new(alloc, Vec::new(alloc), flip).ok()?;
-    net.listen().ok()?;
-    let (mut below, mut above) = connected(&mut net)?;
+    let Ok(()) = net.listen() else {
+        drop(net);
+        return None;
+    };
+    Some(net)
+}
+
+/// What comes of 1, 2 up a link and then of 3, 4 down it.
+fn carried(net: &mut MemNet) -> Option<[u8; 4]>
+    requires listens { net.old.state.listens ≡ true }
+    requires links { net.old.state.links < 64 }
+{
+    let (mut below, mut above) = connected(net)?;
     below.give(&[1, 2]);
     above.give(&[3, 4]);
     let mut bytes = [0; 4];
     above.take(&mut bytes[..2]);
     below.take(&mut bytes[2..]);
+    drop(below);
+    drop(above);
     Some(bytes)
 }
 
-#[test]
-fn one_byte_is_turned(rt: HostRuntime) {
-    let alloc = rt.alloc();
-    assert!(rt; turned(alloc, None) == Some([1, 2, 3, 4]));
-    assert!(rt; turned(alloc, Some(1)) == Some([1, 253, 3, 4]));
-    assert!(rt; turned(alloc, Some(2)) == Some([1, 2, 252, 4]));
-    assert!(rt; turned(alloc, Some(4)) == Some([1, 2, 3, 4]));
+/// The same where this byte is turned.
+fn turned(alloc: Global, byte: u64) -> Option<[u8; 4]> {
+    let mut net = listening(alloc, Some(byte))?;
+    let bytes = carried(&mut net);
+    drop(net);
+    bytes
 }
 
-/// What four gives of 70,000, 1, 1 and 2 bytes answer, where the other end takes one byte before the third.
-fn crowded(alloc: Global) -> Option<[Gave; 4]> {
-    let many = Vec::from_elem(alloc, 7, 70_000).ok()?;
-    let mut net = MemNet::new(alloc, Vec::new(alloc), None).ok()?;
-    net.listen().ok()?;
-    let (mut below, mut above) = connected(&mut net)?;
-    let first = below.give(&many);
+/// The bytes that are turned, and what comes then.
+const TURNED: [(u64, [u8; 4]); 3] = [(1, [1, 253, 3, 4]), (2, [1, 2, 252, 4]), (4, [1, 2, 3, 4])];
+
+#[test]
+fn one_byte_is_turned(rt: HostRuntime) {
+    for (byte, bytes) in TURNED {
+        assert!(rt; turned(rt.alloc(), byte) == Some(bytes), "{byte}");
+    }
+}
+
+/// What four gives of these bytes, 1, 1 and 2 bytes answer, where the other end takes one byte before the third.
+fn crowded(net: &mut MemNet, many: &[u8]) -> Option<[Gave; 4]>
+    requires many { 0 < length many.now }
+    requires listens { net.old.state.listens ≡ true }
+    requires links { net.old.state.links < 64 }
+{
+    let (mut below, mut above) = connected(net)?;
+    let first = below.give(many);
     let second = below.give(&[8]);
     above.take(&mut [0]);
     let third = below.give(&[8, 9]);
-    Some([first, second, third, above.give(&[1, 2])])
+    let last = above.give(&[1, 2]);
+    drop(below);
+    drop(above);
+    Some([first, second, third, last])
+}
+
+/// The same in a net of its own, of 70,000 bytes.
+fn crowded_by_many(alloc: Global) -> Option<[Gave; 4]> {
+    let many = Vec::from_elem(alloc, 7, 70_000).ok()?;
+    let mut net = listening(alloc, None)?;
+    let gave = crowded(&mut net, many.as_slice());
+    drop(net);
+    gave
 }
 
 #[test]
@@ -192,21 +256,32 @@ fn a_full_ring_takes_no_more(rt: HostRuntime) -> Result<(), Fail> {
         Gave::Bytes(1),
         Gave::Bytes(2),
     ];
-    assert_eq!(rt; crowded(rt.alloc()), Some(answers));
+    assert_eq!(rt; crowded_by_many(rt.alloc()), Some(answers));
     Ok(())
 }
 
-/// What two takes answer once the other end gave a byte and went away, and the net's faults in the end.
-fn left(alloc: Global) -> Option<(Took, Took, u64)> {
-    let mut net = MemNet::new(alloc, Vec::new(alloc), None).ok()?;
-    net.listen().ok()?;
-    let (mut below, mut above) = connected(&mut net)?;
+/// What two takes answer once the other end gave a byte and went away.
+fn taken(net: &mut MemNet) -> Option<(Took, Took)>
+    requires listens { net.old.state.listens ≡ true }
+    requires links { net.old.state.links < 64 }
+{
+    let (mut below, mut above) = connected(net)?;
     above.give(&[1]);
     drop(above);
     let first = below.take(&mut [0]);
     let second = below.take(&mut [0]);
     net.back(below);
-    Some((first, second, net.faults()))
+    Some((first, second))
+}
+
+/// The same in a net of its own, and its faults in the end.
+fn left(alloc: Global) -> Option<(Took, Took, u64)> {
+    let mut net = listening(alloc, None)?;
+    let taken = taken(&mut net);
+    let faults = net.faults();
+    drop(net);
+    let (first, second) = taken?;
+    Some((first, second, faults))
 }
 
 #[test]
@@ -216,15 +291,31 @@ fn the_end_comes_behind_the_last_byte(rt: HostRuntime) -> Result<(), Fail> {
     Ok(())
 }
 
+/// What a give in another thread answers, and a take at the other end.
+fn threaded<R: Threads + Sync>(rt: &R, net: &mut MemNet) -> Option<(Gave, Took)>
+    requires listens { net.old.state.listens ≡ true }
+    requires links { net.old.state.links < 64 }
+{
+    let (mut below, mut above) = connected(net)?;
+    let (gave, _) = thread::join(rt, move || below.give(&[1, 2]), || ());
+    let took = above.take(&mut [0; 4]);
+    drop(above);
+    Some((gave, took))
+}
+
+/// The same in a net of its own, and how many bytes were given in the end.
+fn given_there<R: Threads + Sync>(rt: &R, alloc: Global) -> Option<(Gave, Took, u64)> {
+    let mut net = listening(alloc, None)?;
+    let answers = threaded(rt, &mut net);
+    let given = net.given();
+    drop(net);
+    let (gave, took) = answers?;
+    Some((gave, took, given))
+}
+
 #[test]
 fn a_link_goes_to_another_thread(rt: HostRuntime) -> Result<(), Fail> {
-    let mut net = MemNet::new(rt.alloc(), Vec::new(rt.alloc()), None)?;
-    net.listen()?;
-    let Some((mut below, mut above)) = connected(&mut net) else {
-        return Err("no link")?;
-    };
-    let (gave, _) = thread::join(&rt, move || below.give(&[1, 2]), || ());
-    assert_eq!(rt; (gave, net.given()), (Gave::Bytes(2), 2));
-    assert_eq!(rt; above.take(&mut [0; 4]), Took::Bytes(2));
+    let answers = (Gave::Bytes(2), Took::Bytes(2), 2);
+    assert_eq!(rt; given_there(&rt, rt.alloc()), Some(answers));
     Ok(())
 }

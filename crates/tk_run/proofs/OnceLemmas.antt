@@ -4,11 +4,11 @@ use Rattle.tk_input.specs.declared.event.Event.{Event}
 use Rattle.tk_story.specs.Kept.{KeptStory}
 use Rattle.tk_story.specs.Story.{StoryView}
 use Rattle.tk_world.specs.Events.{CanOnlyChange, next_of}
-use Rattle.tk_drain.specs.Drive.{Finishes, IsFinishing, Settles, all_raises, keep, keep_all, swept}
+use Rattle.tk_drain.specs.Drive.{Finishes, IsFinishing, Settles, all_raises, events_in, keep, keep_all, swept}
 use Rattle.tk_drain.specs.Drive.Finishes.{Done, Passes, Raises}
 use Rattle.tk_drain.specs.Drive.Settles.{Rests, Sweeps}
 use Rattle.tk_load.specs.declared.input.Input.{Input}
-use Rattle.tk_run.specs.Ends.{IsStoryOf, begun_by, events_in}
+use Rattle.tk_run.specs.Ends.{IsStoryOf, begun_by}
 
 -- a story that is at rest settles to itself
 rests_once : (a b : KeptStory) (n : ℕ) → CanOnlyChange a.story → Settles a b n → b ≡ a

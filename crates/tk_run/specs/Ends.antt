@@ -1,9 +1,7 @@
 -- The story of an input, and how a run of it ends.
 use Rattle.std.specs.Prelude.{ℕ, ◌≡◌, ◌⊎◌, ◌++◌, List, [], codes, Option, Some, None, Result, Ok, Err}
 use Rattle.tk_input.specs.Logs.{beginnings}
-use Rattle.tk_input.specs.Order.{OrderView}
 use Rattle.tk_input.specs.Sink.{Grows, GrowsByFront}
-use Rattle.tk_input.specs.declared.event.Event.{Event}
 use Rattle.tk_words.specs.Words.{Asked, GenerateWords, words_of}
 use Rattle.tk_words.specs.Words.Asked.{Checks, Generates, Lives, Queries, Replays, Restarts, Traces}
 use Rattle.tk_load.specs.Generated.{generated_of}
@@ -18,7 +16,7 @@ use Rattle.tk_story.specs.Kept.{KeptStory}
 use Rattle.tk_story.specs.Moments.{IsOver}
 use Rattle.tk_story.specs.Story.{StoryView}
 use Rattle.tk_world.specs.Events.{begin}
-use Rattle.tk_drain.specs.Drive.{Drives}
+use Rattle.tk_drain.specs.Drive.{Drives, events_in}
 use Rattle.tk_drain.specs.Resting.{RunsFrom}
 use Rattle.tk_ledger.specs.Text.{sets_text, summary_of, text_of, ticked_text_of}
 use Rattle.tk_trace.specs.Recorded.{recorded_of}
@@ -30,11 +28,6 @@ use Rattle.tk_load.specs.Surroundings.{IsUnwritten, Output, Surroundings}
 use Rattle.tk_run.specs.declared.outcome.Outcome.{Outcome}
 
 -- ---- the story of an input
-
--- the events of an order, where there is one
-abbrev pub events_in : Option OrderView → List Event
-events_in None = []
-events_in (Some order) = order.events
 
 -- a story of this input before its first event
 abbrev pub begun_by : Input → KeptStory

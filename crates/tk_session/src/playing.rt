@@ -23,7 +23,10 @@ pub fn tell(
     ensures { IfOk result (λ stories. IsChainOf settings logs (lines_of order.now) stories.items) }
 {
     let mut sessions = Sessions::new(alloc, settings, logs)?;
-    sessions.play(order)?;
+    let Ok(()) = sessions.play(order) else {
+        drop(sessions);
+        return Err(NoMemory);
+    };
     a_chain_keeps_its_stretches();
     let stories = sessions.into_stories(alloc)?;
     Ok(stories)

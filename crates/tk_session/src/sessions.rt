@@ -1,4 +1,4 @@
-ghost use Rattle.std.specs.Prelude.{◌≡◌, ◌+◌, ◌-◌, ◌^◌, [], true, IfOk, OnErr, OnOk, is_ok, is_some, length, min};
+ghost use Rattle.std.specs.Prelude.{◌≡◌, ◌+◌, ◌-◌, ◌^◌, [], ◌∷◌, ◌++◌, true, IfOk, OnErr, OnOk, is_ok, is_some, length, min};
 ghost use Rattle.tk_story.specs.Moments.{cut_of};
 ghost use Rattle.tk_story.specs.Story.{IsStory};
 ghost use Rattle.tk_world.specs.Events.{next_of};
@@ -55,15 +55,45 @@ fn next_world(alloc: Global, world: &World) -> Result<World, NoMemory>
     Ok(next)
 }
 
-/// The stories of some worlds, in order.
-fn stories_of(alloc: Global, worlds: Vec<World>) -> Result<Vec<Story>, NoMemory>
-    ensures { IfOk result (λ stories. stories.items ≡ worlds.items) }
+/// Appends the story of a world. Here and below what is large is dropped by name: a place that drops it by itself is dear to prove.
+fn add_story(stories: &mut Vec<Story>, world: World) -> Result<(), NoMemory>
+    ensures { OnOk result (stories.new.items ≡ stories.old.items ++ world ∷ []) }
 {
-    let mut stories = Vec::new(alloc);
+    let Ok(()) = stories.reserve(1) else {
+        drop(world);
+        return Err(NoMemory);
+    };
+    let story = world.into_story()?;
+    stories.push_reserved(story);
+    Ok(())
+}
+
+/// Appends the stories of some worlds, in order.
+fn add_stories(stories: &mut Vec<Story>, worlds: Vec<World>) -> Result<(), NoMemory>
+    ensures { OnOk result (stories.new.items ≡ stories.old.items ++ worlds.items) }
+{
     for world in worlds {
-        stories.push(world.into_story()?)?;
+        add_story(stories, world)?;
     }
-    Ok(stories)
+    Ok(())
+}
+
+/// Finishes the present session, and puts the stories of all into an empty list.
+fn finish_all(alloc: Global, stories: &mut Vec<Story>, sessions: Sessions) -> Result<(), NoMemory>
+    requires { stories.old.items ≡ [] }
+    ensures { OnOk result (AreFinished sessions stories.new.items) }
+{
+    let (past, mut last) = sessions.into_parts();
+    let Ok(()) = finish(alloc, &mut last) else {
+        drop(past);
+        drop(last);
+        return Err(NoMemory);
+    };
+    let Ok(()) = add_stories(stories, past) else {
+        drop(last);
+        return Err(NoMemory);
+    };
+    add_story(stories, last)
 }
 
 impl Sessions {
@@ -163,10 +193,11 @@ impl Sessions {
     pub fn into_stories(self, alloc: Global) -> Result<Vec<Story>, NoMemory>
         ensures { IfOk result (λ stories. AreFinished self stories.items) }
     {
-        let (past, mut last) = self.into_parts();
-        finish(alloc, &mut last)?;
-        let mut stories = stories_of(alloc, past)?;
-        stories.push(last.into_story()?)?;
+        let mut stories = Vec::new(alloc);
+        let Ok(()) = finish_all(alloc, &mut stories, self) else {
+            drop(stories);
+            return Err(NoMemory);
+        };
         Ok(stories)
     }
 }

@@ -11,4 +11,4 @@ returns c =
     let begun = c.in_ok-sessions.ensures.value in
     c.a_chain_keeps_its_stretches.ensures c.args.settings c.args.logs lines stories
     (subst (λ (v : SessionsView). IsStory v.present.story) begun c.in_ok-sessions.ensures.legal)
-    (subst (λ (v : SessionsView). AreFinished v stories) (c.in_ok-play.ensures.ok ∙ ap (λ (v : SessionsView). played v lines) begun) c.in_ok-stories.ensures)
+    (subst (λ (v : SessionsView). AreFinished v stories) (c.in-Ok.ensures.ok ∙ ap (λ (v : SessionsView). played v lines) begun) c.in_ok-stories.ensures)

@@ -18,3 +18,9 @@ returns-clause-ok c =
     (λ r is. under words verb (Some (asked_by r)) (sym c.verb_of.ensures ∙ c.in-Some.is)
     (formed (asked_with verb) (app_of c.in_ok-rules.field-0) (app_named verb) words (rows_of (found_of c.in_ok-matches.matches)) (Some (asked_by r)) c.in_ok-rules.ensures c.in_ok-matches.ensures.ok is))
     c.asked.ensures.ok
+
+pub returns-clause-monitors : goal.returns-clause-monitors
+returns-clause-monitors c = c.asked.ensures.monitors
+
+pub returns-clause-carriage : goal.returns-clause-carriage
+returns-clause-carriage c = c.asked.ensures.carriage
