@@ -64,6 +64,7 @@ fn input_of(alloc: Global, second: Mon, texts: (&[u8], &[u8])) -> Option<Input>
 }
 
 impl Case {
+    /// The input of a run with k 1 and epsilon 0 over these logs, without an order.
     pub fn input(self, alloc: Global) -> Option<Input>
         ensures { IfSome result (λ input. AreAgreed input.names input.settings input.logs) }
     {

@@ -141,7 +141,8 @@ fn is_told(alloc: Global, taken: u64, text: &[u8]) -> Option<bool> {
     Some(is_told)
 }
 
-/// How a run of two monitors ends over links in memory, and how many bytes were given to them, if just these were taken from them.
+/// How a run of two monitors ends over links in memory, and how many bytes were given to them, if just these were taken from
+/// them.
 fn over_links<R: Threads + Wait + Sync>(
     rt: &R,
     alloc: Global,
