@@ -17,6 +17,7 @@ pub mod FullLemmas
 pub mod GatheredLemmas
 pub mod SizeLemmas
 pub mod WideLemmas
+mod WideSizeLemmas
 pub mod CalmLemmas
 pub mod MendLemmas
 mod Examples

@@ -17,7 +17,8 @@ use Rattle.tk_alloc.proofs.RoundLemmas.{present_no_debt}
 use Rattle.tk_alloc.proofs.ShortLemmas.{one_takes}
 use Rattle.tk_alloc.specs.Rounds.{chosen, total, wide_parts}
 use Rattle.tk_alloc.proofs.PickLemmas.{picked_of}
-use Rattle.tk_alloc.proofs.WideLemmas.{IsWideCalled, in_catalogue, of_catalogue, wide_order_kept}
+use Rattle.tk_alloc.specs.Limit.{CanWiden}
+use Rattle.tk_alloc.proofs.WideLemmas.{in_catalogue, of_catalogue, wide_order_kept}
 use Rattle.tk_alloc.specs.Strain.{IsShortNow, IsWideNow, is_strained}
 use Rattle.tk_alloc.proofs.CalmLemmas.{calm_from, border_bounds}
 
@@ -50,7 +51,7 @@ pub wide_mends : (setup : Setup) (grid : Grid) (present : List ℕ) (reports : L
     → is_strained after (chosen setup present reports (objects setup.objects)) ≡ false
 wide_mends setup grid present reports place report after h =
     let members = chosen setup present reports (objects setup.objects) in
-    let called : IsWideCalled setup grid reports = record { limits = h.limits; size = h.size; balanced = h.balanced; reported = h.reported } in
+    let called : CanWiden setup grid reports = record { limits = h.limits; size = h.size; balanced = h.balanced; reported = h.reported } in
     let parts = wide_parts setup members reports in
     calm_from after members h.some (λ t o t_in out from_one within.
     let o_within : o ≤ setup.objects = (let c = h.count in omega (arith, within, c)) in

@@ -20,6 +20,7 @@ use Rattle.tk_rows.proofs.SumLemmas.{int_sum-cons}
 use Rattle.tk_rows.proofs.WritingLemmas.{AreApart, ascending_are_apart}
 use Rattle.tk_share.proofs.ShareLemmas.{share_size, share_grows}
 use Rattle.tk_alloc.specs.declared.reported.Reported.{Reported}
+use Rattle.tk_alloc.specs.Limit.{CanWiden}
 use Rattle.tk_alloc.specs.Parts.{Part, coordinator, monitor, value_of, leeway, new_factor, IsReallocation}
 use Rattle.tk_alloc.specs.Pick.{picked}
 use Rattle.tk_alloc.specs.Rounds.{IsOfSize, AreValues, AreReports, total, totals, chosen, wide_parts, factor_after, KeepsOwn, KeepsLevels, AreSlight}
@@ -81,13 +82,6 @@ zero_leeway grid own reports o zero_node zero_border order b =
 
 -- ---- the round
 
--- what a wide round begins with
-pub record IsWideCalled (setup : Setup) (grid : Grid) (reports : List Reported) : Type 0 where
-  pub limits : IsWithinLimits setup
-  pub size : IsOfSize setup grid
-  pub balanced : AreBalanced grid
-  pub reported : AreReports setup.monitors (objects setup.objects) reports
-
 -- a wide round that has ended
 pub record IsWide (setup : Setup) (grid : Grid) (present : List ℕ) (reports : List Reported) (change : Reallocation) : Type 0 where
   pub limits : IsWithinLimits setup
@@ -117,10 +111,10 @@ ones_sum (r ∷ reports) = omega (arith, ones_sum reports, sum_by-cons (λ x. x)
 abbrev pub wide_own : Setup → List ℕ → List Reported → Part
 wide_own setup present reports = coordinator setup.own_weight setup.epsilon (pos 0) (chosen setup present reports (objects setup.objects)) (objects setup.objects)
 
-pub wide_count : (setup : Setup) (grid : Grid) (present : List ℕ) (reports : List Reported) → IsWideCalled setup grid reports → length reports ≡ setup.monitors
+pub wide_count : (setup : Setup) (grid : Grid) (present : List ℕ) (reports : List Reported) → CanWiden setup grid reports → length reports ≡ setup.monitors
 wide_count setup grid present reports w = sym (length-map reports (λ (r : Reported). r.mon.0)) ∙ ap length w.reported.order ∙ length-range_with_len 1 setup.monitors
 
-pub wide_order : (setup : Setup) (grid : Grid) (present : List ℕ) (reports : List Reported) → IsWideCalled setup grid reports → map (λ (r : Reported). r.mon.0) reports ≡ range_with_len 1 grid.monitors
+pub wide_order : (setup : Setup) (grid : Grid) (present : List ℕ) (reports : List Reported) → CanWiden setup grid reports → map (λ (r : Reported). r.mon.0) reports ≡ range_with_len 1 grid.monitors
 wide_order setup grid present reports w = w.reported.order ∙ ap (range_with_len 1) (sym w.size.monitors)
 
 pub wide_value : (setup : Setup) (present : List ℕ) (reports : List Reported) (o : ℕ) → Contains (objects setup.objects) o
@@ -128,7 +122,7 @@ pub wide_value : (setup : Setup) (present : List ℕ) (reports : List Reported) 
 wide_value setup present reports o in' =
     ap (λ (v : Option ℤ). unwrap_or v (pos 0)) (value_put (λ q. if is_in (chosen setup present reports (objects setup.objects)) q then setup.epsilon else pos 0) (objects setup.objects) o in')
 
-wide_leeway : (setup : Setup) (grid : Grid) (present : List ℕ) (reports : List Reported) (o : ℕ) → IsWideCalled setup grid reports → Contains (objects setup.objects) o
+wide_leeway : (setup : Setup) (grid : Grid) (present : List ℕ) (reports : List Reported) (o : ℕ) → CanWiden setup grid reports → Contains (objects setup.objects) o
     → leeway grid (wide_own setup present reports ∷ map (monitor (pos 0)) reports) o ≡ (if is_in (chosen setup present reports (objects setup.objects)) o then setup.epsilon else pos 0) +ℤ total reports o
 wide_leeway setup grid present reports o w in' =
     let range = of_catalogue setup.objects o in' in
@@ -139,7 +133,7 @@ pub extra_size : (b : Bool) (epsilon : ℤ) → pos 0 ≤ℤ epsilon → epsilon
 extra_size true epsilon low high = omega (arith, ints)
 extra_size false epsilon low high = omega arith
 
-pub leeway_size : (setup : Setup) (grid : Grid) (present : List ℕ) (reports : List Reported) (o : ℕ) → IsWideCalled setup grid reports → Contains (objects setup.objects) o
+pub leeway_size : (setup : Setup) (grid : Grid) (present : List ℕ) (reports : List Reported) (o : ℕ) → CanWiden setup grid reports → Contains (objects setup.objects) o
     → unsigned_abs (leeway grid (wide_own setup present reports ∷ map (monitor (pos 0)) reports) o) ≤ 65 * 2 ^ 100
 leeway_size setup grid present reports o w in' =
     let few : length reports ≤ 64 = omega (arith, wide_count setup grid present reports w, w.limits.monitors) in
@@ -158,7 +152,7 @@ slight_at P weaker grid parts all first (r ∷ rs) are small = (
   slight_at P weaker grid parts all (first + 1) rs (All-tail (λ (q : Reported). AreValues all q.values) r rs are) small,
 )
 
-pub slight_own : (setup : Setup) (grid : Grid) (present : List ℕ) (reports : List Reported) (o : ℕ) → IsWideCalled setup grid reports → Contains (objects setup.objects) o
+pub slight_own : (setup : Setup) (grid : Grid) (present : List ℕ) (reports : List Reported) (o : ℕ) → CanWiden setup grid reports → Contains (objects setup.objects) o
     → unsigned_abs (new_factor grid (wide_own setup present reports ∷ map (monitor (pos 0)) reports) 0 (wide_own setup present reports) o) < 2 ^ 108
 slight_own setup grid present reports o w in' =
     let parts = wide_own setup present reports ∷ map (monitor (pos 0)) reports in
@@ -167,7 +161,7 @@ slight_own setup grid present reports o w in' =
 
 -- ---- the promises
 
-wide_placed : (setup : Setup) (grid : Grid) (present : List ℕ) (reports : List Reported) → IsWideCalled setup grid reports
+wide_placed : (setup : Setup) (grid : Grid) (present : List ℕ) (reports : List Reported) → CanWiden setup grid reports
     → ArePlaced grid (wide_own setup present reports) (map (monitor (pos 0)) reports) (objects setup.objects)
 wide_placed setup grid present reports w =
     let nodes : map (λ (q : Part). q.node) (map (monitor (pos 0)) reports) ≡ range_with_len 1 grid.monitors = nodes_map (λ n. n) reports ∙ map-id (map (λ (r : Reported). r.mon.0) reports) ∙ wide_order setup grid present reports w in
@@ -179,7 +173,7 @@ wide_placed setup grid present reports w =
       monitors = subst (All (λ j. j ≤ grid.monitors)) (sym nodes) (λ k d within. omega (arith, get_or-range_with_len 1 grid.monitors k d (omega (arith, length-range_with_len 1 grid.monitors)), length-range_with_len 1 grid.monitors));
     }
 
-called : (setup : Setup) (grid : Grid) (present : List ℕ) (reports : List Reported) (change : Reallocation) → IsWide setup grid present reports change → IsWideCalled setup grid reports
+called : (setup : Setup) (grid : Grid) (present : List ℕ) (reports : List Reported) (change : Reallocation) → IsWide setup grid present reports change → CanWiden setup grid reports
 called setup grid present reports change w = record { limits = w.limits; size = w.size; balanced = w.balanced; reported = w.reported }
 
 pub wide_replaces : (setup : Setup) (grid : Grid) (present : List ℕ) (reports : List Reported) (change : Reallocation) → IsWide setup grid present reports change → IsReplacement grid change
@@ -201,7 +195,7 @@ wide_at_slight setup grid present reports change w k d h =
     k d h).1
 
 -- a member's leeway is at least that of any other object
-pub wide_order_kept : (setup : Setup) (grid : Grid) (present : List ℕ) (reports : List Reported) (t s : ℕ) → IsWideCalled setup grid reports
+pub wide_order_kept : (setup : Setup) (grid : Grid) (present : List ℕ) (reports : List Reported) (t s : ℕ) → CanWiden setup grid reports
     → Contains (chosen setup present reports (objects setup.objects)) t → (Contains (chosen setup present reports (objects setup.objects)) s → ⊥) → Contains (objects setup.objects) s
     → leeway grid (wide_own setup present reports ∷ map (monitor (pos 0)) reports) s ≤ℤ leeway grid (wide_own setup present reports ∷ map (monitor (pos 0)) reports) t
 wide_order_kept setup grid present reports t s w chosen_t left of =

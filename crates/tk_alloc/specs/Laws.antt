@@ -1,8 +1,8 @@
 -- What holds of rounds, and what they mend at the monitors.
 use Rattle.std.specs.Prelude.{ℕ, ℤ, ◌≡◌, ◌<◌, ◌≤◌, ◌≤ℤ◌, false, List, length, Contains}
-use Rattle.tk_alloc.specs.Limit.{AreSized, CanDeal}
+use Rattle.tk_alloc.specs.Limit.{AreSized, AreTotalsSized, CanDeal, CanWiden}
 use Rattle.tk_alloc.specs.Resolving.{round_parts}
-use Rattle.tk_alloc.specs.Rounds.{chosen}
+use Rattle.tk_alloc.specs.Rounds.{chosen, wide_parts}
 use Rattle.tk_alloc.specs.Strain.{IsShortNow, IsWideNow, is_strained}
 use Rattle.tk_alloc.specs.declared.reported.Reported.{Reported}
 use Rattle.tk_base.specs.Objects.{objects}
@@ -16,6 +16,14 @@ RoundsStaySmall =
     (setup : Setup) (grid : Grid) (present members objects : List ℕ) (reports : List Reported)
     → CanDeal setup grid present objects reports
     → AreSized grid (round_parts setup grid present members objects reports) objects
+
+-- no number of a wide round leaves 128 bits: no leeway, no new factor, no total
+abbrev pub WideRoundsStaySmall : Type 0
+WideRoundsStaySmall =
+    (setup : Setup) (grid : Grid) (present : List ℕ) (reports : List Reported)
+    → CanWiden setup grid reports
+    → AreSized grid (wide_parts setup (chosen setup present reports (objects setup.objects)) reports) (objects setup.objects)
+    × AreTotalsSized reports (objects setup.objects)
 
 -- where no outsider is above a member, nothing is broken
 abbrev pub OrderIsCalm : Type 0

@@ -1,6 +1,7 @@
 -- The limit of factors: the first new factor that is past it, and how great any number of a round is.
 use Rattle.std.specs.Prelude.{ℕ, ◌^◌, ◌<◌, ◌≤◌, ℤ, unsigned_abs, List, [], ◌∷◌, length, Contains, ⊤}
 use Rattle.std.specs.List.{All, enumerate_from}
+use Rattle.tk_base.specs.Objects.{objects}
 use Rattle.tk_base.specs.Pairs.{objects_of}
 use Rattle.tk_base.specs.Settings.{Setup, IsWithinLimits}
 use Rattle.tk_rows.specs.Factors.{AreBalanced, Grid, IsFactor}
@@ -9,7 +10,7 @@ use Rattle.tk_alloc.specs.declared.alloc_fault.AllocFault.TheVariants.{PastLimit
 use Rattle.tk_alloc.specs.declared.reported.Reported.{Reported}
 use Rattle.tk_alloc.specs.Parts.{Part, dealt_from, leeway, new_factor}
 use Rattle.tk_alloc.specs.Resolving.{CanTakePart, IsReady, objects_over, round_parts}
-use Rattle.tk_alloc.specs.Rounds.{chosen}
+use Rattle.tk_alloc.specs.Rounds.{AreReports, IsOfSize, chosen, total}
 
 -- changes at some nodes give an object this factor at a node
 pub record Gives (nodes : List (ℕ × List (ℕ × ℤ))) (o node : ℕ) (factor : ℤ) : Type 0 where
@@ -59,6 +60,17 @@ pub record CanDeal (setup : Setup) (grid : Grid) (present objects : List ℕ) (r
   pub ready : IsReady setup grid present objects
   pub take : All (CanTakePart grid present objects) reports
   pub count : length reports ≤ setup.monitors
+
+-- a wide round can begin: each monitor has reported all objects
+pub record CanWiden (setup : Setup) (grid : Grid) (reports : List Reported) : Type 0 where
+  pub limits : IsWithinLimits setup
+  pub size : IsOfSize setup grid
+  pub balanced : AreBalanced grid
+  pub reported : AreReports setup.monitors (objects setup.objects) reports
+
+-- no reported total of these objects reaches 2^107 in size
+abbrev pub AreTotalsSized : List Reported → List ℕ → Type 0
+AreTotalsSized reports objects = All (λ o. unsigned_abs (total reports o) < 2 ^ 107) objects
 
 -- no leeway of these objects reaches 2^122 in size, and no new factor
 pub record AreSized (grid : Grid) (parts : List Part) (objects : List ℕ) : Type 0 where

@@ -1,6 +1,7 @@
-ghost use Rattle.tk_alloc.specs.Laws.{RoundsStaySmall};
+ghost use Rattle.tk_alloc.specs.Laws.{RoundsStaySmall, WideRoundsStaySmall};
 
-/// No number of a short or a full round leaves 128 bits, whether or not a factor is past its limit.
+/// No number of a round leaves 128 bits: of a short or a full one whether or not a factor is past its limit, and of a wide one.
 pub fn rounds_stay_small()
-    ensures { RoundsStaySmall }
+    ensures asked { RoundsStaySmall }
+    ensures wide { WideRoundsStaySmall }
 {}

@@ -15,7 +15,7 @@ use crate::terms::Terms;
 use std::alloc::Global;
 use tk_base::{NoMemory, Obj, ObjSet, Pairs};
 use tk_rows::{MonChange, Reallocation, Table};
-use tk_share::deal;
+use tk_share::Participant;
 
 /// The coordinator's value of an object: epsilon for a member.
 fn own_value(epsilon: i128, members: &ObjSet, o: Obj) -> i128
@@ -151,9 +151,10 @@ pub fn factors(
     ensures { IfOk result (λ c. c ≡ dealt_by values.now border weights.now p (objects_of values.now) leeways.now) }
 {
     let mut list = Vec::with_capacity(alloc, values.len())?;
+    let participant = Participant::new(weights, p);
     for place in 0..values.len() {
         let (o, value) = values.at(place);
-        let share = deal(leeways[place], weights, p);
+        let share = participant.deal(leeways[place]);
         add(&mut list, o, new_factor(border, value, share))?;
     }
     Ok(into_pairs(list))
@@ -216,7 +217,7 @@ fn all_changes(
     Ok(at)
 }
 
-/// The reallocation of a round. Its cost is the objects times the square of the participants.
+/// The reallocation of a round. Its cost is the objects times the participants, and the square of these.
 pub fn reallocated(
     alloc: Global,
     terms: &Terms,

@@ -1,6 +1,6 @@
 ghost use Rattle.std.specs.Prelude.{◌<◌, ◌^◌, unsigned_abs};
 
-use tk_share::deal;
+use tk_share::Participant;
 
 /// How a leeway is dealt to three of the weight 1.
 fn dealt(leeway: i128) -> [i128; 3]
@@ -8,9 +8,9 @@ fn dealt(leeway: i128) -> [i128; 3]
 {
     let weights: [u32; 3] = [1, 1, 1];
     [
-        deal(leeway, &weights, 0),
-        deal(leeway, &weights, 1),
-        deal(leeway, &weights, 2),
+        Participant::new(&weights, 0).deal(leeway),
+        Participant::new(&weights, 1).deal(leeway),
+        Participant::new(&weights, 2).deal(leeway),
     ]
 }
 
@@ -27,9 +27,9 @@ fn dealing_table(rt: HostRuntime) {
 fn no_weight_is_dealt_nothing(rt: HostRuntime) {
     let weights: [u32; 3] = [0, 1, 1];
     let shares = [
-        deal(1, &weights, 0),
-        deal(1, &weights, 1),
-        deal(1, &weights, 2),
+        Participant::new(&weights, 0).deal(1),
+        Participant::new(&weights, 1).deal(1),
+        Participant::new(&weights, 2).deal(1),
     ];
     assert!(rt; shares == [0, 1, 0]);
 }

@@ -2,7 +2,8 @@
 //!
 //! It promises that a set and a list of pairs ascend strictly, that settings are within the limits of
 //! this system, and that a clone equals what it was made of. It stands on nothing.
-//! Only the four `try_clone` answer want of memory; `Pairs::new` takes some for its small form, and does without.
+//! Only the four `try_clone` and the clone of `Places` answer want of memory; `Pairs::new` takes some for its small
+//! form, and does without.
 #![tactic(auto)]
 
 mod cut;

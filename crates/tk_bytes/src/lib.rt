@@ -17,4 +17,3 @@ mod world;
 pub use line::Line;
 pub use telling::byte_story;
 pub use wired::Wired;
-pub use world::{ByteWorld, byte_world};

@@ -1,7 +1,7 @@
 -- A leg of a sweep, as far as it went.
 use Rattle.tk_drain.specs.declared.leg.Leg.TheVariants as p
-use Rattle.std.proofs.Common.{◌≡◌, ℕ, suc, zero, ◌+◌, ◌-◌, ◌<◌, ◌≤◌, true, List, [], ◌∷◌, ◌++◌, length, map, take, Option, Some, None, refl, sym, ap, ◌∙◌, subst, arith, inl, inr}
-use Rattle.std.specs.Prelude.{Result, Ok, Err, OnErr, ◌⊎◌}
+use Rattle.std.proofs.Common.{◌≡◌, ℕ, suc, zero, ◌+◌, ◌-◌, ◌<◌, ◌≤◌, true, false, List, [], ◌∷◌, ◌++◌, length, map, take, Option, Some, None, refl, sym, ap, ◌∙◌, subst, arith, inl, inr}
+use Rattle.std.specs.Prelude.{Result, Ok, Err, OnErr, is_some, ◌⊎◌}
 use Rattle.std.specs.List.{list_all, range_with_len}
 use Rattle.std.proofs.lemmas.List.{length-append}
 use Rattle.std.proofs.lemmas.List.FromFn.{length-map-range_with_len, map-range_with_len_more, take-map-range_with_len}
@@ -276,6 +276,38 @@ grown_moves a b is grows c = let e = ap (λ (k : KeptStory). length k.events) (i
 pub sweep_tells : (a b : KeptStory) (moved : Moved) → b ≡ swept a → Grows moved a b → (moved ≡ Idle → CanOnlyChange a.story) × (CanOnlyChange a.story → moved ≡ Idle)
 sweep_tells a b Idle is grows = (λ _. swept_idle a (sym is ∙ grows), λ _. refl)
 sweep_tells a b Yes is grows = (λ same. absurd (cc), λ idle. absurd (grown_moves a b is grows idle))
+
+-- ---- where nothing but a raise or a retune is enabled
+
+-- no event of a leg is enabled there
+leg_idle : (leg : Leg) (s : StoryView) → CanOnlyChange s → (mon : ℕ) → IsMonitor s.settings mon → next_of s (leg_at leg mon) ≡ None
+leg_idle p.Check s c mon m = c.check mon m
+leg_idle p.Up s c mon m = c.up mon m
+leg_idle p.Down s c mon m = c.down mon m
+
+-- a leg leaves it as it is, as far as it went
+leg_stands : (leg : Leg) (old now : KeptStory) (moved : Moved) (next : ℕ) → LegUpTo leg old now moved next → CanOnlyChange old.story → now ≡ old
+leg_stands leg old now moved next x c =
+    let one = x.from_one in
+    let most = x.most in
+    x.is
+    ∙ idle_kept old (map (leg_at leg) (range_with_len 1 (next - 1)))
+    (each_true (is_idle old.story) (leg_at leg) 1 (next - 1) (λ q low high. none_idle (next_of old.story (leg_at leg q)) (leg_idle leg old.story c q (record { from_one = low; within = omega (arith, one, most, high) }))))
+
+-- so where an event of a leg is enabled, something was enabled before the leg
+pub leg_busy : (leg : Leg) (old now : KeptStory) (moved : Moved) (next mon : ℕ) (e : Event) → LegUpTo leg old now moved next → IsMonitor now.story.settings mon → e ≡ leg_at leg mon
+    → is_some (next_of now.story e) ≡ true → CanOnlyChange old.story → ⊥
+leg_busy leg old now moved next mon e x m is some c =
+    let here : CanOnlyChange now.story = subst (λ (k : KeptStory). CanOnlyChange k.story) (sym (leg_stands leg old now moved next x c)) c in
+    let none : is_some (next_of now.story e) ≡ false = ap (λ (v : Event). is_some (next_of now.story v)) is ∙ ap (λ (o : Option StoryView). is_some o) (leg_idle leg now.story here mon m) in
+    cc
+
+-- a whole leg leaves nothing enabled there
+pub still_behind : (leg : Leg) (a b : KeptStory) (moved : Moved) → LegDone leg a b moved → CanOnlyChange a.story → CanOnlyChange b.story
+still_behind leg a b moved x c =
+    let same : b ≡ a = x.is ∙ idle_kept a (leg_events leg a.story.settings)
+    (each_true (is_idle a.story) (leg_at leg) 1 a.story.settings.monitors (λ q low high. none_idle (next_of a.story (leg_at leg q)) (leg_idle leg a.story c q (record { from_one = low; within = omega (arith, high) })))) in
+    subst (λ (k : KeptStory). CanOnlyChange k.story) (sym same) c
 
 -- ---- results
 

@@ -1,6 +1,7 @@
 ghost use Rattle.std.specs.Prelude.{◌≡◌, IfOk, OnErr};
 ghost use Rattle.tk_story.specs.Kept.{KeptStory};
 ghost use Rattle.tk_story.specs.Story.{IsStory};
+ghost use Rattle.tk_world.specs.Events.{CanOnlyChange};
 ghost use Rattle.tk_drain.specs.Drive.{KeepsFront, keep_all};
 ghost use Rattle.tk_drain.specs.Legs.{Grows, leg_at, leg_events};
 
@@ -33,6 +34,7 @@ pub fn run<N: Nodes>(world: &mut World<N>, leg: Leg) -> Result<Moved, NoMemory>
     requires { IsStory world.old.story }
     ensures ok { IfOk result (λ _. world.new ≡ keep_all world.old (leg_events leg world.old.story.settings)) }
     ensures moved { IfOk result (λ moved. Grows moved world.old world.new) }
+    ensures enabled { OnErr result (CanOnlyChange world.old.story → ⊥) }
     ensures err { OnErr result (KeepsFront (leg_events leg world.old.story.settings) world.old world.new) }
     ensures legal { IsStory world.new.story }
 {

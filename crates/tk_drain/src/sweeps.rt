@@ -21,6 +21,8 @@ pub struct Sweeps {
 pub fn sweep<N: Nodes>(world: &mut World<N>) -> Result<Moved, NoMemory>
     ensures ok { IfOk result (λ _. world.new ≡ swept world.old) }
     ensures idle { IfOk result (λ moved. (moved ≡ Idle) ↔ CanOnlyChange world.old.story) }
+    // Want of memory comes only where something is enabled.
+    ensures enabled { OnErr result (CanOnlyChange world.old.story → ⊥) }
     ensures err { OnErr result (KeepsFront (sweep_events world.old.story.settings) world.old world.new) }
     ensures legal { IsStory world.new.story }
 {
@@ -32,14 +34,19 @@ pub fn sweep<N: Nodes>(world: &mut World<N>) -> Result<Moved, NoMemory>
     Ok(either(either(checks, ups), downs))
 }
 
-/// Sweeps until one moves nothing.
+/// Sweeps until one moves nothing. A world in which nothing is to do answers in a constant.
 pub fn settle<N: Nodes>(world: &mut World<N>) -> Result<Sweeps, NoMemory>
     ensures settles { IfOk result (λ sweeps. Settles world.old world.new sweeps.count) }
     ensures most { IfOk result (λ sweeps. sweeps.count ≤ 87 * world.old.story.settings.monitors + 1) }
     ensures rests { OnOk result (ComesToRest world.old.story world.new.story) }
+    // Want of memory comes only where something is enabled.
+    ensures enabled { OnErr result (CanOnlyChange world.old.story → ⊥) }
     ensures err { OnErr result (BeginsSettling world.old world.new) }
     ensures legal { IsStory world.new.story }
 {
+    if world.is_settled() {
+        return Ok(Sweeps { count: 1 });
+    }
     let most = 87 * u64::from(world.settings().monitors()) + 1;
     for moved in 0..most {
         match sweep(world)? {

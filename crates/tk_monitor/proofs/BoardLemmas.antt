@@ -159,7 +159,7 @@ factor_first true here there given r rest first later = ap Some (first refl)
 factor_first false here there given r rest first later = later
 
 -- the factors of the objects named, by object
-factor_of : (kept changes : List (ℕ × ℤ)) (o : ℕ) → value_at (factors_over kept changes) o ≡ option_map (λ _. factor_in kept o) (value_at changes o)
+factor_of : (kept : List (Option ℤ)) (changes : List (ℕ × ℤ)) (o : ℕ) → value_at (factors_over kept changes) o ≡ option_map (λ _. factor_in kept o) (value_at changes o)
 factor_of kept [] o = refl
 factor_of kept (c ∷ changes) o =
     factor_first (c.0 == o) (factor_in kept c.0) (factor_in kept o) c.1 (value_at (factors_over kept changes) o) (value_at changes o)
@@ -171,7 +171,7 @@ undone_level : (value level factor now : ℤ) (change back : Option ℤ) → val
 undone_level value level factor now None back parts none is = ap (λ r. option_map_or (λ z. value +ℤ z) r now) none ∙ is
 undone_level value level factor now (Some given) back parts some is = ap (λ r. option_map_or (λ z. value +ℤ z) r now) some ∙ omega (arith, ints, parts)
 
-pub assigned_undone : (values levels : List ℤ) (kept changes : List (ℕ × ℤ)) → ((o : ℕ) → 1 ≤ o → o ≤ length levels → level_at values o ≡ level_at levels o -ℤ factor_in kept o) → assigned values (assigned values levels changes) (factors_over kept changes) ≡ levels
+pub assigned_undone : (values levels : List ℤ) (kept : List (Option ℤ)) (changes : List (ℕ × ℤ)) → ((o : ℕ) → 1 ≤ o → o ≤ length levels → level_at values o ≡ level_at levels o -ℤ factor_in kept o) → assigned values (assigned values levels changes) (factors_over kept changes) ≡ levels
 unfolding assigned objects
 assigned_undone values levels kept changes parts =
     let now = map (assigned_level values levels changes) (range_with_len 1 (length levels)) in

@@ -1,5 +1,5 @@
--- The board of a monitor: values, levels and members. No public clause cites this file.
-use Rattle.std.specs.Prelude.{◌≡◌, ℕ, ◌-◌, ◌^◌, ◌≤◌, ℤ, ◌+ℤ◌, ◌-ℤ◌, unsigned_abs, slice_set, List, length, map, All}
+-- The board of a monitor: values, levels and members. Of public clauses that of `Monitor::level` alone cites this file (`IsOneOf`).
+use Rattle.std.specs.Prelude.{◌≡◌, ℕ, ◌-◌, ◌^◌, ◌≤◌, ℤ, ◌+ℤ◌, ◌-ℤ◌, unsigned_abs, slice_set, List, length, map, All, Option}
 use Rattle.std.specs.Option.{option_map_or}
 use Rattle.tk_base.specs.Objects.{objects}
 use Rattle.tk_base.specs.Pairs.{value_at}
@@ -13,11 +13,11 @@ pub record BoardView : Type 0 where
   pub members : List ℕ
 
 -- the value of each object: its level without its factor
-unfoldable pub values_under : List ℤ → List (ℕ × ℤ) → List ℤ
+unfoldable pub values_under : List ℤ → List (Option ℤ) → List ℤ
 values_under levels kept = map (λ o. level_at levels o -ℤ factor_in kept o) (objects (length levels))
 
 -- a board by its levels, the factors that are kept, and the members
-abbrev pub board_of : List ℤ → List (ℕ × ℤ) → List ℕ → BoardView
+abbrev pub board_of : List ℤ → List (Option ℤ) → List ℕ → BoardView
 board_of levels kept members = record { values = values_under levels kept; levels = levels; members = members }
 
 -- the board once a change counts

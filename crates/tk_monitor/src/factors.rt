@@ -1,27 +1,80 @@
-ghost use Rattle.std.specs.Prelude.{◌≡◌, ℕ, ◌^◌, ◌≤◌, unsigned_abs, [], All, IfOk, OnOk};
-ghost use Rattle.tk_monitor.specs.Factors.{factor_in, factors_over, HasFactor, IsWithFactor};
+ghost use Rattle.std.specs.Prelude.{◌≡◌, ℕ, ◌+◌, ◌^◌, ◌<◌, ◌≤◌, pos, unsigned_abs, [], ◌∷◌, ◌++◌, length, slice_index, slice_set, All, IfOk, IfErr, OnOk, OnErr};
+ghost use Rattle.tk_monitor.specs.Factors.{AreFactors, factor_in, factors_over, HasFactor, HasGot, IsWithFactor, kept_by};
 
 use std::alloc::Global;
-use std::collections::BTreeMap;
 use std::marker::Model;
 use tk_base::{NoMemory, Obj, Pairs};
 
-/// The factors that a monitor was assigned. One that it was not is zero, and takes no memory.
+/// The factors that a monitor was assigned. One that it was not is zero; it takes 4 bytes at most.
 #[derive(Debug, Drop)]
 pub(crate) struct Factors {
-    kept: BTreeMap<Obj, i128>,
+    /// For each object one more than the place of its factor, or 0 where it has none.
+    slots: Vec<u32>,
+    list: Vec<i128>,
 }
 
 impl Model for Factors {
-    ghost use Rattle.std.specs.Prelude.{ℕ, ℤ, List, ◌^◌, ◌≤◌, unsigned_abs};
-    ghost use Rattle.tk_base.specs.Pairs.{pairs_of};
-    ghost use Rattle.tk_monitor.specs.Factors.{factor_in};
+    ghost use Rattle.std.specs.Prelude.{ℤ, List, Option};
+    ghost use Rattle.tk_monitor.specs.Factors.{AreFactors, kept_by};
 
-    ghost Value = { List (ℕ × ℤ) };
+    ghost Value = { List (Option ℤ) };
 
-    ghost view = { λ f. pairs_of f.kept.entries };
+    ghost view = { λ f. kept_by f.slots.items f.list.items };
 
-    ghost invariant = { λ f. (o : ℕ) → unsigned_abs (factor_in (pairs_of f.kept.entries) o) ≤ 2 ^ 112 };
+    ghost invariant = { λ f. AreFactors f.slots.items f.list.items };
+}
+
+/// The slot of an object.
+fn slot_of(slots: &[u32], o: Obj) -> usize
+    ensures { result ≡ slice_index slots.now o.0 }
+{
+    match slots.get(o.0 as usize) {
+        Some(slot) => *slot as usize,
+        None => 0,
+    }
+}
+
+/// The factor in a slot.
+fn read(slots: &[u32], list: &[i128], o: Obj) -> i128
+    requires { AreFactors slots.now list.now }
+    ensures value { result ≡ factor_in (kept_by slots.now list.now) o.0 }
+    ensures size { unsigned_abs result ≤ 2 ^ 112 }
+{
+    let slot = slot_of(slots, o);
+    if slot == 0 {
+        return 0;
+    }
+    list[slot - 1]
+}
+
+/// Makes room for the slot of an object.
+fn widen(slots: &mut Vec<u32>, o: Obj) -> Result<(), NoMemory>
+    ensures within { OnOk result (o.0 < length slots.new.items) }
+    ensures same { (q : ℕ) → slice_index slots.new.items q ≡ slice_index slots.old.items q }
+{
+    let place = o.0 as usize;
+    if place >= slots.len() {
+        slots.resize(place + 1, 0)?;
+    }
+    Ok(())
+}
+
+/// Gives an object that has none a slot, with the factor zero.
+fn add(slots: &mut Vec<u32>, list: &mut Vec<i128>, o: Obj) -> Result<(), NoMemory>
+    requires tied { AreFactors slots.old.items list.old.items }
+    requires none { slice_index slots.old.items o.0 ≡ 0 }
+    ensures list { OnOk result (list.new.items ≡ list.old.items ++ pos 0 ∷ []) }
+    ensures slot { OnOk result (HasGot slots.old.items slots.new.items o.0 (length list.old.items + 1)) }
+    ensures kept { OnErr result (list.new.items ≡ list.old.items) }
+    ensures same { OnErr result ((q : ℕ) → slice_index slots.new.items q ≡ slice_index slots.old.items q) }
+{
+    let Ok(slot) = u32::try_from(list.len() + 1) else {
+        return Err(NoMemory);
+    };
+    widen(slots, o)?;
+    list.push(0)?;
+    slots[o.0 as usize] = slot;
+    Ok(())
 }
 
 impl Factors {
@@ -30,19 +83,17 @@ impl Factors {
         ensures { result ≡ [] }
     {
         Factors {
-            kept: BTreeMap::new(alloc),
+            slots: Vec::new(alloc),
+            list: Vec::new(alloc),
         }
     }
 
-    /// The factor of an object, in logarithmic time.
+    /// The factor of an object, in a constant.
     pub fn of(&self, o: Obj) -> i128
         ensures value { result ≡ factor_in self.now o.0 }
         ensures size { unsigned_abs result ≤ 2 ^ 112 }
     {
-        match self.kept.get(&o) {
-            Some(factor) => *factor,
-            None => 0,
-        }
+        read(self.slots.as_slice(), self.list.as_slice(), o)
     }
 
     /// The factor of an object, which is kept from now on.
@@ -53,13 +104,11 @@ impl Factors {
         ensures kept { OnOk result (HasFactor self.new o.0) }
         ensures still { (q : ℕ) → HasFactor self.old q → HasFactor self.new q }
     {
-        match self.kept.get(&o) {
-            Some(factor) => Ok(*factor),
-            None => {
-                self.kept.insert(o, 0)?;
-                Ok(0)
-            }
+        if slot_of(self.slots.as_slice(), o) > 0 {
+            return Ok(read(self.slots.as_slice(), self.list.as_slice(), o));
         }
+        add(&mut self.slots, &mut self.list, o)?;
+        Ok(0)
     }
 
     /// The factors of the objects that some changes name, which are kept from now on.
@@ -70,7 +119,7 @@ impl Factors {
         ensures kept { OnOk result (All (λ c. HasFactor self.new c.0) changes.now) }
     {
         // A field is read for what all factors keep.
-        let _ = &self.kept;
+        let _ = &self.slots;
         let mut list = Vec::with_capacity(alloc, changes.len())?;
         for i in 0..changes.len() {
             let (o, _) = changes.at(i);
@@ -87,9 +136,9 @@ impl Factors {
         ensures size { unsigned_abs result ≤ 2 ^ 112 }
         ensures new { IsWithFactor self.old o.0 factor self.new }
     {
-        match self.kept.insert(o, factor) {
-            Ok(before) => before.unwrap_or(0),
-            Err(_) => unreachable!(),
-        }
+        let before = read(self.slots.as_slice(), self.list.as_slice(), o);
+        let place = slot_of(self.slots.as_slice(), o) - 1;
+        self.list[place] = factor;
+        before
     }
 }

@@ -1,8 +1,7 @@
 -- Several queries over common logs as contracts see them, and what an event leaves.
-use Rattle.std.specs.Prelude.{ℕ, ℤ, ◌≡◌, ◌-◌, ◌^◌, ◌<◌, Bool, true, false, if◌then◌else◌, List, [], ◌∷◌, ◌++◌, length, map, fold, set, slice_get, Option, Some, None, option_map, option_and_then, Result, Ok}
+use Rattle.std.specs.Prelude.{ℕ, ℤ, ◌≡◌, ◌-◌, ◌^◌, ◌<◌, Bool, true, false, if◌then◌else◌, List, [], ◌∷◌, ◌++◌, length, map, fold, set, slice_get, Option, Some, None, option_map, option_and_then}
 use Rattle.std.specs.List.{zip}
 use Rattle.tk_input.specs.Logs.{IsCut, LogSet, beginnings, part_of}
-use Rattle.tk_input.specs.Records.{and_then}
 use Rattle.tk_input.specs.declared.event.Event.{Event}
 use Rattle.tk_input.specs.declared.event.Event.TheVariants as alone
 use Rattle.tk_story.specs.Kept.{KeptStory}
@@ -11,14 +10,12 @@ use Rattle.tk_world.specs.Events.{begin, next_of}
 use Rattle.tk_world.specs.declared.moved.Moved.{Moved}
 use Rattle.tk_world.specs.declared.moved.Moved.TheVariants.{Yes, Idle}
 use Rattle.tk_drain.specs.Drive.{keep}
-use Rattle.tk_multi.specs.Alone.{alones_of}
 use Rattle.tk_multi.specs.Front.{HasPlace, place_of, raised}
 use Rattle.tk_multi.specs.Projection.{is_feeder, is_watched}
-use Rattle.tk_multi.specs.Queries.{QueryView, entry_at}
+use Rattle.tk_multi.specs.Queries.{entry_at}
 use Rattle.tk_multi.specs.declared.alone.Alone.{Alone}
 use Rattle.tk_multi.specs.declared.event.MultiEvent.{MultiEvent}
 use Rattle.tk_multi.specs.declared.event.MultiEvent.TheVariants.{Raise, Check, Up, Down}
-use Rattle.tk_multi.specs.declared.fault.MultiFault.{MultiFault}
 
 -- the common logs and how far each part is raised; for each query what it watches, and its story so far
 pub record MultiView : Type 0 where
@@ -99,10 +96,6 @@ begun_over all alones = record {
   watches = map (λ alone. alone.watch) alones;
   worlds = map begun alones;
 }
-
--- some queries over the logs of a catalogue that have just begun, or why they are refused
-abbrev pub multi_of : List (List ℕ) → LogSet → List QueryView → Result MultiView MultiFault
-multi_of names all queries = and_then (λ alones. Ok (begun_over all alones)) (alones_of names all queries)
 
 -- the common places are places of the logs, and each query has its world
 pub record AreSetUp (logs : LogSet) (places : List (List ℕ)) (watches worlds : ℕ) : Type 0 where

@@ -1,25 +1,20 @@
-ghost use Rattle.std.specs.Prelude.{◌≡◌, IfOk, IfErr, IfSome, OnErr, Ok, is_ok, is_some, length, map, option_map, true};
+ghost use Rattle.std.specs.Prelude.{◌≡◌, IfOk, IfSome, OnErr, is_ok, is_some, length, map, option_map, true};
 ghost use Rattle.std.specs.List.{zip};
 ghost use Rattle.tk_input.specs.Changes.{pair_of};
 ghost use Rattle.tk_input.specs.declared.event.Event.TheVariants.{Raise as RaiseAlone};
 ghost use Rattle.tk_drain.specs.Drive.{keep};
 ghost use Rattle.tk_input.specs.Logs.{beginnings};
-ghost use Rattle.tk_multi.specs.Alone.{Refuses};
-ghost use Rattle.tk_multi.specs.Multi.{GoesOn, Leaves, Steps, is_raise, moved_at, multi_of, next_change as next_change_of, next_in, next_multi};
+ghost use Rattle.tk_multi.specs.Multi.{GoesOn, Leaves, Steps, is_raise, moved_at, next_change as next_change_of, next_in, next_multi};
 ghost use Rattle.tk_multi.specs.Projection.{is_feeder};
 ghost use Rattle.tk_multi.specs.declared.event.MultiEvent.TheVariants.{Raise};
 
 use crate::event::MultiEvent;
-use crate::fault::MultiFault;
 use crate::front::Front;
-use crate::playing::{Begun, begin};
-use crate::queries::Queries;
-use crate::setting_up::each_alone;
 use crate::watch::Watch;
 use std::alloc::Global;
 use std::marker::Model;
 use tk_base::{Feeder, Mon, NoMemory, Obj};
-use tk_input::{Catalog, Change, Event, Logs};
+use tk_input::{Change, Event, Logs};
 use tk_world::{Direct, Moved, Nodes, World};
 
 /// Several queries over common logs, each with a world of its own. Contracts see how far each common part is raised and,
@@ -74,25 +69,6 @@ fn raise_where<N: Nodes>(worlds: &mut [World<N>], watches: &[Watch], mon: Mon, f
 {
     for i in 0..worlds.len() {
         raise_if(&mut worlds[i], &watches[i], mon, f, obj);
-    }
-}
-
-impl Multi {
-    /// Lets each query begin. The coordinator's own weight is 1.
-    pub fn new(
-        alloc: Global,
-        names: &Catalog,
-        logs: Logs,
-        queries: &Queries,
-    ) -> Result<Multi, MultiFault>
-        requires { logs.objects ≡ length names.now }
-        ensures ok { IfOk result (λ m. multi_of names.now logs queries.now ≡ Ok m) }
-        ensures err { IfErr result (λ e. Refuses e (multi_of names.now logs queries.now)) }
-    {
-        let alones = each_alone(alloc, names, &logs, queries)?;
-        let Begun { multi, names: own } = begin(alloc, logs, alones)?;
-        drop(own);
-        Ok(multi)
     }
 }
 

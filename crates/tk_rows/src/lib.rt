@@ -1,17 +1,15 @@
-//! Rows of factors: one monitor's row, and the table of all nodes.
+//! The table of factors: of each object, at each node.
 //!
 //! It promises that the factors of each object of a table, the coordinator's own included, sum to zero,
 //! that no factor is past 2^112 in size, and that a reallocation changes exactly what it names. It stands
-//! on tk_base. Only `Row::new` and `Table::new` take memory.
+//! on tk_base. Only `Table::new` takes memory.
 #![tactic(auto)]
 
 mod factors;
 mod mon_change;
 mod reallocation;
-mod row;
 mod table;
 
 pub use mon_change::MonChange;
 pub use reallocation::Reallocation;
-pub use row::Row;
 pub use table::Table;

@@ -7,7 +7,7 @@
 mod dealing;
 mod laws;
 
-pub use dealing::deal;
+pub use dealing::Participant;
 pub use laws::{
     shares_grow_with_the_leeway, shares_of_no_debt_are_no_debts, shares_sum_to_the_leeway,
 };

@@ -36,6 +36,20 @@ fn two_monitors(rt: HostRuntime) {
     assert!(rt; dealt(rt.alloc(), 2, &BELOW) == Some(wanted));
 }
 
+/// The factors of a and of b at a coordinator without a share of the leeway.
+fn dealt_without_a_share(alloc: Global, turns: &[Turn<'_>]) -> Option<(Factors, Factors)> {
+    let settings = Settings::new(1, 2, 0, 2, 2).ok()?;
+    let seen = after(alloc, Coordinator::new(alloc, settings).ok()?, turns, &[])?;
+    Some(seen.factors)
+}
+
+#[test]
+fn own_weight_0(rt: HostRuntime) {
+    static FULL: [Turn<'static>; 2] = [B_AT_3, (1, Said::Values(1, 1, 0, &[(1, 0), (2, 0)]))];
+    let wanted = (Some((2, -1, -1)), Some((0, 2, -2)));
+    assert!(rt; dealt_without_a_share(rt.alloc(), &FULL) == Some(wanted));
+}
+
 /// The factors of b alone.
 fn dealt_to_b(alloc: Global, turns: &[(u32, Said<'_>)]) -> Factors {
     let (_, second) = dealt(alloc, 0, turns)?;

@@ -25,7 +25,7 @@ loop-place-preserved c =
     let read = is_read c.args.values.now (objects_of c.args.values.now) c.loop-place.place c.at-value.result.0.0 c.at-value.result.1 (record { same = refl; small = c.requires.values }) c.at-value.ensures.ascends within c.at-value.ensures.value in
     dealt_next c.args.values.now border c.args.weights.now c.args.p c.args.leeways.now c.loop-place.place c.at-value.result.0.0 c.at-value.result.1 c.deal-share.result c.new_factor.result
     (pairs_of c.loop-place.list.items) (pairs_of c.add.new.list.items) (omega (arith, c.len-place-end.ensures.value)) c.requires.count read
-    (rw (to_z-of_z w128 (get_or c.args.leeways.now c.loop-place.place (pos 0)) leeway) at c.deal-share.ensures.value)
+    (rw (c.new-participant.ensures.weights, c.new-participant.ensures.place, to_z-of_z w128 (get_or c.args.leeways.now c.loop-place.place (pos 0)) leeway) at c.deal-share.ensures.value)
     (rw (to_z-of_z w128 c.at-value.result.1 fits, to_z-of_z w128 c.deal-share.result dealt) at c.new_factor.ensures.value)
     (rw (to_z-of_z w128 c.new_factor.result new) at c.in_ok-add.ensures) c.loop-place.invariant
 

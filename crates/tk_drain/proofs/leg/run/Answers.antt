@@ -4,7 +4,7 @@ use Rattle.tk_story.specs.Kept.{KeptStory}
 use Rattle.tk_world.specs.World.{Moves}
 use Rattle.tk_drain.specs.Drive.{KeepsFront}
 use Rattle.tk_drain.specs.Legs.{leg_events}
-use Rattle.tk_drain.proofs.LegLemmas.{err_by, leg_ends, leg_front, leg_smaller, leg_steps, step_after}
+use Rattle.tk_drain.proofs.LegLemmas.{err_by, leg_busy, leg_ends, leg_front, leg_smaller, leg_steps, step_after}
 use Rattle.tk_drain.proofs.leg.run.Goals as goal
 use Rattle.tk_drain.proofs.leg.run.Goals.{in-Yes, in-Idle}
 
@@ -13,6 +13,11 @@ returns-in_err-step-clause-err g c =
     err_by c.from_residual.result
     (subst (λ (w : KeptStory). KeepsFront (leg_events c.args.leg c.args.world.now.story.settings) c.args.world.now w) (sym c.in_err-step.ensures.err)
     (leg_front c.args.leg c.args.world.now c.loop-mon.world c.loop-mon.moved c.loop-mon.next.0 c.loop-mon.invariant))
+
+pub returns-in_err-step-clause-enabled : goal.returns-in_err-step-clause-enabled
+returns-in_err-step-clause-enabled g c =
+    err_by c.from_residual.result
+    (leg_busy c.args.leg c.args.world.now c.loop-mon.world c.loop-mon.moved c.loop-mon.next.0 c.in-Some.mon.0 c.event.result c.loop-mon.invariant c.in-Some.ensures.found.1 c.event.ensures c.in_err-step.ensures.enabled)
 
 pub loop-mon-smaller : goal.loop-mon-smaller
 loop-mon-smaller g c = leg_smaller c.loop-mon.world c.step.new.self c.event.result c.in_ok-step.field-0 c.loop-mon.next.0 c.in-Some.mon.0 c.loop-mon.invariant.story c.in-Some.ensures.found.0 c.in-Some.ensures.found.1 c.in_ok-step.ensures.ok

@@ -1,60 +1,70 @@
-use Rattle.std.proofs.Common.{◌≡◌, ℕ, List, ◌∙◌, Some, None, refl, ap, sym, arith, subst}
-use Rattle.std.specs.Prelude.{ℤ, pos, Option, FitsSigned, IsSome, ◌^◌}
-use Rattle.std.specs.Int.{w128}
-use Rattle.std.proofs.lemmas.Int.{ints, to_z-of_z}
-use Rattle.tk_base.specs.Pairs.{pairs_of, value_at}
-use Rattle.tk_monitor.specs.Factors.{factor_in, HasFactor}
-use Rattle.tk_monitor.proofs.FactorsLemmas.{entry_is, found, not_found, inserted, with_small, with_zero, with_kept, with_still}
+use Rattle.std.proofs.Common.{◌≡◌, ◌+◌, ◌-◌, ◌∷◌, ◌++◌, [], ℕ, suc, List, get_or, length, Some, None, refl, ap, sym, ◌∙◌, arith, subst}
+use Rattle.std.specs.Prelude.{ℤ, pos, Option, IsSome, unwrap_or}
+use Rattle.tk_monitor.specs.Factors.{AreFactors, HasFactor, HasGot, IsWithFactor, factor_in, kept_at, kept_by}
+use Rattle.tk_monitor.proofs.FactorsLemmas.{added, added_zero, kept_in, kept_none, still_kept, with_kept, with_still, with_zero}
 use Rattle.tk_monitor.proofs.factors.Factors.keep.Goals as goal
 
-pub invariant_of-self-in-None : goal.invariant_of-self-in-None
-invariant_of-self-in-None c =
-    let old = c.self.inside.kept.entries in
-    let new = c.insert.new.self.entries in
-    with_small (pairs_of old) (pairs_of new) c.args.o.0 (2 ^ 112) (pos 0) (inserted old new c.args.o (pos 0) c.in_ok-insert-in-None.ensures.updates.0) (omega arith) c.self.invariant
+pub returns-then-slot_of-gt0-clause-kept : goal.returns-then-slot_of-gt0-clause-kept
+returns-then-slot_of-gt0-clause-kept c =
+    let slots = c.self.inside.slots.items in
+    let list = c.self.inside.list.items in
+    let o = c.args.o.0 in
+    let some = c.if-slot_of-gt0.true in
+    let read = c.slot_of.ensures ∙ ap (λ (xs : List ℕ). get_or xs o 0) c.as_slice.ensures.value in
+    let slot : get_or slots o 0 ≡ suc (get_or slots o 0 - 1) = omega (arith, read, some) in
+    subst (λ (kept : List (Option ℤ)). HasFactor kept o) c.self.view_is
+    (subst (λ (r : Option ℤ). IsSome r) (sym (kept_in slots list o (get_or slots o 0 - 1) slot)) refl)
 
-pub returns-in-Some-clause-value : goal.returns-in-Some-clause-value
-returns-in-Some-clause-value c =
-    let o = c.args.o in
-    let factor = c.in-Some.factor.now in
-    let is : factor_in (pairs_of c.self.inside.kept.entries) o.0 ≡ factor = found c.self.inside.kept.entries o factor c.in-Some.ensures.value in
-    let fits : FitsSigned w128 factor = omega (arith, ints, is, c.self.invariant o.0) in
-    to_z-of_z w128 factor fits ∙ sym is ∙ ap (λ (kept : List (ℕ × ℤ)). factor_in kept o.0) c.self.view_is
+pub returns-in_err-add-clause-same : goal.returns-in_err-add-clause-same
+returns-in_err-add-clause-same c q =
+    ap (λ (r : Option ℤ). unwrap_or r (pos 0)) (still_kept c.self.inside.slots.items c.add.new.slots.items c.self.inside.list.items c.add.new.list.items q c.in_err-add.ensures.kept (c.in_err-add.ensures.same q))
+    ∙ ap (λ (kept : List (Option ℤ)). factor_in kept q) c.self.view_is
 
-pub returns-in-Some-clause-size : goal.returns-in-Some-clause-size
-returns-in-Some-clause-size c =
-    let o = c.args.o in
-    let factor = c.in-Some.factor.now in
-    let is : factor_in (pairs_of c.self.inside.kept.entries) o.0 ≡ factor = found c.self.inside.kept.entries o factor c.in-Some.ensures.value in
-    let fits : FitsSigned w128 factor = omega (arith, ints, is, c.self.invariant o.0) in
-    rw (to_z-of_z w128 factor fits) (omega (arith, ints, is, c.self.invariant o.0))
+pub returns-in_err-add-clause-still : goal.returns-in_err-add-clause-still
+returns-in_err-add-clause-still c q there =
+    subst (λ (r : Option ℤ). IsSome r)
+    (sym (still_kept c.self.inside.slots.items c.add.new.slots.items c.self.inside.list.items c.add.new.list.items q c.in_err-add.ensures.kept (c.in_err-add.ensures.same q)))
+    (subst (λ (kept : List (Option ℤ)). HasFactor kept q) (sym c.self.view_is) there)
 
-pub returns-in-Some-clause-kept : goal.returns-in-Some-clause-kept
-returns-in-Some-clause-kept c =
-    let there : Some c.in-Some.factor.now ≡ value_at (pairs_of c.self.inside.kept.entries) c.args.o.0 = c.in-Some.ensures.value ∙ entry_is c.self.inside.kept.entries c.args.o in
-    subst (λ (kept : List (ℕ × ℤ)). HasFactor kept c.args.o.0) c.self.view_is (subst (λ (r : Option ℤ). IsSome r) there refl)
+pub invariant_of-self-2 : goal.invariant_of-self-2
+invariant_of-self-2 c =
+    subst (λ (zs : List ℤ). AreFactors c.add.new.slots.items zs) (sym c.in_ok-add.ensures.list)
+    (added c.self.inside.slots.items c.add.new.slots.items c.self.inside.list.items c.args.o.0 c.self.invariant c.in_ok-add.ensures.slot)
 
-pub returns-in_ok-insert-in-None-clause-value : goal.returns-in_ok-insert-in-None-clause-value
-returns-in_ok-insert-in-None-clause-value c =
-    sym (not_found c.self.inside.kept.entries c.args.o c.in-None.ensures.value) ∙ ap (λ (kept : List (ℕ × ℤ)). factor_in kept c.args.o.0) c.self.view_is
+pub returns-clause-value : goal.returns-clause-value
+returns-clause-value c =
+    let below = c.if-slot_of-gt0.false in
+    let read = c.slot_of.ensures ∙ ap (λ (xs : List ℕ). get_or xs c.args.o.0 0) c.as_slice.ensures.value in
+    let none : get_or c.self.inside.slots.items c.args.o.0 0 ≡ 0 = omega (arith, read, below) in
+    sym (ap (λ (r : Option ℤ). unwrap_or r (pos 0)) (kept_none c.self.inside.slots.items c.self.inside.list.items c.args.o.0 none))
+    ∙ ap (λ (kept : List (Option ℤ)). factor_in kept c.args.o.0) c.self.view_is
 
-pub returns-in_ok-insert-in-None-clause-same : goal.returns-in_ok-insert-in-None-clause-same
-returns-in_ok-insert-in-None-clause-same c q =
-    let old = c.self.inside.kept.entries in
-    let new = c.insert.new.self.entries in
-    let none : value_at (pairs_of old) c.args.o.0 ≡ None = sym (c.in-None.ensures.value ∙ entry_is old c.args.o) in
-    with_zero (pairs_of old) (pairs_of new) c.args.o.0 none (inserted old new c.args.o (pos 0) c.in_ok-insert-in-None.ensures.updates.0) q
-    ∙ ap (λ (kept : List (ℕ × ℤ)). factor_in kept q) c.self.view_is
+-- the object has the factor zero
+with-zero : (old new : List ℕ) (list others : List ℤ) (o : ℕ) → AreFactors old list → HasGot old new o (length list + 1) → others ≡ list ++ pos 0 ∷ [] → IsWithFactor (kept_by old list) o (pos 0) (kept_by new others)
+with-zero old new list others o are got is = subst (λ (zs : List ℤ). IsWithFactor (kept_by old list) o (pos 0) (kept_by new zs)) (sym is) (added_zero old new list o are got)
 
-pub returns-in_ok-insert-in-None-clause-kept : goal.returns-in_ok-insert-in-None-clause-kept
-returns-in_ok-insert-in-None-clause-kept c =
-    let old = c.self.inside.kept.entries in
-    let new = c.insert.new.self.entries in
-    with_kept (pairs_of old) (pairs_of new) c.args.o.0 (pos 0) (inserted old new c.args.o (pos 0) c.in_ok-insert-in-None.ensures.updates.0)
+pub returns-clause-same : goal.returns-clause-same
+returns-clause-same c q =
+    let below = c.if-slot_of-gt0.false in
+    let read = c.slot_of.ensures ∙ ap (λ (xs : List ℕ). get_or xs c.args.o.0 0) c.as_slice.ensures.value in
+    let none : get_or c.self.inside.slots.items c.args.o.0 0 ≡ 0 = omega (arith, read, below) in
+    let old = kept_by c.self.inside.slots.items c.self.inside.list.items in
+    let new = kept_by c.add.new.slots.items c.add.new.list.items in
+    with_zero old new c.args.o.0 (kept_none c.self.inside.slots.items c.self.inside.list.items c.args.o.0 none)
+    (with-zero c.self.inside.slots.items c.add.new.slots.items c.self.inside.list.items c.add.new.list.items c.args.o.0 c.self.invariant c.in_ok-add.ensures.slot c.in_ok-add.ensures.list) q
+    ∙ ap (λ (kept : List (Option ℤ)). factor_in kept q) c.self.view_is
 
-pub returns-in_ok-insert-in-None-clause-still : goal.returns-in_ok-insert-in-None-clause-still
-returns-in_ok-insert-in-None-clause-still c q there =
-    let old = c.self.inside.kept.entries in
-    let new = c.insert.new.self.entries in
-    with_still (pairs_of old) (pairs_of new) c.args.o.0 (pos 0) (inserted old new c.args.o (pos 0) c.in_ok-insert-in-None.ensures.updates.0) q
-    (subst (λ (kept : List (ℕ × ℤ)). HasFactor kept q) (sym c.self.view_is) there)
+pub returns-clause-kept : goal.returns-clause-kept
+returns-clause-kept c =
+    let old = kept_by c.self.inside.slots.items c.self.inside.list.items in
+    let new = kept_by c.add.new.slots.items c.add.new.list.items in
+    with_kept old new c.args.o.0 (pos 0)
+    (with-zero c.self.inside.slots.items c.add.new.slots.items c.self.inside.list.items c.add.new.list.items c.args.o.0 c.self.invariant c.in_ok-add.ensures.slot c.in_ok-add.ensures.list)
+
+pub returns-clause-still : goal.returns-clause-still
+returns-clause-still c q there =
+    let old = kept_by c.self.inside.slots.items c.self.inside.list.items in
+    let new = kept_by c.add.new.slots.items c.add.new.list.items in
+    with_still old new c.args.o.0 (pos 0)
+    (with-zero c.self.inside.slots.items c.add.new.slots.items c.self.inside.list.items c.add.new.list.items c.args.o.0 c.self.invariant c.in_ok-add.ensures.slot c.in_ok-add.ensures.list) q
+    (subst (λ (kept : List (Option ℤ)). HasFactor kept q) (sym c.self.view_is) there)

@@ -1,5 +1,5 @@
 use Rattle.std.proofs.Common.{◌≡◌, ℕ, ◌++◌, ◌∷◌, [], ◌∙◌, List, take, get_or, subst, arith, ap, sym, to_z, of_z, inl, inr}
-use Rattle.std.specs.Prelude.{ℤ, FitsSigned, All, unsigned_abs, ◌^◌, ◌≤◌}
+use Rattle.std.specs.Prelude.{ℤ, Option, FitsSigned, All, unsigned_abs, ◌^◌, ◌≤◌}
 use Rattle.std.specs.Int.{w128}
 use Rattle.std.proofs.lemmas.Bool.{cases_lt}
 use Rattle.std.proofs.lemmas.Int.{ints, to_z-of_z}
@@ -8,7 +8,7 @@ use Rattle.tk_base.specs.Ascending.{IsAscending}
 use Rattle.tk_base.specs.Pairs.{pairs_of, objects_of}
 use Rattle.tk_base.specs.declared.ids.Obj.{Obj}
 use Rattle.tk_monitor.specs.Factors.{factor_in, factors_over, HasFactor}
-use Rattle.tk_monitor.proofs.FactorsLemmas.{factors_more, objects-factors, factors_over-small, got_pair}
+use Rattle.tk_monitor.proofs.FactorsLemmas.{factor_small, factors_more, objects-factors, factors_over-small, got_pair}
 use Rattle.tk_monitor.proofs.factors.Factors.keep_over.Goals as goal
 
 pub loop-i-preserved : goal.loop-i-preserved
@@ -56,5 +56,5 @@ returns-clause-sizes c =
     let changes = c.args.changes.now in
     let made : c.unwrap.result ≡ pairs_of c.loop-i.list.items = rw c.unwrap.ensures at c.new.ensures.ok in
     let all : take c.loop-i.i changes ≡ changes = take_all c.loop-i.i changes (omega (arith, c.len-i-end.ensures.value)) in
-    let small : (o : ℕ) → unsigned_abs (factor_in old o) ≤ 2 ^ 112 = λ o. subst (λ (kept : List (ℕ × ℤ)). unsigned_abs (factor_in kept o) ≤ 2 ^ 112) c.self.view_is (c.self.invariant o) in
+    let small : (o : ℕ) → unsigned_abs (factor_in old o) ≤ 2 ^ 112 = λ o. subst (λ (kept : List (Option ℤ)). unsigned_abs (factor_in kept o) ≤ 2 ^ 112) c.self.view_is (factor_small c.self.inside.slots.items c.self.inside.list.items o c.self.invariant) in
     subst (λ (ps : List (ℕ × ℤ)). All (λ p. unsigned_abs p.1 ≤ 2 ^ 112) ps) (sym (made ∙ c.loop-i.invariant.listed ∙ ap (factors_over old) all)) (factors_over-small old changes (2 ^ 112) small)
