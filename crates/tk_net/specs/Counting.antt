@@ -1,5 +1,5 @@
 -- How nets and links begin, and what the answer of a call adds to their counts.
-use Rattle.std.specs.Prelude.{ℕ, [], false}
+use Rattle.std.specs.Prelude.{ℕ, [], Bool, false}
 use Rattle.tk_wire.specs.Meanings.{Traffic, Counts, raised_by}
 use Rattle.tk_wire.specs.Net.{NetState}
 use Rattle.tk_wire.specs.declared.net.NetFault.{NetFault}
@@ -8,6 +8,15 @@ use Rattle.tk_wire.specs.declared.net.NetFault.TheVariants.{Failed, NoMemory}
 -- the counts of a link that nothing has passed
 abbrev pub no_counts : Counts
 no_counts = record { faults = 0; ends = 0; taken = 0 }
+
+-- a link over a socket: its counts, and whether it was shut
+pub record SocketLink : Type 0 where
+  pub counts : Counts
+  pub shut : Bool
+
+-- a link over a socket, before any byte
+abbrev pub new_socket_link : SocketLink
+new_socket_link = record { counts = no_counts; shut = false }
 
 -- a net that was just made
 abbrev pub new_net : NetState

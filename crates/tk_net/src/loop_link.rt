@@ -1,6 +1,6 @@
 ghost use Rattle.std.specs.Prelude.{◌≡◌, ◌<◌, false, length, IfOk};
 ghost use Rattle.tk_wire.specs.Meanings.{FitsSlice, FitsBytes};
-ghost use Rattle.tk_net.specs.Counting.{no_counts, untold};
+ghost use Rattle.tk_net.specs.Counting.{new_socket_link, untold};
 
 use crate::link_counts::LinkCounts;
 use mio::net::TcpStream;
@@ -15,14 +15,15 @@ use tk_wire::{Gave, Took, Wire};
 pub struct LoopLink {
     stream: TcpStream,
     counts: LinkCounts,
+    shut: bool,
 }
 
 impl Model for LoopLink {
-    ghost use Rattle.tk_wire.specs.Meanings.{Counts};
+    ghost use Rattle.tk_net.specs.Counting.{SocketLink};
 
-    ghost Value = { Counts };
+    ghost Value = { SocketLink };
 
-    ghost view = { λ l. l.counts };
+    ghost view = { λ l. record { counts = l.counts; shut = l.shut } };
 }
 
 // Whether a call would only have had to wait.
@@ -33,16 +34,17 @@ fn is_early(error: &io::Error) -> bool {
 impl LoopLink {
     /// The link over a stream that never waits.
     pub(crate) fn new(stream: TcpStream) -> LoopLink
-        ensures { result ≡ no_counts }
+        ensures { result ≡ new_socket_link }
     {
         LoopLink {
             stream,
             counts: LinkCounts::new(),
+            shut: false,
         }
     }
 
     pub(crate) fn counts(&self) -> &LinkCounts
-        ensures { result.now ≡ self.now }
+        ensures { result.now ≡ self.now.counts }
     {
         &self.counts
     }
@@ -79,7 +81,9 @@ impl Wire for LoopLink {
 
     ghost traffic = { λ _. untold };
 
-    ghost counts = { λ counts. counts };
+    ghost counts = { λ l. l.counts };
+
+    ghost is_shut = { λ l. l.shut };
 
     fn faults(&self) -> u64 {
         self.counts.faults()
@@ -108,5 +112,6 @@ impl Wire for LoopLink {
     fn shut(&mut self) {
         // Where the peer has closed it before, nothing is left to close.
         let _ = self.stream.shutdown(Shutdown::Both);
+        self.shut = true;
     }
 }

@@ -1,5 +1,5 @@
 ghost use Rattle.std.specs.Prelude.{◌≡◌, ◌<◌, false, true, IfOk, IfSome};
-ghost use Rattle.tk_net.specs.Counting.{no_counts, new_net};
+ghost use Rattle.tk_net.specs.Counting.{new_socket_link, new_net};
 
 use crate::loop_bell::LoopBell;
 use crate::loop_link::LoopLink;
@@ -16,9 +16,9 @@ use std::time::Duration;
 use tk_base::NoMemory;
 use tk_wire::{Net, NetFault, Rest};
 
-/// The longest time that a wait or a rest takes.
+/// The longest time that a wait or a rest takes. What comes ends it, so it is only how late a lost edge is made up for.
 pub(crate) fn most_wait() -> Duration {
-    Duration::from_millis(5)
+    Duration::from_millis(50)
 }
 
 /// How many events one wait is told. Nobody looks at them.
@@ -89,7 +89,7 @@ impl Door {
         handle: &H,
         alloc: Global,
     ) -> io::Result<(LoopLink, LoopRest, LoopBell)>
-        ensures link { IfOk result (λ made. made.0 ≡ no_counts) }
+        ensures link { IfOk result (λ made. made.0 ≡ new_socket_link) }
         ensures rest { IfOk result (λ made. made.1 ≡ 0) }
     {
         let events = Events::with_capacity(alloc, EVENTS)?;
@@ -103,7 +103,7 @@ impl Door {
 
     // The link to a connection that waits, if one does.
     fn accept(&self) -> io::Result<Option<LoopLink>>
-        ensures { IfOk result (λ got. IfSome got (λ link. link ≡ no_counts)) }
+        ensures { IfOk result (λ got. IfSome got (λ link. link ≡ new_socket_link)) }
     {
         let mut stream = match self.listener.accept() {
             Ok((stream, _)) => stream,
@@ -199,6 +199,12 @@ impl<'a, H: std::net::Net> Net for LoopNet<'a, H> {
             Ok(()) => Ok(()),
             Err(error) => Err(self.counts.fault(fault_of(error))),
         }
+    }
+
+    fn close(&mut self) {
+        // The system resets what waits in the queue of a listener that goes.
+        self.door = None;
+        self.counts.note_closed();
     }
 
     fn back(&mut self, link: LoopLink) {

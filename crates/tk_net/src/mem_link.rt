@@ -64,6 +64,8 @@ impl Wire for MemLink {
 
     ghost counts = { λ l. l.counts };
 
+    ghost is_shut = { λ l. l.shut };
+
     fn faults(&self) -> u64
         ensures value { result ≡ self.now.counts.faults }
         // Where no call of its net is listed.
@@ -87,6 +89,7 @@ impl Wire for MemLink {
         ensures fits { FitsSlice result (length into.old) }
         ensures told { false ≡ true → Takes result into.new untold untold }
         ensures counted { self.new.counts ≡ counts_taken result self.old.counts }
+        ensures shut { self.new.shut ≡ self.old.shut }
         // Where no call of its net is listed.
         ensures quiet { self.old.fails ≡ [] → DoesTake result }
         ensures kept { self.new ≡ record self.old { counts = self.new.counts } }
@@ -102,6 +105,7 @@ impl Wire for MemLink {
         ensures fits { FitsBytes result (length bytes.now) }
         ensures told { false ≡ true → Gives result bytes.now untold untold }
         ensures counted { self.new.counts ≡ counts_given result self.old.counts }
+        ensures shut { self.new.shut ≡ self.old.shut }
         // Where no call of its net is listed.
         ensures quiet { self.old.fails ≡ [] → DoesGive result }
         ensures kept { self.new ≡ record self.old { counts = self.new.counts } }
@@ -117,7 +121,8 @@ impl Wire for MemLink {
     fn shut(&mut self)
         ensures told { false ≡ true → untold ≡ untold }
         ensures counted { self.new.counts ≡ self.old.counts }
-        ensures closed { self.new ≡ record self.old { shut = true } }
+        ensures shut { self.new.shut ≡ true }
+        ensures kept { self.new ≡ record self.old { shut = true } }
     {
         self.outbox = None;
     }

@@ -1,6 +1,6 @@
 ghost use Rattle.std.specs.Prelude.{◌≡◌, ◌<◌, [], true, false, IfOk, IfSome};
 ghost use Rattle.std.specs.Arc.{arc_value};
-ghost use Rattle.tk_wire.specs.Net.{Accepts, IsNew, called, connected, given_back, knocking_connected, listened, rest_given_back};
+ghost use Rattle.tk_wire.specs.Net.{Accepts, IsNew, called, closed, connected, given_back, knocking_connected, listened, rest_given_back};
 ghost use Rattle.tk_net.specs.Counting.{untold};
 ghost use Rattle.tk_net.specs.Memory.{new_memory_net, new_memory_link, new_memory_rest, DoesWork, StaysSet};
 
@@ -186,6 +186,15 @@ impl Net for MemNet {
             thread::yield_now();
         }
         Ok(())
+    }
+
+    fn close(&mut self)
+        ensures state { self.new.state ≡ closed self.old.state }
+        ensures knocking { true ≡ true → self.new.knocking ≡ 0 }
+        ensures kept { StaysSet self.old self.new }
+    {
+        self.door.clear();
+        self.counts.note_closed();
     }
 
     fn back(&mut self, link: MemLink)

@@ -1,5 +1,5 @@
 ghost use Rattle.std.specs.Prelude.{◌≡◌, ◌+◌, ◌<◌, true, false};
-ghost use Rattle.tk_wire.specs.Net.{given_back, rest_given_back};
+ghost use Rattle.tk_wire.specs.Net.{closed, given_back, rest_given_back};
 ghost use Rattle.tk_net.specs.Counting.{new_net, with_fault};
 
 use crate::link_counts::LinkCounts;
@@ -52,6 +52,13 @@ impl NetCounts {
         ensures { self.new ≡ record self.old { listens = true } }
     {
         self.listens = true;
+    }
+
+    /// Notes that the door was taken down.
+    pub(crate) fn note_closed(&mut self)
+        ensures { self.new ≡ closed self.old }
+    {
+        self.listens = false;
     }
 
     /// Counts a link that was connected.

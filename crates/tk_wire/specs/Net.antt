@@ -1,5 +1,5 @@
 -- What contracts see of a net, and what its calls change.
-use Rattle.std.specs.Prelude.{◌≡◌, ◌+◌, ℕ, [], Bool, true, Option, Some, None, Result, Ok, Err, if◌then◌else◌, nat_lt, ◌||◌}
+use Rattle.std.specs.Prelude.{◌≡◌, ◌+◌, ℕ, [], Bool, true, false, Option, Some, None, Result, Ok, Err, if◌then◌else◌, nat_lt, ◌||◌}
 use Rattle.tk_wire.specs.Meanings.{Traffic, Counts, raised_by}
 use Rattle.tk_wire.specs.declared.net.NetFault.{NetFault}
 use Rattle.tk_wire.specs.declared.net.NetFault.TheVariants.{Failed, NoMemory}
@@ -27,6 +27,10 @@ abbrev pub listened : {A : Type 0} → Result A NetFault → NetState → NetSta
 listened (Ok x) net = record net { listens = true }
 listened (Err Failed) net = record net { faults = raised_by 1 net.faults }
 listened (Err NoMemory) net = net
+
+-- a net after close: nothing listens any more
+abbrev pub closed : NetState → NetState
+closed net = record net { listens = false }
 
 -- a net after connect
 abbrev pub connected : {A : Type 0} → Result A NetFault → NetState → NetState

@@ -8,7 +8,7 @@ use Rattle.tk_wire.specs.declared.wire.Gave.{Gave}
 use Rattle.tk_wire.specs.declared.wire.Gave.TheVariants as g
 
 -- its bytes and counts, how many bytes a call moves at most, the numbers of the calls that fail, how many calls
--- there were, and whether it is closed
+-- there were, whether it is closed, and whether it was shut
 pub record MemoryWire : Type 0 where
   pub traffic : Traffic
   pub counts : Counts
@@ -16,6 +16,7 @@ pub record MemoryWire : Type 0 where
   pub fails : List ℕ
   pub calls : ℕ
   pub closed : Bool
+  pub shut : Bool
 
 -- a new one
 abbrev pub new_wire : ℕ → ℕ → List ℕ → MemoryWire
@@ -26,6 +27,7 @@ new_wire room piece fails = record {
   fails = fails;
   calls = 0;
   closed = false;
+  shut = false;
 }
 
 -- whether the next take or give fails, by its number
@@ -61,6 +63,7 @@ pub record StaysSet (old new : MemoryWire) : Type 0 where
   pub piece : new.piece ≡ old.piece
   pub fails : new.fails ≡ old.fails
   pub closed : new.closed ≡ old.closed
+  pub shut : new.shut ≡ old.shut
 
 -- the wire with other bytes on it
 abbrev pub with_traffic : Traffic → MemoryWire → MemoryWire

@@ -1,11 +1,12 @@
 -- A wire in memory of which no call fails, as contracts see it.
-use Rattle.std.specs.Prelude.{ℕ}
+use Rattle.std.specs.Prelude.{ℕ, Bool}
 use Rattle.tk_wire.specs.Meanings.{Counts, Traffic}
 
--- its bytes, and how many were taken
+-- its bytes, how many were taken, and whether it was shut
 pub record SureView : Type 0 where
   pub traffic : Traffic
   pub taken : ℕ
+  pub shut : Bool
 
 -- no call failed, and none found the end
 abbrev pub counts_sure : SureView → Counts

@@ -4,7 +4,7 @@ ghost use Rattle.tk_frames.specs.Answer.{Answers, HasKind};
 ghost use Rattle.tk_frames.specs.Spelling.{IsVersion};
 ghost use Rattle.tk_wire.specs.Buffered.{Pulls, counts_pulled, rest_of};
 
-use crate::store::{PIECE, Store};
+use crate::store::{FIRST, PIECE, Store};
 use crate::wire::{Took, Wire};
 use std::alloc::Global;
 use std::marker::Model;
@@ -29,21 +29,24 @@ pub struct InBuffer {
     alloc: Global,
     store: Store,
     version: u8,
+    // How many bytes one take brings at most.
+    piece: usize,
 }
 
 impl Model for InBuffer {
     ghost use Rattle.tk_frames.specs.Spelling.{IsVersion};
     ghost use Rattle.tk_wire.specs.Buffered.{Buffer};
+    ghost use Rattle.tk_wire.specs.Meanings.{IsPiece};
 
     ghost Value = { Buffer };
 
     ghost view = { λ b. record { bytes = b.store.held; version = b.version } };
 
-    ghost invariant = { λ b. IsVersion b.version };
+    ghost invariant = { λ b. IsVersion b.version × IsPiece b.piece 65536 };
 }
 
 impl InBuffer {
-    /// An empty buffer that reads version 1. It takes no memory.
+    /// An empty buffer that reads version 1, and pulls at most 4,096 bytes at once. It takes no memory.
     pub fn new(alloc: Global) -> InBuffer
         ensures { result ≡ record { bytes = []; version = 1 } }
     {
@@ -51,6 +54,7 @@ impl InBuffer {
             alloc,
             store: Store::new(alloc),
             version: 1,
+            piece: FIRST,
         }
     }
 
@@ -62,6 +66,13 @@ impl InBuffer {
         self.version = version;
     }
 
+    /// From now on it pulls up to 65,536 bytes at once, for which it takes the memory at the next pull.
+    pub fn widen(&mut self)
+        ensures { self.new ≡ self.old }
+    {
+        self.piece = PIECE;
+    }
+
     /// The bytes that are not read as frames yet.
     pub fn bytes(&self) -> &[u8]
         ensures { result.now ≡ self.now.bytes }
@@ -69,17 +80,18 @@ impl InBuffer {
         self.store.held()
     }
 
-    /// One take of at most 65,536 bytes, for which it has the memory before. Where it has not, the wire is as it was.
+    /// One take, for which it has the memory before. Where it has not, the wire is as it was.
     pub fn pull<W: Wire>(&mut self, wire: &mut W) -> Pulled
         ensures bytes { Pulls result W.tells self.old.bytes self.new.bytes (W.traffic wire.old) (W.traffic wire.new) }
         ensures counted { W.counts wire.new ≡ counts_pulled result (W.counts wire.old) }
+        ensures shut { W.is_shut wire.new ≡ W.is_shut wire.old }
         ensures memory { result ≡ Pulled.NoMemory → wire.new ≡ wire.old }
         ensures version { self.new.version ≡ self.old.version }
     {
-        if self.store.make_room(PIECE).is_err() {
+        if self.store.make_room(self.piece).is_err() {
             return Pulled::NoMemory;
         }
-        match self.store.fill(wire) {
+        match self.store.fill(wire, self.piece) {
             Took::Bytes(count) => Pulled::Got(count),
             Took::NotYet => Pulled::NotYet,
             Took::End => Pulled::End,

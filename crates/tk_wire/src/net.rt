@@ -1,5 +1,5 @@
 ghost use Rattle.std.specs.Prelude.{◌≡◌, ◌<◌, ℕ, Bool, true, false, IfOk, IfSome, Some, None};
-ghost use Rattle.tk_wire.specs.Net.{NetState, Accepts, IsNew, called, connected, faults_after, given_back, knocking_connected, listened, rest_given_back};
+ghost use Rattle.tk_wire.specs.Net.{NetState, Accepts, IsNew, called, closed, connected, faults_after, given_back, knocking_connected, listened, rest_given_back};
 
 use crate::wire::Wire;
 use std::error::Error;
@@ -33,7 +33,7 @@ pub trait Rest {
     fn faults(&self) -> u64
         ensures { result ≡ fault_count self.now };
 
-    /// Returns after readiness, a ring, or a few milliseconds. Nothing is promised of it.
+    /// Returns after readiness, a ring, or a twentieth of a second. Nothing is promised of it.
     fn rest(&mut self) -> Result<(), NetFault>
         ensures counted { fault_count self.new ≡ faults_after result (fault_count self.old) };
 }
@@ -92,11 +92,16 @@ pub trait Net {
         ensures state { state self.new ≡ called result (state self.old) }
         ensures knocking { tells_knocking ≡ true → Accepts result (knocking self.old) (knocking self.new) };
 
-    /// Returns after readiness, a ring, or a few milliseconds. Nothing is promised of it.
+    /// Returns after readiness, a ring, or a twentieth of a second. Nothing is promised of it.
     fn wait(&mut self) -> Result<(), NetFault>
         requires { (state self.old).listens ≡ true }
         ensures state { state self.new ≡ called result (state self.old) }
         ensures knocking { tells_knocking ≡ true → knocking self.new ≡ knocking self.old };
+
+    /// Takes the door down, without memory. A connection that waits to be accepted ends, as its other end is told.
+    fn close(&mut self)
+        ensures state { state self.new ≡ closed (state self.old) }
+        ensures knocking { tells_knocking ≡ true → knocking self.new ≡ 0 };
 
     /// Takes a link back, without memory.
     fn back(&mut self, link: Self::Link)

@@ -106,6 +106,7 @@ impl OutBuffer {
         ensures empty { (result ≡ Pushed.Empty) ↔ (self.new.bytes ≡ []) }
         ensures full { result ≡ Pushed.NotYet → W.tells ≡ true → IsFull (W.traffic wire.new) }
         ensures counted { W.counts wire.new ≡ counts_pushed result (W.counts wire.old) }
+        ensures shut { W.is_shut wire.new ≡ W.is_shut wire.old }
         ensures version { self.new.version ≡ self.old.version }
     {
         while self.start < self.bytes.len() {

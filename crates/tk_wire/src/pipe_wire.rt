@@ -21,6 +21,7 @@ pub struct PipeWire {
     ends: u64,
     taken: u64,
     closed: bool,
+    shut: bool,
 }
 
 impl Model for PipeWire {
@@ -42,6 +43,7 @@ impl Model for PipeWire {
       fails = w.fails.items;
       calls = w.calls;
       closed = w.closed;
+      shut = w.shut;
     } };
 
     ghost invariant = { λ w. (0 < w.piece) × (w.inbox.room ≡ w.outbox.room) };
@@ -72,6 +74,7 @@ impl PipeWire {
             ends: 0,
             taken: 0,
             closed: false,
+            shut: false,
         })
     }
 
@@ -103,6 +106,8 @@ impl Wire for PipeWire {
 
     ghost counts = { λ w. w.counts };
 
+    ghost is_shut = { λ w. w.shut };
+
     fn faults(&self) -> u64 {
         self.faults
     }
@@ -124,6 +129,7 @@ impl Wire for PipeWire {
         ensures fits { FitsSlice result (length into.old) }
         ensures told { true ≡ true → Takes result into.new self.old.traffic self.new.traffic }
         ensures counted { self.new.counts ≡ counts_taken result self.old.counts }
+        ensures shut { self.new.shut ≡ self.old.shut }
     {
         if self.is_refused() {
             return Took::Failed;
@@ -150,6 +156,7 @@ impl Wire for PipeWire {
         ensures fits { FitsBytes result (length bytes.now) }
         ensures told { true ≡ true → Gives result bytes.now self.old.traffic self.new.traffic }
         ensures counted { self.new.counts ≡ counts_given result self.old.counts }
+        ensures shut { self.new.shut ≡ self.old.shut }
     {
         if self.is_refused() {
             return Gave::Failed;
@@ -162,10 +169,13 @@ impl Wire for PipeWire {
     }
 
     fn shut(&mut self)
-        ensures kept { self.new ≡ self.old }
+        ensures kept { self.new ≡ record self.old { shut = true } }
         ensures told { true ≡ true → self.new.traffic ≡ self.old.traffic }
         ensures counted { self.new.counts ≡ self.old.counts }
-    {}
+        ensures shut { self.new.shut ≡ true }
+    {
+        self.shut = true;
+    }
 }
 
 impl Piped for PipeWire {

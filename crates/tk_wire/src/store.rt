@@ -1,5 +1,5 @@
-ghost use Rattle.std.specs.Prelude.{◌≡◌, ◌≤◌, ◌+◌, ◌-◌, [], true, OnOk, length, take, drop, slice_range, vec_len};
-ghost use Rattle.tk_wire.specs.Meanings.{FitsSlice, Takes, counts_taken};
+ghost use Rattle.std.specs.Prelude.{◌≡◌, ◌<◌, ◌≤◌, ◌+◌, ◌-◌, [], true, OnOk, length, take, drop, slice_range, vec_len};
+ghost use Rattle.tk_wire.specs.Meanings.{FitsSlice, IsPiece, Takes, counts_taken};
 ghost use Rattle.tk_wire.specs.Store.{Fills};
 
 use crate::wire::{Took, Wire};
@@ -9,6 +9,9 @@ use tk_base::NoMemory;
 
 /// The most bytes of one take.
 pub const PIECE: usize = 65_536;
+
+/// The most bytes of one take of a connection that is not known yet.
+pub const FIRST: usize = 4_096;
 
 /// Bytes in their order, and room behind them.
 #[derive(Drop)]
@@ -48,15 +51,17 @@ fn keep_range(bytes: &mut Vec<u8>, start: usize, count: usize)
     bytes.truncate(count);
 }
 
-// One take, to the places from `end` on.
-fn take_behind<W: Wire>(wire: &mut W, bytes: &mut [u8], end: usize) -> Took
-    requires { end + 65536 ≤ length bytes.old }
+// One take, to so many places from `end` on.
+fn take_behind<W: Wire>(wire: &mut W, bytes: &mut [u8], end: usize, size: usize) -> Took
+    requires size { 0 < size }
+    requires within { end + size ≤ length bytes.old }
     ensures front { take end bytes.new ≡ take end bytes.old }
-    ensures fits { FitsSlice result 65536 }
+    ensures fits { FitsSlice result size }
     ensures told { W.tells ≡ true → Takes result (drop end bytes.new) (W.traffic wire.old) (W.traffic wire.new) }
     ensures counted { W.counts wire.new ≡ counts_taken result (W.counts wire.old) }
+    ensures shut { W.is_shut wire.new ≡ W.is_shut wire.old }
 {
-    wire.take(&mut bytes[end..end + PIECE])
+    wire.take(&mut bytes[end..end + size])
 }
 
 impl Store {
@@ -99,13 +104,15 @@ impl Store {
         Ok(())
     }
 
-    /// One take of at most 65,536 bytes.
-    pub fn fill<W: Wire>(&mut self, wire: &mut W) -> Took
-        requires { 65536 ≤ self.old.room }
+    /// One take of at most so many bytes.
+    pub fn fill<W: Wire>(&mut self, wire: &mut W, size: usize) -> Took
+        requires size { IsPiece size 65536 }
+        requires room { size ≤ self.old.room }
         ensures told { Fills result W.tells self.old.held self.new.held (W.traffic wire.old) (W.traffic wire.new) }
         ensures counted { W.counts wire.new ≡ counts_taken result (W.counts wire.old) }
+        ensures shut { W.is_shut wire.new ≡ W.is_shut wire.old }
     {
-        let took = take_behind(wire, &mut self.bytes, self.end);
+        let took = take_behind(wire, &mut self.bytes, self.end, size);
         if let Took::Bytes(count) = took {
             self.end += count;
         }

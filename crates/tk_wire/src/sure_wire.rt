@@ -1,4 +1,4 @@
-ghost use Rattle.std.specs.Prelude.{◌≡◌, ◌<◌, ◌≤◌, ◌^◌, [], true, refl, IfOk};
+ghost use Rattle.std.specs.Prelude.{◌≡◌, ◌<◌, ◌≤◌, ◌^◌, [], true, false, refl, IfOk};
 ghost use Rattle.tk_wire.specs.SureWire.{bearing_sure, counts_sure, most_sure};
 
 use crate::pipe::Pipe;
@@ -17,6 +17,7 @@ pub struct SureWire {
     inbox: Pipe,
     outbox: Pipe,
     taken: u64,
+    shut: bool,
 }
 
 impl Model for SureWire {
@@ -34,6 +35,7 @@ impl Model for SureWire {
         room = w.outbox.room;
       };
       taken = w.taken;
+      shut = w.shut;
     } };
 
     ghost invariant = { λ w. w.inbox.room ≡ w.outbox.room };
@@ -46,12 +48,14 @@ impl SureWire {
         ensures { IfOk result (λ w. w ≡ record {
           traffic = record { came = []; waiting = []; went = []; held = []; room = room };
           taken = 0;
+          shut = false;
         }) }
     {
         Ok(SureWire {
             inbox: Pipe::new(alloc, room)?,
             outbox: Pipe::new(alloc, room)?,
             taken: 0,
+            shut: false,
         })
     }
 }
@@ -62,6 +66,8 @@ impl Wire for SureWire {
     ghost traffic = { λ w. w.traffic };
 
     ghost counts = { counts_sure };
+
+    ghost is_shut = { λ w. w.shut };
 
     fn faults(&self) -> u64 {
         0
@@ -91,7 +97,9 @@ impl Wire for SureWire {
         Gave::Bytes(self.outbox.put(bytes))
     }
 
-    fn shut(&mut self) {}
+    fn shut(&mut self) {
+        self.shut = true;
+    }
 }
 
 impl Piped for SureWire {

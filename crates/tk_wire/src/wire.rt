@@ -32,6 +32,9 @@ pub trait Wire {
     /// Its three counts, which every wire tells.
     ghost counts: { Self → Counts };
 
+    /// Whether it was shut, which every wire tells.
+    ghost is_shut: { Self → Bool };
+
     /// How many calls failed.
     fn faults(&self) -> u64
         ensures { result ≡ (counts self.now).faults };
@@ -49,17 +52,20 @@ pub trait Wire {
         requires { 0 < length into.old }
         ensures fits { FitsSlice result (length into.old) }
         ensures told { tells ≡ true → Takes result into.new (traffic self.old) (traffic self.new) }
-        ensures counted { counts self.new ≡ counts_taken result (counts self.old) };
+        ensures counted { counts self.new ≡ counts_taken result (counts self.old) }
+        ensures shut { is_shut self.new ≡ is_shut self.old };
 
     /// Gives bytes from the front of a slice that is not empty.
     fn give(&mut self, bytes: &[u8]) -> Gave
         requires { 0 < length bytes.now }
         ensures fits { FitsBytes result (length bytes.now) }
         ensures told { tells ≡ true → Gives result bytes.now (traffic self.old) (traffic self.new) }
-        ensures counted { counts self.new ≡ counts_given result (counts self.old) };
+        ensures counted { counts self.new ≡ counts_given result (counts self.old) }
+        ensures shut { is_shut self.new ≡ is_shut self.old };
 
     /// Closes the connection, without memory. A wire that was shut is used no more.
     fn shut(&mut self)
         ensures told { tells ≡ true → traffic self.new ≡ traffic self.old }
-        ensures counted { counts self.new ≡ counts self.old };
+        ensures counted { counts self.new ≡ counts self.old }
+        ensures shut { is_shut self.new ≡ true };
 }
