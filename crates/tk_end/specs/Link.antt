@@ -9,7 +9,7 @@ use Rattle.tk_wire.specs.Parse.{HaveSpellings, IsEncoding, IsParse, spellings}
 
 -- its wire, with the bytes that it tells and its counts; the version of its frames; the bytes that came and are not
 -- taken as frames, and the first frame of them where it is read already; the bytes that are not given yet; how many of
--- the actor's frames were written; whether its wire is shut
+-- the actor's frames were written; whether it was shut, and its wire with it
 pub record LinkView (W : Type 0) : Type 0 where
   pub wire : W
   pub tells : Bool

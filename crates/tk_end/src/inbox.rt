@@ -77,6 +77,7 @@ impl Inbox {
     pub fn pull<W: Wire>(&mut self, wire: &mut W) -> Pulled
         ensures bytes { Pulls result W.tells self.old.unread self.new.unread (W.traffic wire.old) (W.traffic wire.new) }
         ensures counted { W.counts wire.new ≡ counts_pulled result (W.counts wire.old) }
+        ensures shut { W.is_shut wire.new ≡ W.is_shut wire.old }
         ensures version { self.new.version ≡ self.old.version }
     {
         self.buffer.pull(wire)

@@ -1,4 +1,4 @@
-ghost use Rattle.std.specs.Prelude.{◌≡◌, ◌↔◌, [], None, IsTrue, OnErr, OnOk};
+ghost use Rattle.std.specs.Prelude.{◌≡◌, ◌↔◌, [], None, IsTrue, OnErr, OnOk, true};
 ghost use Rattle.tk_frames.specs.declared.answer.Next.TheVariants as n;
 ghost use Rattle.tk_frames.specs.Answer.{Answers};
 ghost use Rattle.tk_frames.specs.Encoding.{Appends};
@@ -29,7 +29,7 @@ pub struct Link<W: Wire> {
 }
 
 impl<W: Wire> Model for Link<W> {
-    ghost use Rattle.std.specs.Prelude.{◌≡◌};
+    ghost use Rattle.std.specs.Prelude.{◌≡◌, true};
     ghost use Rattle.tk_end.specs.Link.{LinkView};
 
     ghost Value = { LinkView W };
@@ -47,7 +47,7 @@ impl<W: Wire> Model for Link<W> {
       shut = l.shut;
     } };
 
-    ghost invariant = { λ l. l.output.version ≡ l.inbox.version };
+    ghost invariant = { λ l. (l.output.version ≡ l.inbox.version) × (l.shut ≡ true → W.is_shut l.wire ≡ true) };
 }
 
 impl<W: Wire> Link<W> {
@@ -58,6 +58,7 @@ impl<W: Wire> Link<W> {
     {
         let mut came = came;
         came.set_version(version);
+        came.widen();
         let mut output = OutBuffer::new(alloc);
         output.set_version(version);
         Link {
@@ -84,9 +85,10 @@ impl<W: Wire> Link<W> {
         }
     }
 
-    /// Whether its wire is shut.
+    /// Whether it was shut, and its wire with it.
     pub fn is_shut(&self) -> bool
-        ensures { result ≡ self.now.shut }
+        ensures value { result ≡ self.now.shut }
+        ensures wire { IsTrue result → W.is_shut self.now.wire ≡ true }
     {
         self.shut
     }
@@ -100,7 +102,8 @@ impl<W: Wire> Link<W> {
 
     /// Shuts the wire, which is used no more. It takes no memory.
     pub fn shut(&mut self)
-        ensures { IsShut self.old self.new }
+        ensures link { IsShut self.old self.new }
+        ensures wire { W.is_shut self.new.wire ≡ true }
     {
         if !self.shut {
             self.wire.shut();
@@ -113,6 +116,7 @@ impl<W: Wire> Link<W> {
         ensures value { result.now ≡ self.now.wire }
         ensures traffic { W.traffic result.now ≡ self.now.traffic }
         ensures counts { W.counts result.now ≡ self.now.counts }
+        ensures shut { self.now.shut ≡ true → W.is_shut result.now ≡ true }
         ensures tells { W.tells ≡ self.now.tells }
     {
         &self.wire
@@ -120,7 +124,8 @@ impl<W: Wire> Link<W> {
 
     /// Its wire.
     pub fn into_wire(self) -> W
-        ensures { result ≡ self.wire }
+        ensures wire { result ≡ self.wire }
+        ensures shut { self.shut ≡ true → W.is_shut result ≡ true }
     {
         self.wire
     }
@@ -129,6 +134,7 @@ impl<W: Wire> Link<W> {
     pub fn into_frame(self) -> (W, Option<Frame>)
         ensures wire { result.0 ≡ self.wire }
         ensures frame { result.1 ≡ self.front }
+        ensures shut { self.shut ≡ true → W.is_shut result.0 ≡ true }
     {
         (self.wire, self.inbox.into_frame())
     }
@@ -139,6 +145,7 @@ impl<W: Wire> Link<W> {
         requires nothing { self.front ≡ None }
         ensures wire { result.0 ≡ self.wire }
         ensures odd { IsOdd self.version fault self.unread result.1.items }
+        ensures shut { self.shut ≡ true → W.is_shut result.0 ≡ true }
     {
         (self.wire, self.inbox.into_odd(fault))
     }

@@ -21,6 +21,15 @@ pub(crate) fn most_wait() -> Duration {
     Duration::from_millis(50)
 }
 
+/// How many waits in a row pass without a descriptor for the next connection, before that is a fault.
+const PAUSES: u32 = 100;
+
+/// How many connections that failed one accept drops at most.
+const DROPS: u32 = 64;
+
+/// What the system answers where it has no descriptor, no room or no memory for one more: ENOMEM, ENFILE, EMFILE, ENOBUFS.
+const SHORT: [i32; 4] = [12, 23, 24, 105];
+
 /// How many events one wait is told. Nobody looks at them.
 const EVENTS: usize = 64;
 
@@ -44,6 +53,23 @@ struct Door {
     address: SocketAddr,
     poll: Poll,
     events: Events,
+    // Told of nothing, so a wait on it lasts its time.
+    pause: Poll,
+    // How many times in a row there was no descriptor for the next connection.
+    pauses: u32,
+}
+
+// What an accept of the system came to.
+#[derive(Drop)]
+enum Knock {
+    Stream(TcpStream),
+    // Nobody waits.
+    Nobody,
+    // A connection failed while it waited.
+    Gone,
+    // There is no descriptor for it now.
+    Short(io::Error),
+    Failed(io::Error),
 }
 
 impl<'a, H: std::net::Net> Model for LoopNet<'a, H> {
@@ -65,6 +91,25 @@ fn fault_of(error: io::Error) -> NetFault {
     }
 }
 
+// What an error of an accept is. Those of a connection that waited say nothing of the door.
+fn knock_of(error: io::Error) -> Knock {
+    if let Some(code) = error.raw_os_error() {
+        if SHORT.contains(&code) {
+            return Knock::Short(error);
+        }
+    }
+    match error.kind() {
+        ErrorKind::WouldBlock => Knock::Nobody,
+        ErrorKind::ConnectionAborted
+        | ErrorKind::ConnectionReset
+        | ErrorKind::NetworkDown
+        | ErrorKind::NetworkUnreachable
+        | ErrorKind::HostUnreachable
+        | ErrorKind::Interrupted => Knock::Gone,
+        _ => Knock::Failed(error),
+    }
+}
+
 impl Door {
     // A listener on a port of the system's choice.
     fn open<H: std::net::Net>(handle: &H, alloc: Global) -> io::Result<Door> {
@@ -80,6 +125,8 @@ impl Door {
             address,
             poll,
             events,
+            pause: Poll::new(handle)?,
+            pauses: 0,
         })
     }
 
@@ -101,17 +148,49 @@ impl Door {
         Ok((link, LoopRest::new(poll, events), LoopBell { waker }))
     }
 
-    // The link to a connection that waits, if one does.
-    fn accept(&self) -> io::Result<Option<LoopLink>>
+    // What stands at the front of the queue.
+    fn knock(&self) -> Knock {
+        match self.listener.accept() {
+            Ok((stream, _)) => Knock::Stream(stream),
+            Err(error) => knock_of(error),
+        }
+    }
+
+    // The link to a connection that waits, if one does. One that fails is dropped, as a stranger's may at any time. Where
+    // there is no descriptor for it none is answered, and the next wait is a pause, until that was so too often.
+    fn accept(&mut self) -> io::Result<Option<LoopLink>>
         ensures { IfOk result (λ got. IfSome got (λ link. link ≡ new_socket_link)) }
     {
-        let mut stream = match self.listener.accept() {
-            Ok((stream, _)) => stream,
-            Err(error) if error.kind() == ErrorKind::WouldBlock => return Ok(None),
-            Err(error) => return Err(error),
-        };
-        watch(&self.poll, &mut stream)?;
-        Ok(Some(LoopLink::new(stream)))
+        for _ in 0..DROPS {
+            match self.knock() {
+                Knock::Stream(mut stream) => {
+                    self.pauses = 0;
+                    if watch(&self.poll, &mut stream).is_ok() {
+                        return Ok(Some(LoopLink::new(stream)));
+                    }
+                }
+                Knock::Gone => {}
+                Knock::Nobody => {
+                    self.pauses = 0;
+                    return Ok(None);
+                }
+                Knock::Short(_) if self.pauses < PAUSES => {
+                    self.pauses += 1;
+                    return Ok(None);
+                }
+                Knock::Short(error) => return Err(error),
+                Knock::Failed(error) => return Err(error),
+            }
+        }
+        Ok(None)
+    }
+
+    // Waits for what may come, or lets a pause pass where descriptors are short.
+    fn wait(&mut self) -> io::Result<()> {
+        if self.pauses > 0 {
+            return self.pause.poll(&mut self.events, Some(most_wait()));
+        }
+        self.poll.poll(&mut self.events, Some(most_wait()))
     }
 }
 
@@ -123,6 +202,11 @@ fn watch(poll: &Poll, stream: &mut TcpStream) -> io::Result<()> {
 }
 
 impl<'a, H: std::net::Net> LoopNet<'a, H> {
+    /// Where it listens, for tests: an address of this machine's loopback alone.
+    pub fn address(&self) -> Option<SocketAddr> {
+        Some(self.door.as_ref()?.address)
+    }
+
     /// A net that has opened nothing yet.
     pub fn new(alloc: Global, handle: &'a H) -> Result<LoopNet<'a, H>, NoMemory>
         ensures { IfOk result (λ net. net ≡ new_net) }
@@ -182,7 +266,7 @@ impl<'a, H: std::net::Net> Net for LoopNet<'a, H> {
     }
 
     fn accept(&mut self) -> Result<Option<LoopLink>, NetFault> {
-        let Some(door) = &self.door else {
+        let Some(door) = &mut self.door else {
             unreachable!();
         };
         match door.accept() {
@@ -195,7 +279,7 @@ impl<'a, H: std::net::Net> Net for LoopNet<'a, H> {
         let Some(door) = &mut self.door else {
             unreachable!();
         };
-        match door.poll.poll(&mut door.events, Some(most_wait())) {
+        match door.wait() {
             Ok(()) => Ok(()),
             Err(error) => Err(self.counts.fault(fault_of(error))),
         }
