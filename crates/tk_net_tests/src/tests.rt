@@ -2,6 +2,7 @@ ghost use Rattle.std.specs.Prelude.{◌≡◌, ◌+◌, ◌<◌, false, true, If
 
 use std::alloc::Global;
 use std::marker::Sync;
+use std::net::{IpAddr, Ipv4Addr};
 use std::test::Fail;
 use std::thread;
 use std::thread::Threads;
@@ -9,7 +10,7 @@ use tk_net::{LoopNet, MemLink, MemNet, MemRest};
 use tk_wire::{Bell, Gave, Net, Rest, Took, Wire};
 
 /// How often a test looks whether something has come: a second at the most over sockets.
-const LOOKS: u32 = 200;
+const LOOKS: u32 = 20;
 
 /// The end of the next connection that comes to the door.
 fn accepted<N: Net>(net: &mut N) -> Option<N::Link>
@@ -97,6 +98,83 @@ fn bytes_go_both_ways_over_sockets(rt: HostRuntime) -> Result<(), Fail> {
     let counts = (net.taken(), net.faults());
     drop(net);
     assert_eq!(rt; (exchanged, counts), (Some(whole()), (6, 1)));
+    Ok(())
+}
+
+#[test]
+fn the_door_is_this_machine_s_alone(rt: HostRuntime) -> Result<(), Fail> {
+    let mut net = LoopNet::new(rt.alloc(), &rt)?;
+    net.listen()?;
+    let address = net.address();
+    drop(net);
+    let is_own = match address {
+        Some(address) => address.ip() == IpAddr::V4(Ipv4Addr::LOCALHOST),
+        None => false,
+    };
+    assert!(rt; is_own);
+    Ok(())
+}
+
+/// What the first take of a link answers that is not NotYet, while its owner rests.
+fn told<L: Wire, Q: Rest>(link: &mut L, rest: &mut Q) -> Took {
+    for _ in 0..LOOKS {
+        let took = link.take(&mut [0; 4]);
+        if took != Took::NotYet || rest.rest().is_err() {
+            return took;
+        }
+    }
+    Took::NotYet
+}
+
+/// What a link is told whose other end goes without having taken what came: over sockets that resets the connection.
+fn reset<N: Net>(net: &mut N) -> Option<Took>
+    requires listens { (N.state net.old).listens ≡ true }
+    requires links { (N.state net.old).links < 64 }
+{
+    let (mut below, mut rest, _) = net.connect().ok()?;
+    let above = accepted(net)?;
+    below.give(b"left");
+    drop(above);
+    let took = told(&mut below, &mut rest);
+    net.back(below);
+    Some(took)
+}
+
+#[test]
+fn a_reset_connection_fails_its_link(rt: HostRuntime) -> Result<(), Fail> {
+    let mut net = LoopNet::new(rt.alloc(), &rt)?;
+    net.listen()?;
+    let took = reset(&mut net);
+    let faults = net.faults();
+    drop(net);
+    assert_eq!(rt; (took, faults), (Some(Took::Failed), 1));
+    Ok(())
+}
+
+/// What a link is told that waited at the door when that was taken down.
+fn left_outside<N: Net>(net: &mut N) -> Option<Took>
+    requires listens { (N.state net.old).listens ≡ true }
+    requires links { (N.state net.old).links < 64 }
+{
+    let (mut below, mut rest, _) = net.connect().ok()?;
+    net.close();
+    let took = told(&mut below, &mut rest);
+    net.back(below);
+    Some(took)
+}
+
+#[test]
+fn who_waits_is_told_that_the_door_is_gone(rt: HostRuntime) -> Result<(), Fail> {
+    let mut net = MemNet::new(rt.alloc(), Vec::new(rt.alloc()), None)?;
+    net.listen()?;
+    let in_memory = left_outside(&mut net);
+    drop(net);
+    let mut net = LoopNet::new(rt.alloc(), &rt)?;
+    net.listen()?;
+    let over_sockets = left_outside(&mut net);
+    drop(net);
+    assert_eq!(rt; in_memory, Some(Took::End));
+    assert_eq!(rt; over_sockets, Some(Took::Failed));
     Ok(())
 }
 

@@ -58,6 +58,7 @@ fn left<W: Wire>(link: Link<W>, course: Course) -> (Option<Received>, W)
     requires { IsStanding link course }
     ensures odd { LeavesOdd course link result.0 }
     ensures wire { result.1 ≡ link.wire }
+    ensures shut { link.shut ≡ true → W.is_shut result.1 ≡ true }
 {
     match course {
         Course::Refused(_) => {
@@ -133,6 +134,7 @@ impl<W: Wire> Port<W> {
         ensures value { result.now ≡ self.now.link.wire }
         ensures traffic { W.traffic result.now ≡ self.now.link.traffic }
         ensures counts { W.counts result.now ≡ self.now.link.counts }
+        ensures shut { self.now.link.shut ≡ true → W.is_shut result.now ≡ true }
         ensures tells { W.tells ≡ self.now.link.tells }
         ensures kept { IsPort self.now }
     {
@@ -180,6 +182,7 @@ impl<W: Wire> Port<W> {
     /// Shuts the wire, without memory. A port that failed before stays so.
     pub fn halt(&mut self)
         ensures shut { IsShut self.old.link self.new.link }
+        ensures wire { W.is_shut self.new.link.wire ≡ true }
         ensures course { self.new.course ≡ halted_of self.old.course }
         ensures rest { self.new ≡ record self.old { link = self.new.link; course = self.new.course } }
         ensures kept { IsPort self.new }
@@ -241,6 +244,7 @@ impl<W: Wire> Port<W> {
         ensures monitor { result.0.monitor ≡ self.monitor }
         ensures odd { IsLeft self result.0.odd }
         ensures wire { result.1 ≡ self.link.wire }
+        ensures shut { self.link.shut ≡ true → W.is_shut result.1 ≡ true }
         ensures covered { Covers self.link.version (taken_by self.monitor.trail) self.link.unread (W.counts result.1).taken }
         ensures kept { IsPort self }
     {
