@@ -1,5 +1,5 @@
 -- What came next at some link and was not taken, as the links are left one by one, and what that is of a hub.
-use Rattle.std.proofs.Common.{◌≡◌, ◌<◌, ◌≤◌, ◌+◌, ◌-◌, ◌||◌, true, ℕ, zero, suc, List, [], ◌∷◌, ◌++◌, length, get_or, append-nil, Option, Some, None, IfSome, is_some, refl, sym, ap, ◌∙◌, subst, arith, inl, inr}
+use Rattle.std.proofs.Common.{◌≡◌, ◌<◌, ◌≤◌, ◌+◌, ◌-◌, ◌||◌, Bool, true, ℕ, zero, suc, List, [], ◌∷◌, ◌++◌, length, get_or, append-nil, Option, Some, None, IfSome, is_some, refl, sym, ap, ◌∙◌, subst, arith, inl, inr}
 use Rattle.std.specs.Option.{ForSome, option_map, option_or}
 use Rattle.std.proofs.lemmas.Bool.{cases_eq, cases_lt, or_right}
 use Rattle.std.proofs.lemmas.List.{get_or_append_left, get_or_default, get_or_past, get_or_push, length_push}
@@ -20,7 +20,7 @@ use Rattle.tk_story.specs.declared.ends.received.Received.TheVariants as r
 use Rattle.tk_end.specs.Inbox.{IsOdd, IsOddPayload}
 use Rattle.tk_wire.specs.Meanings.{Counts}
 use Rattle.tk_end.specs.Link.{Covers, LinkView}
-use Rattle.tk_hub.specs.End.{AreCounted, CoversHeard, IsOddBytes, IsOddFrame, LeavesOdd, is_some_lost, wire_of, wires_of}
+use Rattle.tk_hub.specs.End.{AreCounted, AreShut, CoversHeard, IsOddBytes, IsOddFrame, LeavesOdd, is_some_lost, wire_of, wires_of}
 use Rattle.tk_hub.specs.Hub.{IsOnCourse}
 use Rattle.tk_hub.specs.Leaving.{IsLeftOn, IsOfOrNone, IsStanding, LeavesAt, StandsAt}
 use Rattle.tk_hub.specs.Seats.{AreSeats, IsSeat, SeatsView, heard_at, link_at}
@@ -165,9 +165,9 @@ counted_seat counts seat link wire some is counted = subst (λ o. IfSome o (λ x
 pub counted_free : {W : Type 0} (counts : W → Counts) (seat : Option (LinkView W)) → seat ≡ None → IfSome seat (λ x. counts x.wire ≡ x.counts)
 counted_free counts seat none = subst (λ o. IfSome o (λ x. counts x.wire ≡ x.counts)) (sym none) tt
 
-pub counted_more : {W : Type 0} (counts : W → Counts) (done : List (Option (LinkView W))) (seat : Option (LinkView W)) → IfSome seat (λ x. counts x.wire ≡ x.counts) → AreCounted counts done → AreCounted counts (done ++ seat ∷ [])
-counted_more {W} counts done seat is before place =
-    let Q : LinkView W → Type 0 = λ x. counts x.wire ≡ x.counts in
+-- what holds of each link passed and of one more
+each_more : {W : Type 0} (Q : LinkView W → Type 0) (done : List (Option (LinkView W))) (seat : Option (LinkView W)) → IfSome seat Q → ((place : ℕ) → IfSome (link_at done place) Q) → (place : ℕ) → IfSome (link_at (done ++ seat ∷ []) place) Q
+each_more Q done seat is before place =
     elim (cases_lt place (length done)) [
       | inl within ↦ earlier done seat place Q within (before place)
       | inr past ↦ elim (cases_eq place (length done)) [
@@ -175,6 +175,23 @@ counted_more {W} counts done seat is before place =
         | inr apart ↦ subst (λ o. IfSome o Q) (sym (get_or_past (done ++ seat ∷ []) place None (omega (arith, past, apart, length_push done seat)))) tt
       ]
     ]
+
+pub counted_more : {W : Type 0} (counts : W → Counts) (done : List (Option (LinkView W))) (seat : Option (LinkView W)) → IfSome seat (λ x. counts x.wire ≡ x.counts) → AreCounted counts done → AreCounted counts (done ++ seat ∷ [])
+counted_more counts done seat is before = each_more (λ x. counts x.wire ≡ x.counts) done seat is before
+
+-- ---- the wires that are shut
+
+pub shut_none : {W : Type 0} (is_shut : W → Bool) → AreShut is_shut []
+shut_none is_shut = λ place. no_link place (λ link. link.shut ≡ true → is_shut link.wire ≡ true)
+
+pub shut_seat : {W : Type 0} (is_shut : W → Bool) (seat : Option (LinkView W)) (link : LinkView W) (wire : W) → seat ≡ Some link → wire ≡ link.wire → (link.shut ≡ true → is_shut wire ≡ true) → IfSome seat (λ x. x.shut ≡ true → is_shut x.wire ≡ true)
+shut_seat is_shut seat link wire some is shut = subst (λ o. IfSome o (λ x. x.shut ≡ true → is_shut x.wire ≡ true)) (sym some) (λ was. ap is_shut (sym is) ∙ shut was)
+
+pub shut_free : {W : Type 0} (is_shut : W → Bool) (seat : Option (LinkView W)) → seat ≡ None → IfSome seat (λ x. x.shut ≡ true → is_shut x.wire ≡ true)
+shut_free is_shut seat none = subst (λ o. IfSome o (λ x. x.shut ≡ true → is_shut x.wire ≡ true)) (sym none) tt
+
+pub shut_more : {W : Type 0} (is_shut : W → Bool) (done : List (Option (LinkView W))) (seat : Option (LinkView W)) → IfSome seat (λ x. x.shut ≡ true → is_shut x.wire ≡ true) → AreShut is_shut done → AreShut is_shut (done ++ seat ∷ [])
+shut_more is_shut done seat is before = each_more (λ x. x.shut ≡ true → is_shut x.wire ≡ true) done seat is before
 
 covered_at : {W : Type 0} (counts : W → Counts) (run mon : ℕ) (j : List Noted) (o : Option (LinkView W)) → IsSeat run j mon o → IfSome o (λ x. counts x.wire ≡ x.counts) → IfSome o (CoversHeard counts run j mon)
 covered_at counts run mon j None p is = tt

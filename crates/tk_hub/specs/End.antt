@@ -1,5 +1,5 @@
 -- What is left of a hub that is done with, and what its wires in memory give and get.
-use Rattle.std.specs.Prelude.{◌≡◌, ◌+◌, ℕ, Bool, List, filter_map, Option, Some, None, IfSome, ⊤}
+use Rattle.std.specs.Prelude.{◌≡◌, ◌+◌, ℕ, Bool, true, List, filter_map, Option, Some, None, IfSome, ⊤}
 use Rattle.std.specs.Borrow.{Bor}
 use Rattle.std.specs.List.{list_any}
 use Rattle.std.specs.Option.{option_map}
@@ -41,6 +41,10 @@ EachCovers counts hub = (place : ℕ) → IfSome (link_at hub.links place) (Cove
 -- the counts of each link are those of its wire
 abbrev pub AreCounted : {W : Type 0} → (W → Counts) → List (Option (LinkView W)) → Type 0
 AreCounted counts links = (place : ℕ) → IfSome (link_at links place) (λ link. counts link.wire ≡ link.counts)
+
+-- the wire of each link that was shut is shut
+abbrev pub AreShut : {W : Type 0} → (W → Bool) → List (Option (LinkView W)) → Type 0
+AreShut is_shut links = (place : ℕ) → IfSome (link_at links place) (λ link. link.shut ≡ true → is_shut link.wire ≡ true)
 
 -- whether some wire failed, or has ended
 abbrev pub is_some_lost : {W : Type 0} → (W → Counts) → List W → Bool

@@ -1,7 +1,7 @@
 //! What is left at the seats of a hub that is done with.
 
-ghost use Rattle.std.specs.Prelude.{◌≡◌, ◌≤◌, [], length, vec_capacity};
-ghost use Rattle.tk_hub.specs.End.{AreCounted, IsOddBytes, IsOddFrame, LeavesOdd, wires_of};
+ghost use Rattle.std.specs.Prelude.{◌≡◌, ◌≤◌, [], true, length, vec_capacity};
+ghost use Rattle.tk_hub.specs.End.{AreCounted, AreShut, IsOddBytes, IsOddFrame, LeavesOdd, wires_of};
 ghost use Rattle.tk_hub.specs.Leaving.{IsStanding, LeavesAt, StandsAt};
 ghost use Rattle.tk_hub.specs.Turn.{IsBadAt};
 
@@ -17,6 +17,7 @@ fn left_refused<W: Wire>(link: Link<W>, mon: Mon) -> (Option<(Mon, Received)>, W
     ensures odd { IsOddFrame mon link result.0 }
     ensures wire { result.1 ≡ link.wire }
     ensures counted { W.counts result.1 ≡ link.counts }
+    ensures shut { link.shut ≡ true → W.is_shut result.1 ≡ true }
 {
     let (wire, frame) = link.into_frame();
     (frame.map(|frame| (mon, Received::Frame(frame))), wire)
@@ -28,6 +29,7 @@ fn left_bad<W: Wire>(link: Link<W>, mon: Mon, fault: BadFrame) -> (Option<(Mon, 
     ensures odd { IsOddBytes mon fault link result.0 }
     ensures wire { result.1 ≡ link.wire }
     ensures counted { W.counts result.1 ≡ link.counts }
+    ensures shut { link.shut ≡ true → W.is_shut result.1 ≡ true }
 {
     let (wire, bytes) = link.into_odd(fault);
     (Some((mon, Received::Bytes(Bytes::new(bytes)))), wire)
@@ -39,6 +41,7 @@ fn left<W: Wire>(link: Link<W>, mon: Mon, course: Course) -> (Option<(Mon, Recei
     ensures odd { LeavesAt mon course link result.0 }
     ensures wire { result.1 ≡ link.wire }
     ensures counted { W.counts result.1 ≡ link.counts }
+    ensures shut { link.shut ≡ true → W.is_shut result.1 ≡ true }
 {
     match course {
         Course::Refused(from, _) if from == mon => left_refused(link, mon),
@@ -65,6 +68,7 @@ pub fn leave<W: Wire + Drop>(
     ensures odd { LeavesOdd course links.items result.0 }
     ensures wires { result.1.items ≡ wires_of links.items }
     ensures counted { AreCounted W.counts links.items }
+    ensures shut { AreShut W.is_shut links.items }
 {
     let mut wires = room;
     let mut odd = None;

@@ -210,6 +210,7 @@ impl<W: Wire> Visitor<W> {
     pub fn close(self) -> W
         ensures told { W.tells ≡ true → W.traffic result ≡ self.traffic }
         ensures counted { W.counts result ≡ self.counts }
+        ensures shut { W.is_shut result ≡ true }
     {
         let mut wire = self.wire;
         wire.shut();

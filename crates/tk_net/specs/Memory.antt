@@ -1,5 +1,5 @@
 -- A net in memory and what it makes, as contracts see them.
-use Rattle.std.specs.Prelude.{◌≡◌, ℕ, Bool, false, ◌+◌, ◌-◌, List, [], ◌∷◌, ◌++◌, take, drop, slice_index, Option, Some, None, Result, Ok, Err, ⊤}
+use Rattle.std.specs.Prelude.{◌≡◌, ℕ, Bool, false, ◌+◌, ◌-◌, List, [], ◌∷◌, ◌++◌, ◌<◌, length, take, drop, slice_index, Option, Some, None, IfSome, Result, Ok, Err, ⊤}
 use Rattle.tk_wire.specs.Meanings.{Counts}
 use Rattle.tk_wire.specs.Net.{NetState}
 use Rattle.tk_wire.specs.declared.wire.Took.{Took}
@@ -86,3 +86,9 @@ given g.Failed slice = []
 abbrev pub turned : Option ℕ → List ℕ → List ℕ
 turned None bytes = bytes
 turned (Some i) bytes = take i bytes ++ (255 - slice_index bytes i) ∷ drop (i + 1) bytes
+
+-- what a give took over went on, but for one byte at most, which was turned
+pub record GoesOn (gave : Gave) (slice old new : List ℕ) : Type 0 where
+  pub place : Option ℕ
+  pub within : IfSome place (λ i. i < length (given gave slice))
+  pub sent : new ≡ old ++ turned place (given gave slice)

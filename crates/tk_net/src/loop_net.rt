@@ -178,8 +178,7 @@ impl Door {
                     self.pauses += 1;
                     return Ok(None);
                 }
-                Knock::Short(error) => return Err(error),
-                Knock::Failed(error) => return Err(error),
+                Knock::Short(error) | Knock::Failed(error) => return Err(error),
             }
         }
         Ok(None)

@@ -1,7 +1,7 @@
 ghost use Rattle.std.specs.Prelude.{◌≡◌, ◌+◌, ◌<◌, ◌≤◌, [], ◌++◌, None, length, IfOk, IfSome};
 ghost use Rattle.rtrb.specs.Ring.{IsPair, sent, received, known_free};
 ghost use Rattle.tk_wire.specs.Meanings.{FitsSlice, FitsBytes};
-ghost use Rattle.tk_net.specs.Memory.{DoesTake, DoesGive, got, given, turned};
+ghost use Rattle.tk_net.specs.Memory.{DoesTake, DoesGive, GoesOn, got, given, turned};
 ghost use Rattle.tk_net.specs.Rings.{HasRoom};
 
 use crate::plan::Plan;
@@ -71,6 +71,7 @@ pub(crate) fn give(plan: &Plan, out: &mut Producer<u8>, bytes: &[u8]) -> Gave
     ensures fits { FitsBytes result (length bytes.now) }
     ensures quiet { plan.now.fails ≡ [] → DoesGive result }
     ensures sent { plan.now.flip ≡ None → sent out.new ≡ sent out.old ++ given result bytes.now }
+    ensures turned { GoesOn result bytes.now (sent out.old) (sent out.new) }
 {
     if plan.refuses() {
         return Gave::Failed;

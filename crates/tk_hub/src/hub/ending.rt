@@ -1,5 +1,5 @@
 ghost use Rattle.std.specs.Prelude.{◌≡◌, true};
-ghost use Rattle.tk_hub.specs.End.{AreCounted, EachCovers, IsLeft, is_some_lost, wires_of};
+ghost use Rattle.tk_hub.specs.End.{AreCounted, AreShut, EachCovers, IsLeft, is_some_lost, wires_of};
 ghost use Rattle.tk_hub.specs.Hub.{IsHub};
 ghost use Rattle.tk_hub.specs.declared.course.Course.{Course};
 
@@ -15,6 +15,7 @@ impl<W: Wire + Drop> Hub<W> {
         ensures odd { IsLeft self result.0.odd }
         ensures wires { result.1.items ≡ wires_of self.links }
         ensures counted { AreCounted W.counts self.links }
+        ensures shut { AreShut W.is_shut self.links }
         ensures covered { EachCovers W.counts self }
         // After Failed one of them shows it.
         ensures lost { self.course ≡ Course.Failed → is_some_lost W.counts result.1.items ≡ true }

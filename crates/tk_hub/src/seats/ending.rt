@@ -1,5 +1,5 @@
 ghost use Rattle.std.specs.Prelude.{◌≡◌, ◌≤◌, [], vec_capacity};
-ghost use Rattle.tk_hub.specs.End.{AreCounted, LeavesOdd, wires_of};
+ghost use Rattle.tk_hub.specs.End.{AreCounted, AreShut, LeavesOdd, wires_of};
 ghost use Rattle.tk_hub.specs.Leaving.{IsLeftOn};
 ghost use Rattle.tk_hub.specs.Seats.{AreSeats};
 
@@ -19,6 +19,7 @@ impl<W: Wire + Drop> Seats<W> {
         ensures odd { LeavesOdd course self.links result.0.odd }
         ensures wires { result.1.items ≡ wires_of self.links }
         ensures counted { AreCounted W.counts self.links }
+        ensures shut { AreShut W.is_shut self.links }
     {
         let Seats { desk, links, .. } = self;
         // The settings are read for their clause, the limits.

@@ -2,8 +2,8 @@ use Rattle.std.proofs.Common.{◌≡◌, ◌+◌, ◌++◌, ◌∷◌, [], lengt
 use Rattle.std.proofs.lemmas.Iterator.Adapters.{YieldsList-from_vec}
 use Rattle.std.proofs.lemmas.Iterator.Consumers.{YieldsList-end, YieldsList-turn}
 use Rattle.std.proofs.lemmas.List.{length_push, map-id}
-use Rattle.tk_hub.proofs.LeavingLemmas.{LeftUpTo, counted_free, counted_more, counted_none, counted_seat, is_free, item_at, left_all, left_more, left_none, left_past, or_first, or_second, stands_at, wires_more, wires_past}
-use Rattle.tk_hub.specs.End.{AreCounted, wires_of}
+use Rattle.tk_hub.proofs.LeavingLemmas.{LeftUpTo, counted_free, counted_more, counted_none, counted_seat, is_free, item_at, left_all, left_more, left_none, left_past, or_first, or_second, shut_free, shut_more, shut_none, shut_seat, stands_at, wires_more, wires_past}
+use Rattle.tk_hub.specs.End.{AreCounted, AreShut, wires_of}
 use Rattle.tk_hub.proofs.leaving.leave.Goals as goal
 
 pub loop-seat-init : goal.loop-seat-init
@@ -14,6 +14,7 @@ loop-seat-init g c = (
   c.requires.room,
   left_none _ c.args.course,
   counted_none g.W.Wire.counts,
+  shut_none g.W.Wire.is_shut,
 )
 
 pub left-next-requires : goal.left-next-requires
@@ -43,6 +44,7 @@ loop-seat-preserved-in-Some-seat g c =
       omega (arith, c.push_reserved.ensures.capacity, before.3),
       subst (λ o. LeftUpTo c.args.course (done ++ o ∷ []) c.or-odd.result) (sym c.in-Some-seat.is) more,
       counted_more g.W.Wire.counts done seat (counted_seat g.W.Wire.counts seat c.in-Some-seat.link c.left-next.result.1 c.in-Some-seat.is c.left-next.ensures.wire c.left-next.ensures.counted) before.5,
+      shut_more g.W.Wire.is_shut done seat (shut_seat g.W.Wire.is_shut seat c.in-Some-seat.link c.left-next.result.1 c.in-Some-seat.is c.left-next.ensures.wire c.left-next.ensures.shut) before.6,
     )
 
 pub loop-seat-preserved : goal.loop-seat-preserved
@@ -58,6 +60,7 @@ loop-seat-preserved g c =
       before.3,
       subst (λ o. LeftUpTo c.args.course (done ++ o ∷ []) c.loop-seat.odd) (sym none) (left_past c.args.course c.args.links.items done c.loop-seat.odd c.requires.standing before.4),
       counted_more g.W.Wire.counts done seat (counted_free g.W.Wire.counts seat none) before.5,
+      shut_more g.W.Wire.is_shut done seat (shut_free g.W.Wire.is_shut seat none) before.6,
     )
 
 pub returns-clause-odd : goal.returns-clause-odd
@@ -69,6 +72,11 @@ pub returns-clause-counted : goal.returns-clause-counted
 returns-clause-counted g c =
     let whole = YieldsList-end (YieldsList-from_vec {s = c.into_iter-seat-iterator.result} c.args.links.items (search rules) (search rules)) c.loop-seat.yielded c.loop-seat.seat-iterator c.loop-seat.yielded_by c.next.result c.next.new.self c.in-None.is c.next.ensures.steps in
     subst (λ xs. AreCounted g.W.Wire.counts xs) (sym (map-id c.loop-seat.yielded) ∙ whole.0) c.loop-seat.invariant.5
+
+pub returns-clause-shut : goal.returns-clause-shut
+returns-clause-shut g c =
+    let whole = YieldsList-end (YieldsList-from_vec {s = c.into_iter-seat-iterator.result} c.args.links.items (search rules) (search rules)) c.loop-seat.yielded c.loop-seat.seat-iterator c.loop-seat.yielded_by c.next.result c.next.new.self c.in-None.is c.next.ensures.steps in
+    subst (λ xs. AreShut g.W.Wire.is_shut xs) (sym (map-id c.loop-seat.yielded) ∙ whole.0) c.loop-seat.invariant.6
 
 pub returns-clause-wires : goal.returns-clause-wires
 returns-clause-wires g c =

@@ -1,5 +1,5 @@
 use Rattle.std.proofs.Common.{◌≡◌, ◌≤◌, length, vec_capacity}
-use Rattle.tk_hub.specs.End.{AreCounted, wires_of}
+use Rattle.tk_hub.specs.End.{AreCounted, AreShut, wires_of}
 use Rattle.tk_hub.proofs.LeavingLemmas.{LeftUpTo}
 use Rattle.tk_hub.proofs.leaving.leave.Given as goal
 
@@ -12,3 +12,4 @@ invariant-loop-seat g l =
     × (64 ≤ vec_capacity l.wires)
     × LeftUpTo l.fn.course l.yielded l.odd
     × AreCounted g.W.Wire.counts l.yielded
+    × AreShut g.W.Wire.is_shut l.yielded

@@ -1,10 +1,13 @@
 use Rattle.std.proofs.Common.{◌∙◌, ap, subst}
 use Rattle.tk_hub.proofs.LeavingLemmas.{covered_of, lost_of}
-use Rattle.tk_hub.specs.End.{AreCounted, EachCovers}
+use Rattle.tk_hub.specs.End.{AreCounted, AreShut, EachCovers}
 use Rattle.tk_hub.proofs.hub.Hub.into_end.Goals as goal
 
 pub returns-clause-counted : goal.returns-clause-counted
 returns-clause-counted g c = subst (λ v. AreCounted g.W.Wire.counts v.links) c.self.view_is c.into_end.ensures.counted
+
+pub returns-clause-shut : goal.returns-clause-shut
+returns-clause-shut g c = subst (λ v. AreShut g.W.Wire.is_shut v.links) c.self.view_is c.into_end.ensures.shut
 
 pub returns-clause-covered : goal.returns-clause-covered
 returns-clause-covered g c =

@@ -1,6 +1,6 @@
 use Rattle.std.proofs.Common.{◌∙◌, ap, sym, subst}
 use Rattle.tk_hub.proofs.LeavingLemmas.{odd_up, standing_of}
-use Rattle.tk_hub.specs.End.{AreCounted, LeavesOdd, wires_of}
+use Rattle.tk_hub.specs.End.{AreCounted, AreShut, LeavesOdd, wires_of}
 use Rattle.tk_hub.specs.Leaving.{IsLeftOn}
 use Rattle.tk_hub.proofs.seats.Seats.into_end.Goals as goal
 
@@ -16,6 +16,9 @@ new-requires g c =
 
 pub returns-clause-counted : goal.returns-clause-counted
 returns-clause-counted g c = subst (λ v. AreCounted g.W.Wire.counts v.links) c.self.view_is c.leave-odd.ensures.counted
+
+pub returns-clause-shut : goal.returns-clause-shut
+returns-clause-shut g c = subst (λ v. AreShut g.W.Wire.is_shut v.links) c.self.view_is c.leave-odd.ensures.shut
 
 pub returns-clause-odd : goal.returns-clause-odd
 returns-clause-odd g c =
