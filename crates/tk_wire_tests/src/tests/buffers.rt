@@ -174,3 +174,27 @@ fn a_failed_call_is_handed_on(rt: HostRuntime) -> Result<(), Fail> {
     assert_eq!(rt; answers, (Pulled::Failed, Pushed::Failed, true));
     Ok(())
 }
+
+/// What two pulls answer where 65,536 bytes wait, and the buffer is widened between them.
+fn widened(wire: &mut PipeWire, pipe: &mut Pipe, buffer: &mut InBuffer) -> [Pulled; 2] {
+    pipe.put(&[0; 65_536]);
+    wire.fill(pipe);
+    let first = buffer.pull(wire);
+    buffer.widen();
+    [first, buffer.pull(wire)]
+}
+
+/// The same over a wire and a buffer of their own.
+fn widened_there(alloc: Global) -> Result<[Pulled; 2], Fail> {
+    let mut pipe = Pipe::new(alloc, 65_536)?;
+    let mut wire = PipeWire::new(alloc, 65_536, 65_536, Vec::new(alloc))?;
+    let mut buffer = InBuffer::new(alloc);
+    Ok(widened(&mut wire, &mut pipe, &mut buffer))
+}
+
+#[test]
+fn a_new_buffer_takes_few_bytes_at_once(rt: HostRuntime) -> Result<(), Fail> {
+    let pulled = widened_there(rt.alloc())?;
+    assert_eq!(rt; pulled, [Pulled::Got(4_096), Pulled::Got(61_440)]);
+    Ok(())
+}
