@@ -3,8 +3,7 @@ use Rattle.std.proofs.Common.{◌≡◌, ◌≢◌, ◌<◌, ◌≤◌, ℕ, max
 use Rattle.std.specs.Prelude.{IfOk, IfErr, IfSome, IsErrOf, OnOk, is_err, if◌then◌else◌, nat_lt}
 use Rattle.std.specs.Option.{option_map_or}
 use Rattle.std.proofs.lemmas.Bool.{ltb-true, ltb-false}
-use Rattle.tk_input.specs.Files.{HasRisen}
-use Rattle.tk_input.specs.MapFiles.{Faults, TakesNoMore, faults_after, given, longest_after}
+use Rattle.tk_input.specs.MapFiles.{Faults, TakesNoMore, given, longest_after}
 use Rattle.tk_input.specs.Tallies.{Count, Notes, faults_of, longest_of}
 use Rattle.tk_input.specs.declared.files.FileFault.{FileFault}
 use Rattle.tk_input.specs.declared.files.FileFault.TheVariants.{Failed, NoMemory, TooLong}
@@ -48,12 +47,6 @@ faults_beside old new name other f l notes apart = ap (λ (o : Option Count). op
 
 pub longest_beside : (old new : List Count) (name other : List ℕ) (f l : ℕ) → Notes old new name f l → other ≢ name → longest_of new other ≡ longest_of old other
 longest_beside old new name other f l notes apart = ap (λ (o : Option Count). option_map_or (λ c. c.longest) o 0) (notes.others other apart)
-
-pub risen : {A : Type 0} (r : Result A FileFault) (old new : ℕ) → new ≡ faults_after r old → IsErrOf r Failed → HasRisen old new
-risen (Ok x) old new is failed = absurd (cc)
-risen (Err Failed) old new is failed = λ below. omega (arith, is, below)
-risen (Err TooLong) old new is failed = absurd (cc)
-risen (Err NoMemory) old new is failed = absurd (cc)
 
 pub more_taken : {A : Type 0} (r : Result (Vec ℕ A) FileFault) (old new : ℕ) → new ≡ longest_after r old → old ≤ new
 more_taken (Ok v) old new is = omega (arith, is)

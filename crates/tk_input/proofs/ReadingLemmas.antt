@@ -158,3 +158,14 @@ pub next_shown : (old new : Reader (Bor (List ℕ))) (outcome : Result Bool Erro
 next_shown old new outcome r f ended more shown fields open_still was is tells same kind reads ready flexible goes =
     answer outcome r ended more old new shown fields open_still is tells (no_error outcome f (λ found. r ≡ Ok found) same) kind
     (next_reads old new outcome fields (still_reads ended old open_still was) reads ready flexible goes).1
+
+same_found : (outcome : Result Bool Error) (r : Result Bool NoMemory) (f : Error → Type 0) → MatchResult outcome (λ found. r ≡ Ok found) f → is_ok r ≡ is_ok outcome → found_in r ≡ found_in outcome
+same_found (Ok found) r f same kind = ap (λ (o : Result Bool NoMemory). found_in o) same
+same_found (Err e) (Ok found) f same kind = absurd (cc)
+same_found (Err e) (Err n) f same kind = refl
+
+-- where no record was found, none is left
+pub none_shown : (new : Reader (Bor (List ℕ))) (outcome : Result Bool Error) (r : Result Bool NoMemory) (f : Error → Type 0) (more : Bool) → more ≡ found_in outcome
+    → MatchResult outcome (λ found. r ≡ Ok found) f → is_ok r ≡ is_ok outcome → found_in r ≡ false → left_of (not more) new ≡ []
+none_shown new outcome r f more tells same kind none =
+    ap (λ (b : Bool). left_of (not b) new) (tells ∙ sym (same_found outcome r f same kind) ∙ none)

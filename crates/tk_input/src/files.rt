@@ -1,5 +1,5 @@
 ghost use Rattle.std.specs.Prelude.{◌≡◌, ◌≢◌, ℕ, ◌<◌, ◌≤◌, max, List, length, Option, IfOk, IfSome, IsErrOf};
-ghost use Rattle.tk_input.specs.Files.{HasRisen};
+ghost use Rattle.tk_input.specs.MapFiles.{faults_after};
 
 use std::alloc::Global;
 use std::error::Error;
@@ -57,10 +57,8 @@ pub trait Files {
         ensures too_long { IsErrOf result FileFault.TooLong
             → IfSome (content self.old name.now) (λ told. 67108864 < length told) }
         ensures too_much { IsErrOf result FileFault.TooLong → 67108864 < most_taken self.new name.now }
-        // A failed read is counted. No count falls, and each is of its own name.
-        ensures failed { IsErrOf result FileFault.Failed
-            → HasRisen (fault_count self.old name.now) (fault_count self.new name.now) }
-        ensures kept_faults { fault_count self.old name.now ≤ fault_count self.new name.now }
+        // A failed read is counted, and no other is. Each count is of its own name.
+        ensures counted { fault_count self.new name.now ≡ faults_after result (fault_count self.old name.now) }
         ensures other_faults { (other : List ℕ) → other ≢ name.now → fault_count self.new other ≡ fault_count self.old other }
         // So is the most that one read took, which is no more than there is.
         ensures taken { IfOk result (λ v. length v.items ≤ most_taken self.new name.now) }

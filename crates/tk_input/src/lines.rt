@@ -76,6 +76,7 @@ impl<'a> Lines<'a> {
     pub fn next(&mut self) -> Option<(u32, &'a [u8])>
         ensures some { IfSome result (λ line. self.old ≡ (line.0, line.1.now) ∷ self.new) }
         ensures none { result ≡ None → self.old ≡ [] }
+        ensures ended { result ≡ None → self.new ≡ [] }
     {
         while !self.rest.is_empty() {
             let (line, rest) = split_line(self.rest);

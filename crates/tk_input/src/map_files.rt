@@ -1,5 +1,4 @@
 ghost use Rattle.std.specs.Prelude.{◌≡◌, ◌≢◌, ℕ, ◌<◌, ◌≤◌, [], List, length, IfOk, IfErr, IfSome, IsErrOf, IsOk, IsSome, Ok, option_map, position, bytes_eq, string_bytes};
-ghost use Rattle.tk_input.specs.Files.{HasRisen};
 ghost use Rattle.tk_input.specs.MapFiles.{Faults, TakesNoMore, content_of, faults_after, files_of, given, longest_after, read_of, reads_after as reads_then};
 ghost use Rattle.tk_input.specs.Tallies.{Notes, count_of, faults_of, longest_of};
 
@@ -91,9 +90,8 @@ fn reads_after(outcome: &Result<Vec<u8>, FileFault>, reads: u64) -> u64
 /// of each of its many clauses.
 fn note(tallies: &mut Tallies, name: &str, outcome: &Result<Vec<u8>, FileFault>)
     requires { IsSome (count_of tallies.old name.now) }
-    ensures notes { Notes tallies.old tallies.new name.now
+    ensures { Notes tallies.old tallies.new name.now
         (faults_after outcome.now (faults_of tallies.old name.now)) (longest_after outcome.now (longest_of tallies.old name.now)) }
-    ensures kept { faults_of tallies.old name.now ≤ faults_of tallies.new name.now }
 {
     match outcome {
         Ok(copy) => tallies.note_length(name, copy.len() as u64),
@@ -125,7 +123,8 @@ impl Files for MapFiles {
         ensures files { self.new.files ≡ self.old.files }
         ensures fails { self.new.fails ≡ self.old.fails }
         ensures reads { self.new.reads ≡ reads_then result self.old.reads }
-        ensures counted { faults_of self.new.counts name.now ≡ faults_after result (faults_of self.old.counts name.now) }
+        // What is taken of a read that fails, or finds no memory, does not count.
+        ensures longest { longest_of self.new.counts name.now ≡ longest_after result (longest_of self.old.counts name.now) }
         // As every implementation of the trait.
         ensures content { IfOk result (λ v. IfSome (content_of self.old.files name.now) (λ told. v.items ≡ told)) }
         ensures told { (other : List ℕ) → content_of self.new.files other ≡ content_of self.old.files other }
@@ -133,9 +132,7 @@ impl Files for MapFiles {
         ensures too_long { IsErrOf result FileFault.TooLong
             → IfSome (content_of self.old.files name.now) (λ told. 67108864 < length told) }
         ensures too_much { IsErrOf result FileFault.TooLong → 67108864 < longest_of self.new.counts name.now }
-        ensures failed { IsErrOf result FileFault.Failed
-            → HasRisen (faults_of self.old.counts name.now) (faults_of self.new.counts name.now) }
-        ensures kept_faults { faults_of self.old.counts name.now ≤ faults_of self.new.counts name.now }
+        ensures counted { faults_of self.new.counts name.now ≡ faults_after result (faults_of self.old.counts name.now) }
         ensures other_faults { (other : List ℕ) → other ≢ name.now
             → faults_of self.new.counts other ≡ faults_of self.old.counts other }
         ensures taken { IfOk result (λ v. length v.items ≤ longest_of self.new.counts name.now) }

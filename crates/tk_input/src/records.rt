@@ -1,4 +1,4 @@
-ghost use Rattle.std.specs.Prelude.{◌≡◌, ◌∷◌, [], IfOk, MatchBool, IsTrue};
+ghost use Rattle.std.specs.Prelude.{◌≡◌, ◌∷◌, [], false, IfOk, MatchBool, IsTrue};
 ghost use Rattle.csv.specs.Records.{fields_of};
 ghost use Rattle.tk_input.specs.Records.{found_in, records_in};
 
@@ -53,7 +53,9 @@ impl<'a> Records<'a> {
     /// Reads the next record into `row`, and tells whether there was one. Over bytes in memory, with
     /// records of any lengths, a read fails for want of memory alone.
     pub fn next(&mut self, row: &mut ByteRecord) -> Result<bool, NoMemory>
-        ensures { IfOk result (λ found. MatchBool found (self.old ≡ fields_of row.new ∷ self.new) (self.old ≡ [])) }
+        ensures found { IfOk result (λ found. MatchBool found (self.old ≡ fields_of row.new ∷ self.new) (self.old ≡ [])) }
+        // Behind the last record none is left, nor is one behind a read that failed.
+        ensures ended { found_in result ≡ false → self.new ≡ [] }
     {
         if self.ended {
             return Ok(false);

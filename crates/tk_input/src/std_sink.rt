@@ -1,8 +1,11 @@
-ghost use Rattle.std.specs.Prelude.{◌≡◌, None};
+ghost use Rattle.std.specs.Io.KnownBytes.{Appends};
+ghost use Rattle.std.specs.Prelude.{◌≡◌, None, OnOk};
+ghost use Rattle.tk_input.specs.Sink.{put_faults};
 
 use crate::edges::put_all;
 use crate::sink::{PutFailed, Sink};
 use std::io;
+use std::io::Write;
 use std::marker::Model;
 
 /// Standard output. Nothing is known of what it takes.
@@ -29,6 +32,18 @@ impl<R: Print> StdSink<R> {
     }
 }
 
+/// Hands all of the bytes to a writer, and counts where that fails.
+fn put_counted<W: Write>(to: &mut W, bytes: &[u8], faults: &mut u64) -> Result<(), PutFailed>
+    ensures ok { OnOk result (Appends (W.contents to.old) (W.contents to.new) bytes.now) }
+    ensures counted { faults.new ≡ put_faults result faults.old }
+{
+    let outcome = put_all(to, bytes);
+    if outcome.is_err() {
+        *faults = faults.saturating_add(1);
+    }
+    outcome
+}
+
 impl<R: Print> Sink for StdSink<R> {
     ghost written = { λ s. None };
 
@@ -39,10 +54,6 @@ impl<R: Print> Sink for StdSink<R> {
     }
 
     fn put(&mut self, bytes: &[u8]) -> Result<(), PutFailed> {
-        let outcome = put_all(&mut io::writer(&self.system), bytes);
-        if outcome.is_err() {
-            self.faults = self.faults.saturating_add(1);
-        }
-        outcome
+        put_counted(&mut io::writer(&self.system), bytes, &mut self.faults)
     }
 }

@@ -1,4 +1,5 @@
-ghost use Rattle.std.specs.Prelude.{◌≡◌, ◌<◌, ◌≤◌, [], None, IsErrOf, IsSome, OnOk, length, max};
+ghost use Rattle.std.specs.Prelude.{◌≡◌, ◌<◌, ◌≤◌, [], None, IfOk, IsErrOf, IsSome, OnOk, length, max};
+ghost use Rattle.tk_input.specs.Files.{Gives};
 ghost use Rattle.tk_input.specs.MapFiles.{faults_after};
 ghost use Rattle.tk_input.specs.Tallies.{Notes, count_of, faults_of, longest_of};
 
@@ -6,8 +7,9 @@ use crate::edges::{fault_of, take_all};
 use crate::files::{FileFault, Files};
 use crate::tallies::Tallies;
 use std::alloc::Global;
+use std::io::Read;
 use std::marker::Model;
-use std::{fs, rt};
+use std::{fs, io, rt};
 
 /// The files of the system. Nothing is known of what they hold.
 #[derive(Debug, Drop)]
@@ -37,12 +39,14 @@ impl<R: rt::Files> TrueFiles<R> {
     }
 }
 
-fn read_file<R: rt::Files>(system: &R, name: &str, bytes: &mut Vec<u8>) -> Result<(), FileFault>
+/// All of a file that was opened, or why it was not.
+fn take_opened<F: Read + Drop>(opened: io::Result<F>, bytes: &mut Vec<u8>) -> Result<(), FileFault>
     requires { length bytes.old.items ≡ 0 }
+    ensures ok { OnOk result (Gives F.remaining opened bytes.new.items) }
     ensures short { OnOk result (length bytes.new.items ≤ 67108864) }
     ensures too_much { IsErrOf result FileFault.TooLong → 67108864 < length bytes.new.items }
 {
-    match fs::open(system, name) {
+    match opened {
         Ok(file) => take_all(file, bytes),
         Err(error) => Err(fault_of(&error)),
     }
@@ -51,9 +55,8 @@ fn read_file<R: rt::Files>(system: &R, name: &str, bytes: &mut Vec<u8>) -> Resul
 /// Counts what came of a read of a name that has its room, and how many bytes it took.
 fn note(tallies: &mut Tallies, name: &str, outcome: &Result<(), FileFault>, taken: u64)
     requires { IsSome (count_of tallies.old name.now) }
-    ensures notes { Notes tallies.old tallies.new name.now
+    ensures { Notes tallies.old tallies.new name.now
         (faults_after outcome.now (faults_of tallies.old name.now)) (max (longest_of tallies.old name.now) taken) }
-    ensures kept { faults_of tallies.old name.now ≤ faults_of tallies.new name.now }
 {
     tallies.note_length(name, taken);
     match outcome {
@@ -61,6 +64,32 @@ fn note(tallies: &mut Tallies, name: &str, outcome: &Result<(), FileFault>, take
         Err(FileFault::Failed) => tallies.note_fault(name),
         Err(FileFault::TooLong) => {}
         Err(FileFault::NoMemory) => {}
+    }
+}
+
+/// What a read of a name gives whose file was opened, or was not. The name has its room among what is counted.
+fn read_opened<F: Read + Drop>(
+    alloc: Global,
+    opened: io::Result<F>,
+    name: &str,
+    tallies: &mut Tallies,
+) -> Result<Vec<u8>, FileFault>
+    requires { IsSome (count_of tallies.old name.now) }
+    // What is read is all that there is: no failed read is the end of a file.
+    ensures ok { IfOk result (λ v. Gives F.remaining opened v.items) }
+    ensures short { IfOk result (λ v. length v.items ≤ 67108864) }
+    ensures too_much { IsErrOf result FileFault.TooLong → 67108864 < longest_of tallies.new name.now }
+    ensures taken { IfOk result (λ v. length v.items ≤ longest_of tallies.new name.now) }
+    ensures kept_taken { longest_of tallies.old name.now ≤ longest_of tallies.new name.now }
+    ensures notes { Notes tallies.old tallies.new name.now
+        (faults_after result (faults_of tallies.old name.now)) (longest_of tallies.new name.now) }
+{
+    let mut bytes = Vec::new(alloc);
+    let outcome = take_opened(opened, &mut bytes);
+    note(tallies, name, &outcome, bytes.len() as u64);
+    match outcome {
+        Ok(()) => Ok(bytes),
+        Err(fault) => Err(fault),
     }
 }
 
@@ -83,12 +112,7 @@ impl<R: rt::Files> Files for TrueFiles<R> {
         if self.tallies.reserve(alloc, name).is_err() {
             return Err(FileFault::NoMemory);
         }
-        let mut bytes = Vec::new(alloc);
-        let outcome = read_file(&self.system, name, &mut bytes);
-        note(&mut self.tallies, name, &outcome, bytes.len() as u64);
-        match outcome {
-            Ok(()) => Ok(bytes),
-            Err(fault) => Err(fault),
-        }
+        let opened = fs::open(&self.system, name);
+        read_opened(alloc, opened, name, &mut self.tallies)
     }
 }

@@ -16,7 +16,7 @@ pub returns-in_err-change-clause-err : goal.returns-in_err-change-clause-err
 returns-in_err-change-clause-err c =
     let loop = c.loop-row in
     let next : loop.rows ≡ fields_of c.next.new.row ∷ c.next.new.self =
-    subst (λ (found : Bool). MatchBool found (loop.rows ≡ fields_of c.next.new.row ∷ c.next.new.self) (loop.rows ≡ [])) c.if-branch.true c.in_ok-next.ensures in
+    subst (λ (found : Bool). MatchBool found (loop.rows ≡ fields_of c.next.new.row ∷ c.next.new.self) (loop.rows ≡ [])) c.if-branch.true c.in_ok-next.ensures.found in
     let given = err_from_is_err_and c.from_residual-in_err-change.result c.from_residual-in_err-change.ensures.1 in
     rw (given.1, given.2)
     (log_fault c.args.names.now (through (change_added c.args.names.now) c.args.changes.now c.args.rows.now) loop.changes c.len.result (fields_of c.next.new.row) c.next.new.self loop.rows c.in_err-change.field-0.0 loop.invariant.same next c.len.ensures c.in_err-change.ensures.err)
@@ -28,7 +28,7 @@ loop-row-preserved c =
     let change = pair_of c.in_ok-change.change in
     let pushed = c.in_ok-push.ensures.ok in
     let next : loop.rows ≡ fields_of c.next.new.row ∷ c.next.new.self =
-    subst (λ (found : Bool). MatchBool found (loop.rows ≡ fields_of c.next.new.row ∷ c.next.new.self) (loop.rows ≡ [])) c.if-branch.true c.in_ok-next.ensures in
+    subst (λ (found : Bool). MatchBool found (loop.rows ≡ fields_of c.next.new.row ∷ c.next.new.self) (loop.rows ≡ [])) c.if-branch.true c.in_ok-next.ensures.found in
     record {
       same =
           ap (λ (all : List (ℕ × ℤ)). through (change_added names) all c.next.new.self) pushed
@@ -44,7 +44,7 @@ pub returns-clause-ok : goal.returns-clause-ok
 returns-clause-ok c =
     let loop = c.loop-row in
     let ended : loop.rows ≡ [] =
-    subst (λ (found : Bool). MatchBool found (loop.rows ≡ fields_of c.next.new.row ∷ c.next.new.self) (loop.rows ≡ [])) c.if-branch.false c.in_ok-next.ensures in
+    subst (λ (found : Bool). MatchBool found (loop.rows ≡ fields_of c.next.new.row ∷ c.next.new.self) (loop.rows ≡ [])) c.if-branch.false c.in_ok-next.ensures.found in
     sym loop.invariant.same ∙ through-none (change_added c.args.names.now) loop.changes loop.rows ended
 
 pub returns-clause-objects : goal.returns-clause-objects

@@ -1,11 +1,11 @@
-use Rattle.std.proofs.Common.{◌≡◌, ℕ, List, Result, Ok, Bor, option_map, arith, sym, subst, ap, ◌∙◌}
+use Rattle.std.proofs.Common.{◌≡◌, ℕ, List, Result, Ok, Bor, option_map, sym, subst, ap, ◌∙◌}
 use Rattle.std.specs.Prelude.{◌==◌, IfErr, IfOk}
 use Rattle.std.specs.List.{list_any}
 use Rattle.tk_input.specs.Files.{one_more}
 use Rattle.tk_input.specs.MapFiles.{Faults, MapFilesView, content_of, faults_after, files_of, given, longest_after, read_of, reads_after}
 use Rattle.tk_input.specs.Tallies.{Count, Notes, faults_of, longest_of}
 use Rattle.tk_input.specs.declared.files.FileFault.{FileFault}
-use Rattle.tk_input.proofs.CountedLemmas.{content_long, copy_same, copy_short, copy_taken, faults_beside, faults_now, limit_taken, longest_beside, longest_now, more_taken, noted_behind, on_ok, risen, takes_no_more}
+use Rattle.tk_input.proofs.CountedLemmas.{content_long, copy_same, copy_short, copy_taken, faults_beside, faults_now, limit_taken, longest_beside, longest_now, more_taken, noted_behind, on_ok, takes_no_more}
 use Rattle.tk_input.proofs.FilesLemmas.{given_is}
 use Rattle.tk_input.proofs.map_files.MapFilesFiles.read_all.Goals as goal
 
@@ -27,7 +27,7 @@ notes c =
     let name = c.args.name.now in
     let r = c.copy_of-outcome.result in
     subst (λ (counts : List Count). Notes counts c.note.new.tallies name (faults_after r (faults_of counts name)) (longest_after r (longest_of counts name))) (ap (λ (m : MapFilesView). m.counts) c.self.view_is)
-    (noted_behind (faults_after r) (longest_after r) c.self.inside.tallies c.reserve.new.self c.note.new.tallies name (room c) c.note.ensures.notes)
+    (noted_behind (faults_after r) (longest_after r) c.self.inside.tallies c.reserve.new.self c.note.new.tallies name (room c) c.note.ensures)
 
 longest : (c : goal.After-note) → longest_of c.note.new.tallies c.args.name.now ≡ longest_after c.copy_of-outcome.result (longest_of c.args.self.now.counts c.args.name.now)
 longest c = longest_now _ _ _ _ _ (notes c)
@@ -46,6 +46,9 @@ returns-clause-fails c = ap (λ (m : MapFilesView). m.fails) c.self.view_is
 
 pub returns-clause-reads : goal.returns-clause-reads
 returns-clause-reads c = c.reads_after-self-inside.ensures ∙ ap (λ (m : MapFilesView). reads_after c.copy_of-outcome.result m.reads) c.self.view_is
+
+pub returns-clause-longest : goal.returns-clause-longest
+returns-clause-longest c = longest c
 
 pub returns-clause-counted : goal.returns-clause-counted
 returns-clause-counted c = faults_now _ _ _ _ _ (notes c)
@@ -70,13 +73,6 @@ returns-clause-too_long c =
 
 pub returns-clause-too_much : goal.returns-clause-too_much
 returns-clause-too_much c = limit_taken c.copy_of-outcome.result _ _ (longest c)
-
-pub returns-clause-failed : goal.returns-clause-failed
-returns-clause-failed c = risen c.copy_of-outcome.result _ _ (returns-clause-counted c)
-
-pub returns-clause-kept_faults : goal.returns-clause-kept_faults
-returns-clause-kept_faults c =
-    omega (arith, c.note.ensures.kept, faults_now _ _ _ _ _ (room c), ap (λ (m : MapFilesView). faults_of m.counts c.args.name.now) c.self.view_is)
 
 pub returns-clause-other_faults : goal.returns-clause-other_faults
 returns-clause-other_faults c = λ other apart. faults_beside _ _ _ other _ _ (notes c) apart

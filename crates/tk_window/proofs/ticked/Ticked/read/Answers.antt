@@ -13,7 +13,7 @@ pub returns-in_err-entry-clause-err : goal.returns-in_err-entry-clause-err
 returns-in_err-entry-clause-err c =
     let loop = c.loop-last in
     let next : loop.rows ≡ fields_of c.next.new.row ∷ c.next.new.self =
-    subst (λ (found : Bool). MatchBool found (loop.rows ≡ fields_of c.next.new.row ∷ c.next.new.self) (loop.rows ≡ [])) c.if-branch.true c.in_ok-next.ensures in
+    subst (λ (found : Bool). MatchBool found (loop.rows ≡ fields_of c.next.new.row ∷ c.next.new.self) (loop.rows ≡ [])) c.if-branch.true c.in_ok-next.ensures.found in
     let given = err_from_is_err_and c.from_residual-in_err-entry.result c.from_residual-in_err-entry.ensures.1 in
     rw (given.1, given.2)
     (ticks_fault c.args.names.now c.args.bytes.now (entries_in loop.closed.items loop.last) loop.records (fields_of c.next.new.row) c.next.new.self loop.rows c.in_err-entry.field-0.0 loop.invariant.same next loop.invariant.counted c.in_err-entry.ensures.err)
@@ -29,7 +29,7 @@ loop-last-preserved c =
     let grows : taken ≡ grown r entry = c.in_ok-take_entry.ensures in
     let more : entries_in taken.closed taken.last ≡ before ++ entry ∷ [] = ap (λ (x : Reading). entries_in x.closed x.last) grows ∙ entries_in-grown r entry in
     let next : loop.rows ≡ fields_of c.next.new.row ∷ c.next.new.self =
-    subst (λ (found : Bool). MatchBool found (loop.rows ≡ fields_of c.next.new.row ∷ c.next.new.self) (loop.rows ≡ [])) c.if-branch.true c.in_ok-next.ensures in
+    subst (λ (found : Bool). MatchBool found (loop.rows ≡ fields_of c.next.new.row ∷ c.next.new.self) (loop.rows ≡ [])) c.if-branch.true c.in_ok-next.ensures.found in
     record {
       same =
           ap (λ (all : List Entry). through (entry_added names) all c.next.new.self) more
@@ -52,7 +52,7 @@ pub returns-clause-ok : goal.returns-clause-ok
 returns-clause-ok c =
     let loop = c.loop-last in
     let ended : loop.rows ≡ [] =
-    subst (λ (found : Bool). MatchBool found (loop.rows ≡ fields_of c.next.new.row ∷ c.next.new.self) (loop.rows ≡ [])) c.if-branch.false c.in_ok-next.ensures in
+    subst (λ (found : Bool). MatchBool found (loop.rows ≡ fields_of c.next.new.row ∷ c.next.new.self) (loop.rows ≡ [])) c.if-branch.false c.in_ok-next.ensures.found in
     ticks_end c.args.names.now c.args.bytes.now loop.closed.items loop.last loop.rows loop.invariant.same ended
     ∙ ap (λ (tick : List (ℕ × ℤ)). Ok (loop.closed.items ++ tick ∷ [])) (sym c.new.ensures)
     ∙ ap (λ (ticks : List (List (ℕ × ℤ))). Ok ticks) (sym c.in_ok-push.ensures.items)
