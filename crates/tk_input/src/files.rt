@@ -57,8 +57,9 @@ pub trait Files {
         ensures too_long { IsErrOf result FileFault.TooLong
             → IfSome (content self.old name.now) (λ told. 67108864 < length told) }
         ensures too_much { IsErrOf result FileFault.TooLong → 67108864 < most_taken self.new name.now }
-        // A failed read is counted, and no other is. Each count is of its own name.
+        // A failed read is counted, and no other is. No count falls, and each is of its own name.
         ensures counted { fault_count self.new name.now ≡ faults_after result (fault_count self.old name.now) }
+        ensures kept_faults { fault_count self.old name.now ≤ fault_count self.new name.now }
         ensures other_faults { (other : List ℕ) → other ≢ name.now → fault_count self.new other ≡ fault_count self.old other }
         // So is the most that one read took, which is no more than there is.
         ensures taken { IfOk result (λ v. length v.items ≤ most_taken self.new name.now) }

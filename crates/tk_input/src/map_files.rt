@@ -90,8 +90,9 @@ fn reads_after(outcome: &Result<Vec<u8>, FileFault>, reads: u64) -> u64
 /// of each of its many clauses.
 fn note(tallies: &mut Tallies, name: &str, outcome: &Result<Vec<u8>, FileFault>)
     requires { IsSome (count_of tallies.old name.now) }
-    ensures { Notes tallies.old tallies.new name.now
+    ensures notes { Notes tallies.old tallies.new name.now
         (faults_after outcome.now (faults_of tallies.old name.now)) (longest_after outcome.now (longest_of tallies.old name.now)) }
+    ensures kept { faults_of tallies.old name.now ≤ faults_of tallies.new name.now }
 {
     match outcome {
         Ok(copy) => tallies.note_length(name, copy.len() as u64),
@@ -133,6 +134,7 @@ impl Files for MapFiles {
             → IfSome (content_of self.old.files name.now) (λ told. 67108864 < length told) }
         ensures too_much { IsErrOf result FileFault.TooLong → 67108864 < longest_of self.new.counts name.now }
         ensures counted { faults_of self.new.counts name.now ≡ faults_after result (faults_of self.old.counts name.now) }
+        ensures kept_faults { faults_of self.old.counts name.now ≤ faults_of self.new.counts name.now }
         ensures other_faults { (other : List ℕ) → other ≢ name.now
             → faults_of self.new.counts other ≡ faults_of self.old.counts other }
         ensures taken { IfOk result (λ v. length v.items ≤ longest_of self.new.counts name.now) }

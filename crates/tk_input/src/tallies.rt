@@ -1,4 +1,4 @@
-ghost use Rattle.std.specs.Prelude.{◌≡◌, [], max, IfOk, OnOk, OnErr, IsSome, position, bytes_eq};
+ghost use Rattle.std.specs.Prelude.{◌≡◌, ◌≤◌, [], max, IfOk, OnOk, OnErr, IsSome, position, bytes_eq};
 ghost use Rattle.tk_input.specs.Files.{one_more};
 ghost use Rattle.tk_input.specs.Tallies.{Notes, count_of, faults_of, longest_of};
 
@@ -93,7 +93,8 @@ impl Tallies {
     /// Counts one more failed read of a name that has its room.
     pub fn note_fault(&mut self, name: &str)
         requires { IsSome (count_of self.old name.now) }
-        ensures { Notes self.old self.new name.now (one_more (faults_of self.old name.now)) (longest_of self.old name.now) }
+        ensures notes { Notes self.old self.new name.now (one_more (faults_of self.old name.now)) (longest_of self.old name.now) }
+        ensures kept { faults_of self.old name.now ≤ faults_of self.new name.now }
     {
         if let Some(place) = self.place_of(name) {
             let tally = &mut self.list[place];

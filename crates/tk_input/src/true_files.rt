@@ -55,8 +55,9 @@ fn take_opened<F: Read + Drop>(opened: io::Result<F>, bytes: &mut Vec<u8>) -> Re
 /// Counts what came of a read of a name that has its room, and how many bytes it took.
 fn note(tallies: &mut Tallies, name: &str, outcome: &Result<(), FileFault>, taken: u64)
     requires { IsSome (count_of tallies.old name.now) }
-    ensures { Notes tallies.old tallies.new name.now
+    ensures notes { Notes tallies.old tallies.new name.now
         (faults_after outcome.now (faults_of tallies.old name.now)) (max (longest_of tallies.old name.now) taken) }
+    ensures kept { faults_of tallies.old name.now ≤ faults_of tallies.new name.now }
 {
     tallies.note_length(name, taken);
     match outcome {
@@ -80,6 +81,7 @@ fn read_opened<F: Read + Drop>(
     ensures short { IfOk result (λ v. length v.items ≤ 67108864) }
     ensures too_much { IsErrOf result FileFault.TooLong → 67108864 < longest_of tallies.new name.now }
     ensures taken { IfOk result (λ v. length v.items ≤ longest_of tallies.new name.now) }
+    ensures kept_faults { faults_of tallies.old name.now ≤ faults_of tallies.new name.now }
     ensures kept_taken { longest_of tallies.old name.now ≤ longest_of tallies.new name.now }
     ensures notes { Notes tallies.old tallies.new name.now
         (faults_after result (faults_of tallies.old name.now)) (longest_of tallies.new name.now) }

@@ -1,4 +1,4 @@
-use Rattle.std.proofs.Common.{◌≡◌, ℕ, List, Result, Ok, Bor, option_map, sym, subst, ap, ◌∙◌}
+use Rattle.std.proofs.Common.{◌≡◌, ℕ, List, Result, Ok, Bor, option_map, arith, sym, subst, ap, ◌∙◌}
 use Rattle.std.specs.Prelude.{◌==◌, IfErr, IfOk}
 use Rattle.std.specs.List.{list_any}
 use Rattle.tk_input.specs.Files.{one_more}
@@ -27,7 +27,7 @@ notes c =
     let name = c.args.name.now in
     let r = c.copy_of-outcome.result in
     subst (λ (counts : List Count). Notes counts c.note.new.tallies name (faults_after r (faults_of counts name)) (longest_after r (longest_of counts name))) (ap (λ (m : MapFilesView). m.counts) c.self.view_is)
-    (noted_behind (faults_after r) (longest_after r) c.self.inside.tallies c.reserve.new.self c.note.new.tallies name (room c) c.note.ensures)
+    (noted_behind (faults_after r) (longest_after r) c.self.inside.tallies c.reserve.new.self c.note.new.tallies name (room c) c.note.ensures.notes)
 
 longest : (c : goal.After-note) → longest_of c.note.new.tallies c.args.name.now ≡ longest_after c.copy_of-outcome.result (longest_of c.args.self.now.counts c.args.name.now)
 longest c = longest_now _ _ _ _ _ (notes c)
@@ -73,6 +73,10 @@ returns-clause-too_long c =
 
 pub returns-clause-too_much : goal.returns-clause-too_much
 returns-clause-too_much c = limit_taken c.copy_of-outcome.result _ _ (longest c)
+
+pub returns-clause-kept_faults : goal.returns-clause-kept_faults
+returns-clause-kept_faults c =
+    omega (arith, c.note.ensures.kept, faults_now _ _ _ _ _ (room c), ap (λ (m : MapFilesView). faults_of m.counts c.args.name.now) c.self.view_is)
 
 pub returns-clause-other_faults : goal.returns-clause-other_faults
 returns-clause-other_faults c = λ other apart. faults_beside _ _ _ other _ _ (notes c) apart
