@@ -1,13 +1,13 @@
 """Checks each example's expected text against plain sums over its logs, two texts of the README, that the edits which
-docs/causes.md names are there, and, where the program is built, that it prints these texts.
+docs/causes.md names are there, and that the program, which must be built, prints these texts.
 
 It knows nothing of the protocol: a printed set is right where each member's total over the printed
 prefixes, plus epsilon, is at least that of every object outside. An example with a status is refused with it, and its
 fault stands in the file `fault`; of a run that is made from a seed the text alone is compared. What a live run prints
 depends on how its threads meet, so it has no expected text: each set that it prints is checked by plain sums. Where
-there is an awk, the change logs of the access logs are made once more and compared, too; where there is a program, so is
-the trace that is kept, each replay is run in pieces too, its trace is checked, what is no whole trace is refused, and so
-is each row of `refusals`.
+there is an awk, the change logs of the access logs are made once more and compared, too; so is the trace that is kept, each replay
+is run in pieces too, its trace is checked, what is no whole trace is refused, and so is each row of `refusals` and a word
+that is no UTF-8.
 """
 import csv
 import os
@@ -252,11 +252,30 @@ def checked_replays(folders):
                 yield f"{folder.name}: its trace is not checked, status {done.returncode}"
 
 
+def unfinished(kept):
+    """The kept trace without the last turn of its journal, once with its trails as they are, and once without Stop in them.
+
+    Each part of both is legal. Of the first a monitor took Stop that nobody sent to it; the second tells a legal run that has not
+    come to its end.
+    """
+    stop = b"\0\0\0\1\7"
+    stops = b"\2\0\0\0\1" + stop + b"\2\0\0\0\2" + stop
+    # That turn begins with a Settled of monitor 2; behind it stand the final publication and Stop to each monitor.
+    end = kept.index(stops) + len(stops)
+    begin = kept.rindex(b"\1\0\0\0\2\0\0\0\x12\6", 0, end)
+    # The journal counts its entries in front of them: 16 there, 12 here. So does each trail, whose last entry is that it took Stop.
+    journal = kept[:begin].replace((16).to_bytes(8, "big"), (12).to_bytes(8, "big"), 1)
+    first, second = kept[end:].split(b"\2" + stop)[:2]
+    trails = [(int.from_bytes(trail[:8], "big") - 1).to_bytes(8, "big") + trail[8:] for trail in (first, second)]
+    return journal + kept[end:], journal + b"".join(trails)
+
+
 def ends_of_checks():
-    """A trace that is cut or has one byte more is refused, and a file that is too long, each by its status and line."""
+    """A trace that is cut, has one byte more, or tells no run to its end is refused, and a file that is too long, each by its
+    status and line."""
     kept = TRACE.read_bytes()
     cut = [kept[:length] for length in (0, 7, 8, 60, len(kept) // 2, len(kept) - 1)]
-    rows = [(other, 11, "not a legal trace") for other in (*cut, kept + b"\0")]
+    rows = [(other, 11, "not a legal trace") for other in (*cut, kept + b"\0", *unfinished(kept))]
     rows.append((bytes(64 * 2**20 + 1), 4, "the file is too long"))
     with tempfile.TemporaryDirectory() as room:
         file = pathlib.Path(room) / "run.trace"
@@ -303,9 +322,12 @@ def ends_of_room():
 
 
 def write_great_files(room):
-    """A log of the most changes, one of one more, and a file that is too long."""
+    """A log of the most changes, one of one more, one that a window would make too long, one name too many, and a file that is
+    too long."""
     (room / "most.csv").write_bytes(b"a,1\n" * 10**6)
     (room / "more.csv").write_bytes(b"a,1\n" * (10**6 + 1))
+    (room / "ticks.csv").write_bytes(b"a,1\n" * (10**6 // 2 + 1) + b"tick\n" * 2)
+    (room / "names.csv").write_bytes(b"".join(b"n%d\n" % number for number in range(2**16 + 1)))
     with (room / "long.csv").open("wb") as file:
         file.truncate(64 * 2**20 + 1)
 
@@ -321,6 +343,14 @@ def refusals():
             told = f"topk: {fault}\n" if fault else ""
             if (done.returncode, done.stderr, done.stdout == "") != (int(status), told, fault != ""):
                 yield f"{words}: the program ends in another way, status {done.returncode}: {done.stderr.strip()}"
+
+
+def words_of_bytes():
+    """A word that is no UTF-8 is not understood, wherever it stands."""
+    for words in ([b"replay\xff"], [b"check", b"\xff.trace"], [b"replay", b"--k", b"1", b"--epsilon", b"0", b"--objects", b"\xc3", b"1=one.csv"]):
+        done = subprocess.run([PROGRAM, *words], cwd=REFUSALS, capture_output=True, timeout=60)
+        if (done.returncode, done.stdout, done.stderr) != (2, b"", b"topk: the words are not understood\n"):
+            yield f"{words}: the program ends in another way, status {done.returncode}"
 
 
 def lost_edits():
@@ -342,7 +372,9 @@ def main():
     if PROGRAM.exists():
         faults += [run(folder) for folder in folders]
         faults += [*ends_of_output(), *ends_of_room(), *traces()]
-        faults += [*replays_in_pieces(folders), *checked_replays(folders), *ends_of_checks(), *refusals()]
+        faults += [*replays_in_pieces(folders), *checked_replays(folders), *ends_of_checks(), *refusals(), *words_of_bytes()]
+    else:
+        faults.append(f"{PROGRAM}: the program is not built, so that no example was run")
     if shutil.which("awk"):
         faults.append(made_again(ROOT / "examples" / "access_log"))
     readme = (ROOT / "README.md").read_text()
@@ -352,8 +384,7 @@ def main():
     if (TRACED / "expected.txt").read_text() != (ROOT / "crates" / "topk" / "stdout").read_text():
         faults.append("crates/topk/stdout: not the expected text")
     faults = [fault for fault in faults if fault]
-    seen = "examples: ok" if PROGRAM.exists() else "examples: ok, but the program is not built and was not run"
-    print("\n".join(faults) or seen)
+    print("\n".join(faults) or "examples: ok")
     return 1 if faults else 0
 
 

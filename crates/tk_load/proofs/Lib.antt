@@ -1,5 +1,6 @@
 mod BatchLemmas
 mod Examples
+pub mod FailLemmas
 mod FaultLemmas
 mod LoadLemmas
 mod LogsLemmas

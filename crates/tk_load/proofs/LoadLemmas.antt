@@ -61,7 +61,7 @@ order_unread told (Some name) = refl
 
 pub read_order_unread : (reads : FileReads) (order : Option (List ℕ)) → IfSome (unread_order reads.told order) (IsRead reads)
 read_order_unread reads None = tt
-read_order_unread reads (Some name) = gave_told (reads.told name) (reads.failed name) (reads.failed_then name)
+read_order_unread reads (Some name) = gave_told (reads.told name) (reads.failed name) (reads.failed_then name) (reads.longest name)
 
 -- the words with these files, and no order
 abbrev with_files : SourceWords → Option (List ℕ) → List (ℕ × File) → ReadWords

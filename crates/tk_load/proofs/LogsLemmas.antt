@@ -56,7 +56,7 @@ names_unread told (log ∷ rest) = ap (λ (logs : List (ℕ × List ℕ)). log �
 pub read_unread : (reads : FileReads) (rest : List (ℕ × List ℕ)) → All (λ (log : ℕ × File). IsRead reads log.1) (unread reads.told rest)
 read_unread reads rest =
     All-map (λ (log : ℕ × File). IsRead reads log.1) (λ (log : ℕ × List ℕ). (log.0, record { name = log.1; content = Some (unwrap_or (reads.told log.1) []) })) rest
-    (λ i d within. gave_told (reads.told (get_or rest i d).1) (reads.failed (get_or rest i d).1) (reads.failed_then (get_or rest i d).1))
+    (λ i d within. gave_told (reads.told (get_or rest i d).1) (reads.failed (get_or rest i d).1) (reads.failed_then (get_or rest i d).1) (reads.longest (get_or rest i d).1))
 
 -- the logs of some words, and what they give
 pub record SoFar (reads : FileReads) (width : Option ℕ) (names : List (List ℕ)) (words : List (ℕ × List ℕ)) (parts : Sources) : Type 0 where

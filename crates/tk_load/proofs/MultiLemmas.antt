@@ -80,7 +80,7 @@ module _ {F : Type 0} (files : FilesOf F) (s0 s1 : F) (words : MultiWords) (kept
         are_read = record {
           same = same_words words names.content (unread_content (files.content s0) words.queries) (unread_order (files.content s0) words.order) (unread (files.content s0) words.logs) (order_unread (files.content s0) words.order) (names_unread (files.content s0) words.logs);
           objects = names.read;
-          queries = gave_told (files.content s0 words.queries) (files.fault_count s0 words.queries) (files.fault_count s1 words.queries);
+          queries = gave_told (files.content s0 words.queries) (files.fault_count s0 words.queries) (files.fault_count s1 words.queries) (files.most_taken s1 words.queries);
           logs = read_unread (reads_by files s0 s1) words.logs;
           order = read_order_unread (reads_by files s0 s1) words.order;
         };

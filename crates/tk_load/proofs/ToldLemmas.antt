@@ -6,19 +6,19 @@ use Rattle.tk_words.specs.Words.{MultiWords, SourceWords}
 use Rattle.tk_load.specs.Faults.{Fault}
 use Rattle.tk_load.specs.Input.{File, ReadWords}
 use Rattle.tk_load.specs.MultiInput.{AreMultiRead, LoadsMulti, ReadMulti, given_by, multi_input_of, multi_words_of}
-use Rattle.tk_load.specs.Reads.{AreRead, FileReads, Gave, IsRead, LoadsBy, Meets, log_of, words_of}
+use Rattle.tk_load.specs.Reads.{AreRead, AreTaken, FileReads, Gave, IsRead, LoadsBy, Meets, log_of, words_of}
 use Rattle.tk_load.specs.Told.{AreTold, file_by, files_of, multi_files_of, multi_read_by, only, read_by}
 use Rattle.tk_load.specs.declared.multi.MultiInput.{MultiInput}
 use Rattle.tk_load.specs.declared.status.Status.{Status}
 
 -- a read that did not fail gave what is told
-pub gave_all : (told : Option (List ℕ)) (old new : ℕ) (bytes : List ℕ) (content : Option (List ℕ)) → told ≡ Some bytes → (HasRisen old new → ⊥) → Gave told old new content → content ≡ Some bytes
-gave_all told old new bytes None is stood gave = absurd (stood gave)
-gave_all told old new bytes (Some found) is stood gave = ap (λ (b : List ℕ). Some b) (subst (λ (t : Option (List ℕ)). IfSome t (λ b. found ≡ b)) is gave)
+pub gave_all : (told : Option (List ℕ)) (old new longest : ℕ) (bytes : List ℕ) (content : Option (List ℕ)) → told ≡ Some bytes → (HasRisen old new → ⊥) → Gave told old new longest content → content ≡ Some bytes
+gave_all told old new longest bytes None is stood gave = absurd (stood gave)
+gave_all told old new longest bytes (Some found) is stood gave = ap (λ (b : List ℕ). Some b) (subst (λ (t : Option (List ℕ)). AreTaken t longest found) is gave)
 
 module _ (reads : FileReads) (contents : List ℕ → List ℕ) where
   file_told : (file : File) → reads.told file.name ≡ Some (contents file.name) → (HasRisen (reads.failed file.name) (reads.failed_then file.name) → ⊥) → IsRead reads file → file ≡ file_by contents file.name
-  file_told file is stood read = ap (λ (c : Option (List ℕ)). record { name = file.name; content = c }) (gave_all (reads.told file.name) (reads.failed file.name) (reads.failed_then file.name) (contents file.name) file.content is stood read)
+  file_told file is stood read = ap (λ (c : Option (List ℕ)). record { name = file.name; content = c }) (gave_all (reads.told file.name) (reads.failed file.name) (reads.failed_then file.name) (reads.longest file.name) (contents file.name) file.content is stood read)
 
   abbrev Told : List ℕ → Type 0
   Told name = reads.told name ≡ Some (contents name)

@@ -46,7 +46,7 @@ none_told name bytes (s.LinkDiffers mon direction place sent received) right wro
 pub right_is_read : (reads : FileReads) (name bytes : List ℕ) (status : Status) → IsTold reads name bytes
     → ((fault : TraceFault) → Faults bytes fault → ⊥) → LoadsTrace reads name (Err status) → status ≡ s.NoMemory
 right_is_read reads name bytes status told right loads =
-    let content = gave_all (reads.told name) (reads.failed name) (reads.failed_then name) bytes loads.content told.content told.unfailed loads.read in
+    let content = gave_all (reads.told name) (reads.failed name) (reads.failed_then name) (reads.longest name) bytes loads.content told.content told.unfailed loads.read in
     let whole : nat_lt 67108864 (length bytes) ≡ false = le-ltb 67108864 (length bytes) told.fits in
     let meant : bytes_from name loads.content ≡ Ok bytes =
     ap (bytes_from name) content ∙ ap (λ long. if long then Err (bad_file name TooLong) else Ok bytes) whole in

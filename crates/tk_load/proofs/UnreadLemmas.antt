@@ -45,15 +45,15 @@ module _ (n : List ℕ) where
   Unreads r = r ≡ Err (Unread n)
 
   -- it is the first rule, or one after it
-  either : {V W : Type 0} (first : Result V Fault) (next : V → Result W Fault) → Unreads (after first next) → Unreads first ⊎ ((x : V) × (first ≡ Ok x) × Unreads (next x))
+  pub either : {V W : Type 0} (first : Result V Fault) (next : V → Result W Fault) → Unreads (after first next) → Unreads first ⊎ ((x : V) × (first ≡ Ok x) × Unreads (next x))
   either (Ok x) next is = inr (x, refl, is)
   either (Err e) next is = inl (cc (is))
 
-  not_telling : {V E : Type 0} (fault : E → Fault) (r : Result V E) → ((e : E) → fault e ≡ Unread n → ⊥) → Unreads (telling fault r) → ⊥
+  pub not_telling : {V E : Type 0} (fault : E → Fault) (r : Result V E) → ((e : E) → fault e ≡ Unread n → ⊥) → Unreads (telling fault r) → ⊥
   not_telling fault (Ok x) other is = cc (is)
   not_telling fault (Err e) other is = other e (cc (is))
 
-  catalog_other : (file : List ℕ) (e : CatalogFault) → catalog_fault file e ≡ Unread n → ⊥
+  pub catalog_other : (file : List ℕ) (e : CatalogFault) → catalog_fault file e ≡ Unread n → ⊥
   catalog_other file c.Empty is = cc (is)
   catalog_other file c.TooMany is = cc (is)
   catalog_other file (c.BadRow m) is = cc (is)
@@ -72,11 +72,11 @@ module _ (n : List ℕ) where
   expand_other file (e.TooLong m) is = cc (is)
   expand_other file e.NoMemory is = cc (is)
 
-  order_other : (file : List ℕ) (e : OrderFault) → order_fault file e ≡ Unread n → ⊥
+  pub order_other : (file : List ℕ) (e : OrderFault) → order_fault file e ≡ Unread n → ⊥
   order_other file (o.BadOrder m) is = cc (is)
   order_other file o.NoMemory is = cc (is)
 
-  logs_other : (e : LogsFault) → logs_fault e ≡ Unread n → ⊥
+  pub logs_other : (e : LogsFault) → logs_fault e ≡ Unread n → ⊥
   logs_other (l.MonitorGap mon) is = cc (is)
   logs_other (l.TooManyFeeders mon) is = cc (is)
   logs_other l.TooManyUpdates is = cc (is)
@@ -106,7 +106,7 @@ module _ (n : List ℕ) where
   not_counted false name log is = cc (is)
 
   -- what comes after the bytes of a log
-  not_log : (width : Option ℕ) (names : List (List ℕ)) (name bytes : List ℕ) → Unreads (log_from width names name bytes) → ⊥
+  pub not_log : (width : Option ℕ) (names : List (List ℕ)) (name bytes : List ℕ) → Unreads (log_from width names name bytes) → ⊥
   not_log None names name bytes is = elim (either (telling (log_fault name) (changes_of names bytes)) (λ changes. Ok (record { part = changes; ends = [] })) is) [
     | inl lost ↦ not_telling (log_fault name) (changes_of names bytes) (log_other name) lost
     | inr next ↦ let ok = next.2 in cc (ok)
@@ -139,7 +139,7 @@ module _ (n : List ℕ) where
     risen : (file : File) → IsLost file → IsRead reads file → HasRisen (reads.failed n) (reads.failed_then n)
     risen file lost read =
         subst (λ (name : List ℕ). HasRisen (reads.failed name) (reads.failed_then name)) lost.0
-        (subst (λ (content : Option (List ℕ)). Gave (reads.told file.name) (reads.failed file.name) (reads.failed_then file.name) content) lost.1 read)
+        (subst (λ (content : Option (List ℕ)). Gave (reads.told file.name) (reads.failed file.name) (reads.failed_then file.name) (reads.longest file.name) content) lost.1 read)
 
     abbrev Found : List (List ℕ) → Type 0
     Found names = Contains names n × HasRisen (reads.failed n) (reads.failed_then n)
@@ -176,7 +176,7 @@ module _ (n : List ℕ) where
       | inr next ↦ let ok = next.2 in cc (ok)
     ]
 
-    not_bytes : (s : Setup) (name bytes : List ℕ) → Unreads (order_of_bytes s name bytes) → ⊥
+    pub not_bytes : (s : Setup) (name bytes : List ℕ) → Unreads (order_of_bytes s name bytes) → ⊥
     not_bytes s name bytes is = elim (either (telling (order_fault name) (order_of bytes)) (λ order. after (retunes_tested s name order) (λ done. Ok order)) is) [
       | inl lost ↦ not_telling (order_fault name) (order_of bytes) (order_other name) lost
       | inr next ↦ not_order s name next.0 next.2
@@ -245,13 +245,13 @@ module _ (n : List ℕ) where
     abbrev order_file : ReadWords → List (List ℕ)
     order_file read = only (option_map (λ f. f.name) read.order)
 
-    limits_lost : (read : ReadWords) (names : List (List ℕ)) → Unreads (limits_at read names) → ⊥
+    pub limits_lost : (read : ReadWords) (names : List (List ℕ)) → Unreads (limits_at read names) → ⊥
     limits_lost read names is = elim (either (settings_in read.k read.epsilon read.own_weight (length names) (greatest_monitor read.logs)) (λ settings. after (width_in read.width) (limited settings)) is) [
       | inl lost ↦ not_telling setting_fault (settings_of read.k read.epsilon read.own_weight (length names) (greatest_monitor read.logs)) (λ e same. cc (same)) lost
       | inr next ↦ not_limits next.0 read.width next.2
     ]
 
-    joined_lost : (names : List (List ℕ)) (s : Limits) (logs : Sources) → Unreads (from_logs names s logs) → ⊥
+    pub joined_lost : (names : List (List ℕ)) (s : Limits) (logs : Sources) → Unreads (from_logs names s logs) → ⊥
     joined_lost names s logs is = elim (either (together s.width logs (length names)) (whole names s) is) [
       | inl lost ↦ not_together s.width logs (length names) lost
       | inr next ↦ let ok = next.2 in cc (ok)

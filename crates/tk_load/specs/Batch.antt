@@ -1,5 +1,5 @@
 -- Logs whose files were read, and what parsing them gives; no public clause cites it.
-use Rattle.std.specs.Prelude.{ℕ, ◌≡◌, ◌<◌, ◌≤◌, List, length, get_or, Option, Result, Ok, Err, IfOk}
+use Rattle.std.specs.Prelude.{ℕ, ◌≡◌, ◌<◌, ◌≤◌, List, length, get_or, All, Option, Result, Ok, Err, IfOk, IfErr, true, is_ok}
 use Rattle.std.specs.Borrow.{Bor}
 use Rattle.std.specs.Global.{Vec}
 use Rattle.tk_base.specs.declared.ids.Mon.{Mon}
@@ -7,7 +7,7 @@ use Rattle.tk_window.specs.Expanded.{expansion_of}
 use Rattle.tk_window.specs.Ticks.{AreOver}
 use Rattle.tk_window.specs.declared.expanded.Expanded.{Expanded}
 use Rattle.tk_load.specs.Input.{bytes_in, changes_in, log_from}
-use Rattle.tk_load.specs.Reads.{FileReads, Meets, Reads}
+use Rattle.tk_load.specs.Reads.{FailedAtMostOnce, FailsAsTold, FileReads, Meets, NoneFailed, Reads}
 use Rattle.tk_load.specs.declared.batch.Unparsed.{Unparsed}
 use Rattle.tk_load.specs.declared.status.Status.{Status}
 
@@ -39,3 +39,9 @@ pub record IsParsed (width : Option ℕ) (names : List (List ℕ)) (from : Unpar
 pub record IsLogOf (reads : FileReads) (width : Option ℕ) (names : List (List ℕ)) (word : Mon × Bor (List ℕ)) (log : Result Expanded Status) : Type 0 where
   pub read : Reads reads word.1.now expansion_of (changes_in width names) log
   pub over : IfOk log (IsOver (length names))
+
+-- of what the reads of some files gave, one that failed is told; where each gave something none failed
+pub record AreCounted {X A : Type 0} (reads : FileReads) (answer : X → Result A Status) (all : List X) : Type 0 where
+  pub each : All (λ x. IfErr (answer x) (FailsAsTold reads)) all
+  pub most : FailedAtMostOnce reads
+  pub none : All (λ x. is_ok (answer x) ≡ true) all → NoneFailed reads

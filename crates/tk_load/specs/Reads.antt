@@ -1,7 +1,7 @@
 -- What reading the files of some words gave, and what is then answered.
-use Rattle.std.specs.Prelude.{ℕ, ◌≡◌, ◌≤◌, List, map, Option, Some, None, option_map, IfSome, All, Result, Ok, Err}
+use Rattle.std.specs.Prelude.{ℕ, ◌≡◌, ◌≢◌, ◌<◌, ◌≤◌, ◌⊎◌, List, map, Option, Some, None, option_map, IfSome, All, length, Result, Ok, Err}
 use Rattle.std.specs.Borrow.{Bor}
-use Rattle.tk_input.specs.Files.{HasRisen}
+use Rattle.tk_input.specs.Files.{HasRisen, one_more}
 use Rattle.tk_input.specs.declared.files.Files.{Ghosts as FilesOf}
 use Rattle.tk_words.specs.Words.{SourceWords}
 use Rattle.tk_load.specs.Faults.{Fault}
@@ -12,15 +12,22 @@ use Rattle.tk_load.specs.declared.input.Input.{Input}
 use Rattle.tk_load.specs.declared.status.Status.{Status}
 use Rattle.tk_load.specs.declared.status.Status.TheVariants as s
 
--- what some files tell, and how many reads of each name have failed before a call and after it
+-- what some files tell, how many reads of each name have failed before a call and after it, and the most bytes that one
+-- read of it has taken by then
 pub record FileReads : Type 0 where
   pub told : List ℕ → Option (List ℕ)
   pub failed : List ℕ → ℕ
   pub failed_then : List ℕ → ℕ
+  pub longest : List ℕ → ℕ
 
 -- the same of files that were in one state before the call, and are in another after it
 abbrev pub reads_by : {F : Type 0} → FilesOf F → F → F → FileReads
-reads_by files old new = record { told = files.content old; failed = files.fault_count old; failed_then = files.fault_count new }
+reads_by files old new = record {
+  told = files.content old;
+  failed = files.fault_count old;
+  failed_then = files.fault_count new;
+  longest = files.most_taken new;
+}
 
 -- the failed reads of a name have become more
 abbrev pub HasFailed : FileReads → List ℕ → Type 0
@@ -46,14 +53,19 @@ words_of read = record {
   logs = map log_of read.logs;
 }
 
--- a read gave the content that is told, or it failed, and then the faults rose
-abbrev pub Gave : Option (List ℕ) → ℕ → ℕ → Option (List ℕ) → Type 0
-Gave told old new (Some bytes) = IfSome told (λ content. bytes ≡ content)
-Gave told old new None = HasRisen old new
+-- bytes are those that are told; where nothing is, they are over 64 MiB only where so many were taken
+abbrev pub AreTaken : Option (List ℕ) → ℕ → List ℕ → Type 0
+AreTaken (Some content) longest bytes = bytes ≡ content
+AreTaken None longest bytes = 67108864 < length bytes → 67108864 < longest
+
+-- a read gave some bytes, or it failed, and then the faults rose
+abbrev pub Gave : Option (List ℕ) → ℕ → ℕ → ℕ → Option (List ℕ) → Type 0
+Gave told old new longest (Some bytes) = AreTaken told longest bytes
+Gave told old new longest None = HasRisen old new
 
 -- the same of a file, by what is told and counted of its name
 abbrev pub IsRead : FileReads → File → Type 0
-IsRead reads file = Gave (reads.told file.name) (reads.failed file.name) (reads.failed_then file.name) file.content
+IsRead reads file = Gave (reads.told file.name) (reads.failed file.name) (reads.failed_then file.name) (reads.longest file.name) file.content
 
 -- each file of the words was read
 pub record AreRead (reads : FileReads) (words : SourceWords) (read : ReadWords) : Type 0 where
@@ -131,7 +143,42 @@ pub record ReadsOrder {A : Type 0} (reads : FileReads) (name : Option (List ℕ)
   pub read : IfSome file (IsRead reads)
   pub meets : Meets (λ order. order) (meant file) answer
 
--- reading changes nothing of what is told of the files, and no count of failed reads falls
+-- ---- how many reads failed
+
+-- none did
+abbrev pub NoneFailed : FileReads → Type 0
+NoneFailed reads = (name : List ℕ) → reads.failed_then name ≡ reads.failed name
+
+-- one did, of this name
+pub record FailedOnce (reads : FileReads) (name : List ℕ) : Type 0 where
+  pub counted : reads.failed_then name ≡ one_more (reads.failed name)
+  pub others : (other : List ℕ) → other ≢ name → reads.failed_then other ≡ reads.failed other
+
+-- at most one did
+abbrev pub FailedAtMostOnce : FileReads → Type 0
+FailedAtMostOnce reads = NoneFailed reads ⊎ ((name : List ℕ) × FailedOnce reads name)
+
+-- a status tells of the failed reads: none failed of a run that is done or cut short in writing; one alone failed of a file that
+-- is told to be unreadable; behind another rule that fails it may be one that was made ahead
+abbrev pub FailsAsTold : FileReads → Status → Type 0
+FailsAsTold reads (s.ReadFault file) = FailedOnce reads file.items
+FailsAsTold reads s.Done = NoneFailed reads
+FailsAsTold reads s.WriteFault = NoneFailed reads
+FailsAsTold reads s.Usage = FailedAtMostOnce reads
+FailsAsTold reads (s.BadInput file line kind) = FailedAtMostOnce reads
+FailsAsTold reads (s.TooGreat mon obj) = FailedAtMostOnce reads
+FailsAsTold reads s.NoMemory = FailedAtMostOnce reads
+FailsAsTold reads s.LinkFault = FailedAtMostOnce reads
+FailsAsTold reads (s.LinkDiffers mon direction place sent received) = FailedAtMostOnce reads
+FailsAsTold reads (s.BadTrace file fault) = FailedAtMostOnce reads
+
+-- the same of an answer: none failed where there is no fault
+abbrev pub Counts : {A : Type 0} → FileReads → Result A Status → Type 0
+Counts reads (Ok x) = NoneFailed reads
+Counts reads (Err status) = FailsAsTold reads status
+
+-- reading changes nothing of what is told of the files, and neither a count of failed reads falls nor the most that was taken
 pub record AreKept {F : Type 0} (files : FilesOf F) (old new : F) : Type 0 where
   pub same : (name : List ℕ) → files.content new name ≡ files.content old name
   pub counts : (name : List ℕ) → files.fault_count old name ≤ files.fault_count new name
+  pub taken : (name : List ℕ) → files.most_taken old name ≤ files.most_taken new name

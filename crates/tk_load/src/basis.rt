@@ -3,7 +3,7 @@
 ghost use Rattle.std.specs.Prelude.{◌≡◌, IfOk, Ok, length};
 ghost use Rattle.tk_input.specs.Catalog.{catalog_from};
 ghost use Rattle.tk_load.specs.Input.{greatest_monitor, limits_asked, names_in};
-ghost use Rattle.tk_load.specs.Reads.{AreKept, LoadsBasis, Meets, Reads, reads_by};
+ghost use Rattle.tk_load.specs.Reads.{AreKept, Counts, LoadsBasis, Meets, Reads, reads_by};
 ghost use Rattle.tk_load.specs.Whole.{AreAgreed, IsWidth};
 ghost use Rattle.tk_words.specs.Asked.{AreOfMonitors, asked_logs, asked_sources};
 
@@ -41,6 +41,7 @@ pub fn read_names<F: Files>(alloc: Global, files: &mut F, file: &str) -> Result<
     ensures named { IfOk result (λ names. catalog_from names ≡ Ok names) }
     ensures read { Reads (reads_by F.Files files.old files.new) file.now (λ names. names) names_in result }
     ensures kept { AreKept F.Files files.old files.new }
+    ensures counts { Counts (reads_by F.Files files.old files.new) result }
 {
     match read(alloc, files, file) {
         Ok(bytes) => names_of(alloc, bytes.as_slice(), file),
@@ -85,6 +86,7 @@ pub fn load_basis<R: Threads + Sync, F: Files>(
     ensures agreed { IfOk result (λ basis. AreAgreed basis.names basis.settings basis.logs) }
     ensures read { LoadsBasis (reads_by F.Files files.old files.new) (asked_sources words.now) result }
     ensures kept { AreKept F.Files files.old files.new }
+    ensures counts { Counts (reads_by F.Files files.old files.new) result }
 {
     let names = match read_names(alloc, files, words.objects) {
         Ok(names) => names,

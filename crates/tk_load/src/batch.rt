@@ -1,8 +1,8 @@
 //! Some logs, whose files are read one after the other, and which are then parsed side by side.
 
-ghost use Rattle.std.specs.Prelude.{◌≡◌, ◌≤◌, ◌<◌, IfOk, length};
-ghost use Rattle.tk_load.specs.Batch.{EachAt, IsLogOf, IsParsed, IsReadAs};
-ghost use Rattle.tk_load.specs.Reads.{AreKept, reads_by};
+ghost use Rattle.std.specs.Prelude.{◌≡◌, ◌≤◌, ◌<◌, IfErr, IfOk, false, is_ok, length, true};
+ghost use Rattle.tk_load.specs.Batch.{AreCounted, EachAt, IsLogOf, IsParsed, IsReadAs};
+ghost use Rattle.tk_load.specs.Reads.{AreKept, FailedAtMostOnce, reads_by};
 ghost use Rattle.tk_load.specs.Whole.{IsWidth};
 
 use crate::reading::{log_by, read};
@@ -69,7 +69,9 @@ pub struct Batch<'a> {
 }
 
 /// Whether a batch ends with this content: it is full, or no file. Adds the bytes to those that the batch has.
-fn ends_with(content: &Result<Vec<u8>, Status>, size: &mut usize) -> bool {
+fn ends_with(content: &Result<Vec<u8>, Status>, size: &mut usize) -> bool
+    ensures { result ≡ false → is_ok content.now ≡ true }
+{
     match content {
         Ok(bytes) => {
             *size = size.saturating_add(bytes.len());
@@ -91,6 +93,9 @@ impl<'a> Batch<'a> {
         ensures read { IfOk result (λ batch.
             EachAt (IsReadAs (reads_by F.Files files.old files.new)) words.now batch.logs.items) }
         ensures kept { AreKept F.Files files.old files.new }
+        ensures counts { IfOk result (λ batch.
+            AreCounted (reads_by F.Files files.old files.new) (λ log. log.content) batch.logs.items) }
+        ensures most { IfErr result (λ e. FailedAtMostOnce (reads_by F.Files files.old files.new)) }
     {
         let mut logs = Vec::new(alloc);
         let mut size = 0;
@@ -143,6 +148,8 @@ pub fn next_logs<R: Threads + Sync, F: Files>(
     ensures read { IfOk result (λ logs.
         EachAt (IsLogOf (reads_by F.Files files.old files.new) width names.now) words.now logs.items) }
     ensures kept { AreKept F.Files files.old files.new }
+    ensures counts { IfOk result (λ logs. AreCounted (reads_by F.Files files.old files.new) (λ log. log) logs.items) }
+    ensures most { IfErr result (λ e. FailedAtMostOnce (reads_by F.Files files.old files.new)) }
 {
     let batch = Batch::read(alloc, words, files)?;
     Ok(batch.parse(rt, alloc, names, width)?)

@@ -1,10 +1,11 @@
-ghost use Rattle.std.specs.Prelude.{◌≡◌, ◌+◌, ◌≤◌, Ok, Result, IfOk, All, length};
+ghost use Rattle.std.specs.Prelude.{◌≡◌, ◌⊎◌, ◌+◌, ◌≤◌, Err, Ok, Result, IfErr, IfOk, All, length};
 ghost use Rattle.tk_input.specs.Judged.{last_monitor};
 ghost use Rattle.tk_input.specs.Logs.{IsObject};
-ghost use Rattle.tk_load.specs.Faults.{Fault, after};
+ghost use Rattle.tk_load.specs.Faults.{Fault, after, bad_file as bad_file_fault};
 ghost use Rattle.tk_load.specs.Input.{counted, ends_with, greatest_monitor, joined, logs_in, together};
-ghost use Rattle.tk_load.specs.Reads.{AreKept, Meets, ReadsLogs, reads_by};
+ghost use Rattle.tk_load.specs.Reads.{AreKept, Counts, Meets, ReadsLogs, Says, reads_by};
 ghost use Rattle.tk_load.specs.Whole.{IsWidth};
+ghost use Rattle.tk_load.specs.declared.status.InputKind.TheVariants.{TooManyUpdates};
 ghost use Rattle.tk_window.specs.Expanded.{expansion_of, sources_of};
 ghost use Rattle.tk_window.specs.TickEnds.{last_source, parts_in};
 ghost use Rattle.tk_window.specs.Ticks.{AreOver};
@@ -42,6 +43,7 @@ fn next_part(
     ensures few { IfOk result (λ e. before + length e.part ≤ 4000000) }
     ensures meets { (m : Result Expansion Fault) → Meets expansion_of m log
         → Meets expansion_of (after m (counted before file.now)) result }
+    ensures err { IfErr result (λ status. (log ≡ Err status) ⊎ Says status (bad_file_fault file.now TooManyUpdates)) }
 {
     let log = match log {
         Ok(log) => log,
@@ -71,6 +73,7 @@ pub fn parts_of<R: Threads + Sync, F: Files>(
     ensures read { ReadsLogs (reads_by F.Files files.old files.new)
         (asked_logs words.now) (λ l. sources_of l.items) (logs_in width names.now) result }
     ensures kept { AreKept F.Files files.old files.new }
+    ensures counts { Counts (reads_by F.Files files.old files.new) result }
 {
     let mut parts = Vec::new(alloc);
     let mut updates = 0;

@@ -1,6 +1,6 @@
 ghost use Rattle.std.specs.Prelude.{◌≡◌, IfOk, Ok};
 ghost use Rattle.tk_input.specs.Catalog.{catalog_from};
-ghost use Rattle.tk_load.specs.Reads.{AreKept, Loads, reads_by};
+ghost use Rattle.tk_load.specs.Reads.{AreKept, Counts, Loads, reads_by};
 ghost use Rattle.tk_load.specs.Whole.{AreAgreed};
 ghost use Rattle.tk_words.specs.Asked.{AreOfMonitors, asked_sources};
 
@@ -38,6 +38,7 @@ pub fn load<R: Threads + Sync, F: Files>(
     ensures agreed { IfOk result (λ input. AreAgreed input.names input.settings input.logs) }
     ensures read { Loads (reads_by F.Files files.old files.new) (asked_sources words.now) result }
     ensures kept { AreKept F.Files files.old files.new }
+    ensures counts { Counts (reads_by F.Files files.old files.new) result }
 {
     let Basis {
         names,

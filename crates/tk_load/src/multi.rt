@@ -2,7 +2,7 @@
 
 ghost use Rattle.std.specs.Prelude.{◌≡◌, IfOk, All, None, length};
 ghost use Rattle.tk_load.specs.MultiInput.{LoadsMulti, all_logs_in, alones_in, multi_order_from, multi_order_in, multi_order_of_file, queries_from, queries_in};
-ghost use Rattle.tk_load.specs.Reads.{AreKept, Meets, Reads, ReadsLogs, ReadsOrder, name_in, reads_by};
+ghost use Rattle.tk_load.specs.Reads.{AreKept, Counts, Meets, Reads, ReadsLogs, ReadsOrder, name_in, reads_by};
 ghost use Rattle.tk_multi.specs.Alone.{AreOfOneSize};
 ghost use Rattle.tk_words.specs.Asked.{AreOfMonitors, asked_logs, asked_multi};
 
@@ -48,6 +48,7 @@ fn queries_of(alloc: Global, bytes: &[u8], file: &str) -> Result<Queries, Status
 fn read_queries<F: Files>(alloc: Global, files: &mut F, file: &str) -> Result<Queries, Status>
     ensures read { Reads (reads_by F.Files files.old files.new) file.now (λ queries. queries) queries_in result }
     ensures kept { AreKept F.Files files.old files.new }
+    ensures counts { Counts (reads_by F.Files files.old files.new) result }
 {
     match read(alloc, files, file) {
         Ok(bytes) => queries_of(alloc, bytes.as_slice(), file),
@@ -67,6 +68,7 @@ fn all_logs<R: Threads + Sync, F: Files>(
     ensures read { ReadsLogs (reads_by F.Files files.old files.new)
         (asked_logs words.now) (λ logs. logs) (all_logs_in names.now) result }
     ensures kept { AreKept F.Files files.old files.new }
+    ensures counts { Counts (reads_by F.Files files.old files.new) result }
 {
     let parts = match parts_of(rt, alloc, words, names, None, files) {
         Ok(parts) => parts,
@@ -109,6 +111,7 @@ fn order_of(alloc: Global, bytes: &[u8], file: &str) -> Result<MultiOrder, Statu
 fn order_from_file<F: Files>(alloc: Global, files: &mut F, file: &str) -> Result<MultiOrder, Status>
     ensures read { Reads (reads_by F.Files files.old files.new) file.now (λ order. order) multi_order_of_file result }
     ensures kept { AreKept F.Files files.old files.new }
+    ensures counts { Counts (reads_by F.Files files.old files.new) result }
 {
     match read(alloc, files, file) {
         Ok(bytes) => order_of(alloc, bytes.as_slice(), file),
@@ -124,6 +127,7 @@ fn read_order<F: Files>(
 ) -> Result<Option<MultiOrder>, Status>
     ensures read { ReadsOrder (reads_by F.Files files.old files.new) (name_in file.entry) multi_order_in result }
     ensures kept { AreKept F.Files files.old files.new }
+    ensures counts { Counts (reads_by F.Files files.old files.new) result }
 {
     let Some(file) = file else {
         return Ok(None);
@@ -147,6 +151,7 @@ pub fn load_multi<R: Threads + Sync, F: Files>(
     ensures sizes { IfOk result (λ input. All AreOfOneSize input.alones.items) }
     ensures read { LoadsMulti (reads_by F.Files files.old files.new) (asked_multi words.now) result }
     ensures kept { AreKept F.Files files.old files.new }
+    ensures counts { Counts (reads_by F.Files files.old files.new) result }
 {
     let names = match read_names(alloc, files, words.objects) {
         Ok(names) => names,

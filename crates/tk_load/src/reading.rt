@@ -6,7 +6,7 @@ ghost use Rattle.tk_input.specs.Order.{order_of as order_of_bytes};
 ghost use Rattle.tk_load.specs.Faults.{bad_whole as whole_fault, catalog_fault, log_fault, order_fault, telling};
 ghost use Rattle.tk_load.specs.Faults.Fault.{Bad};
 ghost use Rattle.tk_load.specs.Input.{bytes_in, log_from};
-ghost use Rattle.tk_load.specs.Reads.{AreKept, Meets, Reads, Says, reads_by};
+ghost use Rattle.tk_load.specs.Reads.{AreKept, Counts, Meets, Reads, Says, reads_by};
 ghost use Rattle.tk_load.specs.Whole.{IsWidth};
 ghost use Rattle.tk_window.specs.Expanded.{expansion_of};
 ghost use Rattle.tk_window.specs.Ticks.{AreOver, ticked_of};
@@ -42,6 +42,7 @@ pub fn bad_whole(alloc: Global, kind: InputKind) -> Status
 pub fn read<F: Files>(alloc: Global, files: &mut F, file: &str) -> Result<Vec<u8>, Status>
     ensures read { Reads (reads_by F.Files files.old files.new) file.now (λ v. v.items) bytes_in result }
     ensures kept { AreKept F.Files files.old files.new }
+    ensures counts { Counts (reads_by F.Files files.old files.new) result }
 {
     match files.read_all(alloc, file) {
         Ok(bytes) => Ok(bytes),

@@ -1,6 +1,6 @@
 ghost use Rattle.std.specs.Prelude.{◌≡◌, Ok};
 ghost use Rattle.tk_load.specs.Input.{order_from, order_in, order_of_bytes, retune_kind, retunes_tested};
-ghost use Rattle.tk_load.specs.Reads.{AreKept, Meets, Reads, ReadsOrder, name_in, reads_by};
+ghost use Rattle.tk_load.specs.Reads.{AreKept, Counts, Meets, Reads, ReadsOrder, name_in, reads_by};
 
 use crate::reading::{bad_file, order_of, read};
 use crate::settings::kind_of;
@@ -69,6 +69,7 @@ fn order_from_file<F: Files>(
 ) -> Result<Order, Status>
     ensures read { Reads (reads_by F.Files files.old files.new) file.now (λ order. order) (order_from settings.now) result }
     ensures kept { AreKept F.Files files.old files.new }
+    ensures counts { Counts (reads_by F.Files files.old files.new) result }
 {
     match read(alloc, files, file) {
         Ok(bytes) => tested_order(alloc, settings, bytes.as_slice(), file),
@@ -85,6 +86,7 @@ pub fn read_order<F: Files>(
 ) -> Result<Option<Order>, Status>
     ensures read { ReadsOrder (reads_by F.Files files.old files.new) (name_in file.entry) (order_in settings.now) result }
     ensures kept { AreKept F.Files files.old files.new }
+    ensures counts { Counts (reads_by F.Files files.old files.new) result }
 {
     let Some(file) = file else {
         return Ok(None);

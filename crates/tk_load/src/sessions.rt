@@ -3,7 +3,7 @@
 ghost use Rattle.std.specs.Prelude.{◌≡◌, ◌≤◌, IfOk, sum_by};
 ghost use Rattle.tk_input.specs.Logs.{IsMonitor, parts_of, updates_of};
 ghost use Rattle.tk_load.specs.Faults.{order_fault, telling};
-ghost use Rattle.tk_load.specs.Reads.{AreKept, Meets, Reads, ReadsOrder, name_in, reads_by};
+ghost use Rattle.tk_load.specs.Reads.{AreKept, Counts, Meets, Reads, ReadsOrder, name_in, reads_by};
 ghost use Rattle.tk_load.specs.SessionInput.{LoadsSessions, changes_of, few_changes, line_kind, lines_tested, session_order_by, session_order_from, session_order_in};
 ghost use Rattle.tk_load.specs.Whole.{AreAgreed};
 ghost use Rattle.tk_session.specs.Order.{session_order_of};
@@ -139,6 +139,7 @@ fn order_from_file<F: Files>(
     ensures read { Reads (reads_by F.Files files.old files.new)
         file.now (λ order. order) (session_order_from settings.now logs.now) result }
     ensures kept { AreKept F.Files files.old files.new }
+    ensures counts { Counts (reads_by F.Files files.old files.new) result }
 {
     match read(alloc, files, file) {
         Ok(bytes) => tested_order(alloc, settings, logs, bytes.as_slice(), file),
@@ -157,6 +158,7 @@ fn read_order<F: Files>(
     ensures read { ReadsOrder (reads_by F.Files files.old files.new)
         (name_in file.entry) (session_order_in settings.now logs.now) result }
     ensures kept { AreKept F.Files files.old files.new }
+    ensures counts { Counts (reads_by F.Files files.old files.new) result }
 {
     let Some(file) = file else {
         return Ok(None);
@@ -178,6 +180,7 @@ pub fn load_sessions<R: Threads + Sync, F: Files>(
     ensures agreed { IfOk result (λ input. AreAgreed input.names input.settings input.logs) }
     ensures read { LoadsSessions (reads_by F.Files files.old files.new) (asked_sources words.now) result }
     ensures kept { AreKept F.Files files.old files.new }
+    ensures counts { Counts (reads_by F.Files files.old files.new) result }
 {
     let Basis {
         names,

@@ -1,7 +1,7 @@
 //! The trace that a file holds.
 
 ghost use Rattle.std.specs.Prelude.{◌≡◌, ◌⊎◌, ℕ, List, IfOk, length};
-ghost use Rattle.tk_load.specs.Reads.{AreKept, reads_by};
+ghost use Rattle.tk_load.specs.Reads.{AreKept, Counts, reads_by};
 ghost use Rattle.tk_load.specs.Traced.{LoadsTrace, TellsWrong, TracesBytes};
 ghost use Rattle.tk_story.specs.Story.{IsStory};
 ghost use Rattle.tk_trace.specs.Checked.{Faults};
@@ -47,6 +47,7 @@ pub fn load_trace<F: Files>(alloc: Global, file: &str, files: &mut F) -> Result<
     ensures finished { IfOk result (λ t. ReachesItsEnd t.story.story) }
     ensures read { LoadsTrace (reads_by F.Files files.old files.new) file.now result }
     ensures kept { AreKept F.Files files.old files.new }
+    ensures counts { Counts (reads_by F.Files files.old files.new) result }
 {
     match read_file(alloc, files, file) {
         Ok(bytes) => trace_of(alloc, bytes.as_slice(), file),

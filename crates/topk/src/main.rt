@@ -10,8 +10,7 @@ use std::process::ExitCode;
 use std::random::RandomSource;
 use std::sync::Wait;
 use std::thread::Threads;
-use std::{env, rt};
-use tk_base::NoMemory;
+use std::{env, io, rt};
 use tk_input::{StdSink, TrueFiles};
 use tk_live::{Outcome, live};
 use tk_net::LoopNet;
@@ -61,11 +60,13 @@ fn run_live<R: AllocGlobal + RandomSource + Print + rt::Files + rt::Net + Thread
     status
 }
 
-/// The words of the command line, without the program's name.
-fn words_of(rt: &HostRuntime) -> Result<Vec<String>, NoMemory> {
+/// The words of the command line, without the program's name. Where one is no UTF-8 they are not understood.
+fn words_of(rt: &HostRuntime) -> Result<Vec<String>, Status> {
     let mut words = Vec::new(rt.alloc());
-    let Ok(args) = env::args(rt) else {
-        return Err(NoMemory);
+    let args = match env::args(rt) {
+        Ok(args) => args,
+        Err(error) if error.kind() == io::ErrorKind::OutOfMemory => return Err(Status::NoMemory),
+        Err(_) => return Err(Status::Usage),
     };
     for word in args.skip(1) {
         words.push(word)?;
@@ -103,7 +104,7 @@ fn main(rt: HostRuntime) -> ExitCode {
             Some(Verb::Live) => run_live(&rt, words.as_slice()),
             _ => run_words(&rt, words.as_slice()),
         },
-        Err(NoMemory) => Status::NoMemory,
+        Err(status) => status,
     };
     tell(&rt, &status);
     ExitCode::from(status.number())

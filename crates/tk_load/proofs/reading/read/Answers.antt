@@ -12,4 +12,4 @@ pub returns-in-Err-NoMemory-clause-read : goal.returns-in-Err-NoMemory-clause-re
 returns-in-Err-NoMemory-clause-read g c = reads_wanting _ bytes_in (reads_by g.F.Files c.args.files.now c.read_all.new.self) c.args.file.now
 
 pub returns-in-Err-TooLong-clause-read : goal.returns-in-Err-TooLong-clause-read
-returns-in-Err-TooLong-clause-read g c = reads_too_long _ (reads_by g.F.Files c.args.files.now c.read_all.new.self) c.args.file.now c.bad_file.result (c.in-Err-TooLong.ensures.too_long (ap (λ (e : FileFault). Err e) c.in-Err-TooLong.field-0-is)) c.bad_file.ensures
+returns-in-Err-TooLong-clause-read g c = reads_too_long _ (reads_by g.F.Files c.args.files.now c.read_all.new.self) c.args.file.now c.bad_file.result (c.in-Err-TooLong.ensures.too_long (ap (λ (e : FileFault). Err e) c.in-Err-TooLong.field-0-is)) (c.in-Err-TooLong.ensures.too_much (ap (λ (e : FileFault). Err e) c.in-Err-TooLong.field-0-is)) c.bad_file.ensures
