@@ -1,5 +1,5 @@
-"""Checks each example's expected text against plain sums over its logs, two texts of the README, that the edits which
-docs/causes.md names are there, and that the program, which must be built, prints these texts.
+"""Checks each example's expected text against plain sums over its logs, and that the program, which must be built, prints
+these texts.
 
 It knows nothing of the protocol: a printed set is right where each member's total over the printed
 prefixes, plus epsilon, is at least that of every object outside. An example with a status is refused with it, and its
@@ -353,22 +353,10 @@ def words_of_bytes():
             yield f"{words}: the program ends in another way, status {done.returncode}"
 
 
-def lost_edits():
-    """The edits that docs/causes.md names are tried by the gate. A name without its crate is of the crate in front of it."""
-    for line in (ROOT / "docs" / "causes.md").read_text().splitlines():
-        cells = line.split("|")
-        crate = None
-        for name in re.findall(r"[a-z_0-9/]+", cells[4]) if len(cells) == 6 and cells[4].strip() != "edit" else ():
-            crate, name = name.split("/") if "/" in name else (crate, name)
-            if not (ROOT / "crates" / str(crate) / "must-fail" / f"{name}.edit").exists():
-                yield f"docs/causes.md: there is no edit {crate}/{name}"
-
-
 def main():
     folders = [words.parent for words in sorted((ROOT / "examples").glob("*/words"))]
     faults = [check(folder) for folder in folders]
     faults.append(altered())
-    faults += lost_edits()
     if PROGRAM.exists():
         faults += [run(folder) for folder in folders]
         faults += [*ends_of_output(), *ends_of_room(), *traces()]
@@ -377,10 +365,6 @@ def main():
         faults.append(f"{PROGRAM}: the program is not built, so that no example was run")
     if shutil.which("awk"):
         faults.append(made_again(ROOT / "examples" / "access_log"))
-    readme = (ROOT / "README.md").read_text()
-    for name in ("two_monitors", "checked"):
-        if (ROOT / "examples" / name / "expected.txt").read_text() not in readme:
-            faults.append(f"README.md: the text of {name} is not the expected one")
     if (TRACED / "expected.txt").read_text() != (ROOT / "crates" / "topk" / "stdout").read_text():
         faults.append("crates/topk/stdout: not the expected text")
     faults = [fault for fault in faults if fault]

@@ -1,16 +1,17 @@
 #!/usr/bin/env python3
-"""Measures `topk replay` beside what a user would do instead: sum up every log.
+"""Measures `topk replay` beside the same protocol in plain Rust, and beside what a user would do instead: sum up every log.
 
     bench/replay/run.py [--times N] crates/topk/out/topk [WORKLOAD..]
 
-Makes each workload in a folder that it deletes afterwards, runs the program, awk and a small native program over the
+Makes each workload in a folder that it deletes afterwards, runs the program, `native.rs`, awk and `sum.rs` over the
 same files, N times in turn (3 if not said), and prints a table: the least wall seconds, the processor seconds of that
 run, its greatest resident memory, updates a second, and the frames an update that the ledger tells. It checks that the
-last set is within epsilon of the exact totals. It wants rustc and GNU time, which starts each program, since the memory
+last set is within epsilon of the exact totals, and that `native.rs` prints the same text. It wants rustc and GNU time, which starts each program, since the memory
 that the system tells of a child counts its starter's.
 """
 import argparse
 import collections
+import filecmp
 import os
 import shutil
 import subprocess
@@ -38,10 +39,11 @@ def run(words, folder, output):
     return Run(wall, user + system, kilobytes / 1024)
 
 
-def programs(topk, native, words, work):
+def programs(topk, built, words, work):
     """The programs by name, each with the words that run it."""
     logs = [word.split("=", 1)[1] for word in words if "=" in word]
-    table = {"topk": [topk, "replay", *words], "native sum": [native, str(work.k), *logs]}
+    table = {"topk": [topk, "replay", *words], "native": [os.path.join(built, "native"), "replay", *words],
+             "native sum": [os.path.join(built, "sum"), str(work.k), *logs]}
     awk = shutil.which("mawk") or shutil.which("awk")
     if awk:
         ranked = f"{awk} -F, '{AWK}' {' '.join(logs)} | sort -k1,1nr -k2 | head -n {work.k}"
@@ -73,15 +75,17 @@ def check(work, text):
     return frames
 
 
-def measure(work, topk, native, times):
+def measure(work, topk, built, times):
     with tempfile.TemporaryDirectory() as folder:
         words = work.write(folder)
-        table = programs(topk, native, words, work)
+        table = programs(topk, built, words, work)
         runs = {name: [] for name in table}
         for name in list(table) * times:
             runs[name].append(run(table[name], folder, os.path.join(folder, f"{name}.out")))
         with open(os.path.join(folder, "topk.out")) as text:
             frames = check(work, text.read())
+        if not filecmp.cmp(*(os.path.join(folder, f"{name}.out") for name in ("topk", "native")), shallow=False):
+            sys.exit(f"{work.name}: native.rs prints another text")
     for name in table:
         least = min(runs[name])
         told = f"{frames / work.updates:.4f}" if name == "topk" else ""
@@ -96,14 +100,15 @@ def main():
     parser.add_argument("workloads", nargs="*", metavar="WORKLOAD")
     args = parser.parse_args()
     with tempfile.TemporaryDirectory() as built:
-        native = os.path.join(built, "sum")
-        subprocess.run(["rustc", "-O", "-o", native, os.path.join(HERE, "sum.rs")], check=True)
+        for name in ("native", "sum"):
+            source = os.path.join(HERE, f"{name}.rs")
+            subprocess.run(["rustc", "--edition", "2021", "-O", "-o", os.path.join(built, name), source], check=True)
         print(f"Load before: {os.getloadavg()[0]:.1f}, {os.cpu_count()} processors\n")
         print("| workload | program | wall s | processor s | MB | updates a second | frames an update |")
         print("|---|---|---|---|---|---|---|")
         for make in workloads.ALL:
             if not args.workloads or make.__name__ in args.workloads:
-                measure(make(), os.path.abspath(args.topk), native, args.times)
+                measure(make(), os.path.abspath(args.topk), built, args.times)
 
 
 if __name__ == "__main__":

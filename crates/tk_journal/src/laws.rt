@@ -51,7 +51,7 @@ pub fn a_full_round_can_be_dealt_with()
     ensures { FullRoundCanBeDealtWith }
 {}
 
-/// The numbers of rounds count up.
+/// No round is named past the last one that was counted.
 pub fn rounds_are_counted()
     ensures { (o : Opening) (j : List Noted) → IsSetUp o → IsLegal o j → AreRoundsCounted o.settings j }
 {}
