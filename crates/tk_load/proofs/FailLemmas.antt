@@ -1,23 +1,25 @@
 -- How many reads failed, over several stages of the work.
-use Rattle.std.proofs.Common.{◌≡◌, ◌≢◌, ℕ, ◌<◌, Bool, true, false, List, [], ◌∷◌, ◌++◌, All, Option, Result, Ok, Err, IfErr, Vec, get_or, length, bytes_eq, refl, ap, subst, sym, ◌∙◌, arith, inl, inr}
-use Rattle.std.specs.Prelude.{◌⊎◌, IsErrOf, is_ok}
+use Rattle.std.proofs.Common.{◌≡◌, ◌≢◌, ℕ, ◌<◌, Bool, true, false, List, [], ◌∷◌, ◌++◌, All, Option, Result, Ok, Err, IfErr, get_or, length, bytes_eq, refl, ap, subst, sym, ◌∙◌, arith, inl, inr}
+use Rattle.std.specs.Prelude.{◌⊎◌, IsErrAnd, is_ok}
+use Rattle.std.specs.Global.{Vec}
+use Rattle.std.specs.Borrow.{Bor}
 use Rattle.std.proofs.lemmas.List.{get_or_push, length-append}
 use Rattle.std.proofs.lemmas.List.Elements.{All-push}
 use Rattle.std.proofs.lemmas.Slice.Eq.{bytes_eq-Decides}
 use Rattle.tk_input.specs.Files.{one_more}
 use Rattle.tk_input.specs.MapFiles.{faults_after}
 use Rattle.tk_input.specs.declared.files.FileFault.{FileFault}
-use Rattle.tk_input.specs.declared.files.FileFault.TheVariants as f
 use Rattle.tk_input.specs.declared.files.Files.{Ghosts as FilesOf}
-use Rattle.tk_load.specs.Faults.{Fault}
+use Rattle.tk_load.specs.Faults.{Fault, bad_file}
 use Rattle.tk_load.specs.Faults.Fault.{Unread}
-use Rattle.tk_window.specs.Expanded.{expansion_of}
 use Rattle.tk_window.specs.declared.expanded.Expanded.{Expanded}
 use Rattle.tk_load.specs.Batch.{AreCounted, EachAt, IsParsed, Parses}
 use Rattle.tk_load.specs.Input.{log_from}
 use Rattle.tk_load.specs.declared.batch.Unparsed.{Unparsed}
+use Rattle.tk_load.specs.declared.status.InputKind.TheVariants.{TooManyUpdates}
+use Rattle.tk_load.proofs.FaultLemmas.{tells_of}
 use Rattle.tk_load.proofs.UnreadLemmas.{not_log}
-use Rattle.tk_load.specs.Reads.{Counts, FailedAtMostOnce, FailedOnce, FailsAsTold, FileReads, Meets, NoneFailed, Tells, reads_by}
+use Rattle.tk_load.specs.Reads.{Counts, FailedAtMostOnce, FailedOnce, FailsAsTold, FileReads, Meets, NoneFailed, Says, Tells, reads_by}
 use Rattle.tk_load.specs.declared.status.Status.{Status}
 use Rattle.tk_load.specs.declared.status.Status.TheVariants as s
 
@@ -119,7 +121,7 @@ no_fault : {A : Type 0} (P : Status → Type 0) (r : Result A Status) → is_ok 
 no_fault P (Ok x) fine = tt
 no_fault P (Err status) fine = absurd (cc)
 
-counts_fine : {A : Type 0} (reads : FileReads) (r : Result A Status) → is_ok r ≡ true → Counts reads r → NoneFailed reads
+pub counts_fine : {A : Type 0} (reads : FileReads) (r : Result A Status) → is_ok r ≡ true → Counts reads r → NoneFailed reads
 counts_fine reads (Ok x) fine counts = counts
 counts_fine reads (Err status) fine counts = absurd (cc)
 
@@ -140,12 +142,30 @@ module _ (reads : FileReads) (logs : List Unparsed) (fine : All (λ (log : Unpar
   }
 
   -- the last one may not have
-  pub last_counted : (log : Unparsed) (logs_new : List Unparsed) → Counts reads log.content → logs_new ≡ logs ++ log ∷ [] → AreCounted reads content_of logs_new
-  last_counted log logs_new counts pushed = subst (AreCounted reads content_of) (sym pushed) (record {
-    each = All-push (λ (l : Unparsed). IfErr l.content (FailsAsTold reads)) logs log (λ i d within. no_fault (FailsAsTold reads) (get_or logs i d).content (fine i d within)) (counts_fault reads log.content counts);
-    most = counts_at_most reads log.content counts;
-    none = λ all. counts_fine reads log.content (subst (λ (l : Unparsed). is_ok l.content ≡ true) (get_or_push logs log log (length logs) refl) (all (length logs) log (let long = length-append logs (log ∷ []) in omega (arith, long)))) counts;
-  })
+  pub last_counted : (file : Bor (List ℕ)) (content : Result (Vec ℕ) Status) (logs_new : List Unparsed) → Counts reads content → logs_new ≡ logs ++ record { file = file; content = content } ∷ [] → AreCounted reads content_of logs_new
+  last_counted file content logs_new counts pushed =
+      let log : Unparsed = record { file = file; content = content } in
+      subst (AreCounted reads content_of) (sym pushed) (record {
+        each = All-push (λ (l : Unparsed). IfErr l.content (FailsAsTold reads)) logs log (λ i d within. no_fault (FailsAsTold reads) (get_or logs i d).content (fine i d within)) (counts_fault reads log.content counts);
+        most = counts_at_most reads log.content counts;
+        none = λ all. counts_fine reads log.content (subst (λ (l : Unparsed). is_ok l.content ≡ true) (get_or_push logs log log (length logs) refl) (all (length logs) log (let long = length-append logs (log ∷ []) in omega (arith, long)))) counts;
+      })
+
+-- one more that gave something
+pub fine_more : (logs : List Unparsed) (file : Bor (List ℕ)) (content : Result (Vec ℕ) Status) (logs_new : List Unparsed) → All (λ (log : Unparsed). is_ok log.content ≡ true) logs → is_ok content ≡ true
+    → logs_new ≡ logs ++ record { file = file; content = content } ∷ [] → All (λ (log : Unparsed). is_ok log.content ≡ true) logs_new
+fine_more logs file content logs_new fine one pushed =
+    let log : Unparsed = record { file = file; content = content } in
+    subst (All (λ (l : Unparsed). is_ok l.content ≡ true)) (sym pushed) (All-push (λ (l : Unparsed). is_ok l.content ≡ true) logs log fine one)
+
+-- where the list of them found no memory
+pub if_wanting : {A E : Type 0} (reads : FileReads) (r : Result A E) → FailedAtMostOnce reads → IfErr r (λ e. FailedAtMostOnce reads)
+if_wanting reads (Ok x) most = tt
+if_wanting reads (Err e) most = most
+
+pub counts_wanting : {A : Type 0} (reads : FileReads) (answer : Result A Status) → FailedAtMostOnce reads → IsErrAnd answer (λ e. e ≡ s.NoMemory) → Counts reads answer
+counts_wanting reads (Ok x) most wants = absurd wants
+counts_wanting reads (Err status) most wants = subst (FailsAsTold reads) (sym wants) most
 
 -- what is parsed of a content
 parsed_fault : (reads : FileReads) (width : Option ℕ) (names : List (List ℕ)) (name : List ℕ) (content : Result (Vec ℕ) Status) (log : Result Expanded Status)
@@ -171,7 +191,15 @@ parsed_counted reads width names (first ∷ rest) all same parsed counts = recor
       parsed_fault reads width names from.file.now from.content (get_or all i d) counts.most (parsed i first d within).parses (counts.each i first (omega (arith, within, same)));
   most = counts.most;
   none = λ fine. counts.none (λ i d within.
-      let at = omega (arith, within, same) in
+      let at : i < length all = omega (arith, within, same) in
       let from = get_or (first ∷ rest) i d in
       parsed_fine width names from.file.now from.content (get_or all i (Err s.NoMemory)) (parsed i d (Err s.NoMemory) at).parses (fine i (Err s.NoMemory) at));
 }
+
+-- a log that is refused tells what reading it gave, or that a rule behind fails
+pub refused_counts : (reads : FileReads) (log : Result Expanded Status) (status : Status) (name : List ℕ) → FailedAtMostOnce reads → IfErr log (FailsAsTold reads)
+    → (log ≡ Err status) ⊎ Says status (bad_file name TooManyUpdates) → FailsAsTold reads status
+refused_counts reads log status name most told is = elim is [
+  | inl same ↦ subst (λ (l : Result Expanded Status). IfErr l (FailsAsTold reads)) same told
+  | inr says ↦ tells_other {V = Unit {0}} reads status (Err (bad_file name TooManyUpdates)) most (λ n same. cc (same)) (tells_of {V = Unit {0}} status (bad_file name TooManyUpdates) (Err (bad_file name TooManyUpdates)) says refl)
+]

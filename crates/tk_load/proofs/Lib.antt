@@ -7,6 +7,7 @@ mod LogsLemmas
 mod MakingLemmas
 mod MultiLemmas
 mod NumberedLemmas
+mod OtherLemmas
 mod PartsLemmas
 mod ReadLemmas
 pub mod RetuneLemmas

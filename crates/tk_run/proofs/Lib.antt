@@ -3,4 +3,6 @@ mod EndsLemmas
 mod InputLemmas
 mod MultiLemmas
 mod OnceLemmas
+mod PrintedLemmas
+mod ServedLemmas
 mod SessionsLemmas

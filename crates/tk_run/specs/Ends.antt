@@ -1,9 +1,11 @@
 -- The story of an input, and how a run of it ends.
-use Rattle.std.specs.Prelude.{ℕ, ◌≡◌, ◌⊎◌, ◌++◌, List, [], codes, Option, Some, None, Result, Ok, Err}
+use Rattle.std.specs.Prelude.{ℕ, ◌≡◌, ◌⊎◌, ◌++◌, Bool, true, false, List, [], codes, Option, Some, None, Result, Ok, Err}
 use Rattle.tk_input.specs.Logs.{beginnings}
 use Rattle.tk_input.specs.Sink.{Grows, GrowsByFront}
 use Rattle.tk_words.specs.Words.{Asked, GenerateWords, words_of}
 use Rattle.tk_words.specs.Words.Asked.{Checks, Generates, Lives, Queries, Replays, Restarts, Traces}
+use Rattle.tk_words.specs.declared.verb.Verb.{Verb}
+use Rattle.tk_words.specs.declared.verb.Verb.TheVariants as v
 use Rattle.tk_load.specs.Generated.{generated_of}
 use Rattle.tk_load.specs.MultiInput.{LoadsMulti}
 use Rattle.tk_load.specs.Reads.{Loads, Meets}
@@ -121,6 +123,18 @@ served (Some (Queries words)) = Some (Queries words)
 served (Some (Restarts words)) = Some (Restarts words)
 served (Some (Traces words)) = Some (Traces words)
 served (Some (Checks file)) = Some (Checks file)
+
+-- whether a command is served
+abbrev pub serves : Option Verb → Bool
+serves None = false
+serves (Some v.Live) = false
+serves (Some v.Replay) = true
+serves (Some v.Generate) = true
+serves (Some v.Window) = true
+serves (Some v.Multi) = true
+serves (Some v.Sessions) = true
+serves (Some v.Trace) = true
+serves (Some v.Check) = true
 
 -- one story was made, of which this holds
 pub record IsOne (Holds : KeptStory → Type 0) (outcome : Outcome) : Type 0 where

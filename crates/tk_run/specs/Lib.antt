@@ -2,4 +2,5 @@ pub mod Ends
 pub mod Laws
 pub mod Multi
 pub mod Outcome
+pub mod Printed
 pub mod Sessions

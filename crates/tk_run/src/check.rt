@@ -3,7 +3,7 @@
 ghost use Rattle.std.specs.Prelude.{◌≡◌, IfSome, OnErr, OnOk, length};
 ghost use Rattle.tk_input.specs.Sink.{Grows, GrowsByFront};
 ghost use Rattle.tk_ledger.specs.Printing.{print_faults};
-ghost use Rattle.tk_load.specs.Reads.{AreKept};
+ghost use Rattle.tk_load.specs.Reads.{AreKept, FailsAsTold, reads_by};
 ghost use Rattle.tk_load.specs.declared.status.Status.TheVariants.{Done};
 ghost use Rattle.tk_run.specs.Ends.{EndsAsked, RunsAsked, yes_text};
 ghost use Rattle.tk_verify.specs.Headline.{IsSound};
@@ -49,6 +49,7 @@ pub fn serve_check<F: Files, O: Sink>(
     ensures ends { EndsAsked (Checks file.now) (met_by F.Files O.Sink files.old files.new out.old out.new) result.status }
     ensures without { (result.status ≡ Done → ⊥) → IsWithout result }
     ensures kept { AreKept F.Files files.old files.new }
+    ensures failed { FailsAsTold (reads_by F.Files files.old files.new) result.status }
     ensures counted { O.fault_count out.new ≡ faults_told result.status (O.fault_count out.old) }
 {
     let Trace { names, story } = match load_trace(alloc, file, files) {

@@ -5,6 +5,7 @@ ghost use Rattle.tk_base.specs.Settings.{Setup};
 ghost use Rattle.tk_input.specs.Logs.{LogSet};
 ghost use Rattle.tk_run.specs.Ends.{IsStoryOf};
 ghost use Rattle.tk_run.specs.Laws.{InputIsRun, PublishedIsValidForItsWindows, WrittenTraceIsChecked};
+ghost use Rattle.tk_run.specs.Printed.{CheckPrintsValidSets, ReplayPrintsValidSets};
 ghost use Rattle.tk_run.specs.Sessions.{AreSound};
 ghost use Rattle.tk_session.specs.Chain.{IsChainOf};
 ghost use Rattle.tk_session.specs.declared.session_line.SessionLine.{SessionLine};
@@ -58,3 +59,10 @@ pub fn a_set_is_valid_for_its_windows()
     a_window_goes_over_the_logs();
     a_valid_set_is_valid_for_its_windows();
 }
+
+/// Each line of sets that a replay, a window or a check has printed tells a publication of the story that it answers, whose set
+/// is valid at the cut on that line.
+pub fn each_printed_set_is_valid()
+    ensures replay { ReplayPrintsValidSets }
+    ensures check { CheckPrintsValidSets }
+{}

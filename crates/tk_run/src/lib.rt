@@ -21,7 +21,7 @@ mod trace;
 
 pub use headline::{
     a_set_is_valid_for_its_windows, a_written_trace_is_checked, an_input_has_one_story,
-    an_input_is_run, sessions_are_sound,
+    an_input_is_run, each_printed_set_is_valid, sessions_are_sound,
 };
 pub use outcome::Outcome;
 pub use serving::run;

@@ -2,7 +2,7 @@ ghost use Rattle.std.specs.Prelude.{◌≡◌, ◌+◌, All, IfOk, OnErr, OnOk, 
 ghost use Rattle.std.specs.List.{zip};
 ghost use Rattle.tk_input.specs.Sink.{Grows, GrowsByFront};
 ghost use Rattle.tk_ledger.specs.Printing.{print_faults};
-ghost use Rattle.tk_load.specs.Reads.{AreKept};
+ghost use Rattle.tk_load.specs.Reads.{AreKept, FailsAsTold, reads_by};
 ghost use Rattle.tk_load.specs.declared.status.Status.TheVariants.{Done};
 ghost use Rattle.tk_run.specs.Ends.{EndsAsked, RunsAsked};
 ghost use Rattle.tk_run.specs.Multi.{queries_text, query_title};
@@ -74,6 +74,7 @@ pub fn serve_queries<R: Threads + Sync, F: Files, O: Sink>(
         (met_by F.Files O.Sink files.old files.new out.old out.new) result.status }
     ensures without { (result.status ≡ Done → ⊥) → IsWithout result }
     ensures kept { AreKept F.Files files.old files.new }
+    ensures failed { FailsAsTold (reads_by F.Files files.old files.new) result.status }
     ensures counted { O.fault_count out.new ≡ faults_told result.status (O.fault_count out.old) }
 {
     let MultiInput {

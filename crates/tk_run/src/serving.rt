@@ -1,7 +1,8 @@
-ghost use Rattle.std.specs.Prelude.{◌≡◌, IfSome, map, string_bytes};
-ghost use Rattle.tk_load.specs.Reads.{AreKept};
-ghost use Rattle.tk_load.specs.declared.status.Status.TheVariants.{Done};
-ghost use Rattle.tk_run.specs.Ends.{EndsWords, RunsWords};
+ghost use Rattle.std.specs.Prelude.{◌≡◌, IfSome, false, map, string_bytes};
+ghost use Rattle.tk_load.specs.Reads.{AreKept, FailsAsTold, reads_by};
+ghost use Rattle.tk_load.specs.declared.status.Status.TheVariants.{Done, Usage};
+ghost use Rattle.tk_run.specs.Ends.{EndsWords, RunsWords, serves};
+ghost use Rattle.tk_words.specs.Words.{verb_of as verb_named_by};
 ghost use Rattle.tk_verify.specs.Headline.{IsSound};
 ghost use Rattle.tk_run.specs.Outcome.{IfDone, IsWithout, faults_told};
 ghost use Rattle.tk_load.specs.Surroundings.{met_by};
@@ -18,7 +19,18 @@ use std::marker::Sync;
 use std::thread::Threads;
 use tk_input::{Files, Sink};
 use tk_load::Status;
-use tk_words::{Command, WordsFault, read};
+use tk_words::{Command, Verb, WordsFault, read, verb_of};
+
+/// Whether `run` serves the command that the first word names.
+fn is_served(words: &[String]) -> bool
+    ensures { result ≡ serves (verb_named_by (map string_bytes words.now)) }
+{
+    match verb_of(words) {
+        Some(Verb::Live) => false,
+        Some(_) => true,
+        None => false,
+    }
+}
 
 /// Serves all commands but `live`. The words come without the program's name.
 pub fn run<R: Threads + Sync, F: Files, O: Sink>(
@@ -34,12 +46,19 @@ pub fn run<R: Threads + Sync, F: Files, O: Sink>(
     // for a story all of the headline holds; nothing else that ends has any
     ensures sound { IfSome result.story (λ s. IsSound s.story) }
     ensures without { (result.status ≡ Done → ⊥) → IsWithout result }
+    // words of no command that it serves are not understood, whatever memory there is
+    ensures unserved { serves (verb_named_by (map string_bytes words.now)) ≡ false → result.status ≡ Usage }
     // any other status tells the fault that there is
     ensures ends { EndsWords (map string_bytes words.now)
         (met_by F.Files O.Sink files.old files.new out.old out.new) result.status }
     ensures kept { AreKept F.Files files.old files.new }
+    // no failed read is lost: it is told, but behind another rule that fails
+    ensures failed { FailsAsTold (reads_by F.Files files.old files.new) result.status }
     ensures counted { O.fault_count out.new ≡ faults_told result.status (O.fault_count out.old) }
 {
+    if !is_served(words) {
+        return Outcome::ended(alloc, Status::Usage);
+    }
     match read(alloc, words) {
         Ok(Command::Replay(words)) => replay(rt, alloc, &words, files, out),
         Ok(Command::Generate(words)) => generate(alloc, &words, out),

@@ -1,7 +1,7 @@
 //! The trace of a run, in place of its text.
 
 ghost use Rattle.std.specs.Prelude.{◌≡◌, IfSome};
-ghost use Rattle.tk_load.specs.Reads.{AreKept};
+ghost use Rattle.tk_load.specs.Reads.{AreKept, FailsAsTold, reads_by};
 ghost use Rattle.tk_load.specs.declared.status.Status.TheVariants.{Done};
 ghost use Rattle.tk_run.specs.Ends.{EndsAsked, RunsAsked};
 ghost use Rattle.tk_verify.specs.Headline.{IsSound};
@@ -38,6 +38,7 @@ pub fn serve_trace<R: Threads + Sync, F: Files, O: Sink>(
         (met_by F.Files O.Sink files.old files.new out.old out.new) result.status }
     ensures without { (result.status ≡ Done → ⊥) → IsWithout result }
     ensures kept { AreKept F.Files files.old files.new }
+    ensures failed { FailsAsTold (reads_by F.Files files.old files.new) result.status }
     ensures counted { O.fault_count out.new ≡ faults_told result.status (O.fault_count out.old) }
 {
     let input = match load(rt, alloc, &words.sources, files) {

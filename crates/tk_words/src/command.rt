@@ -1,7 +1,7 @@
-ghost use Rattle.std.specs.Prelude.{◌≡◌, Some, None, IfOk, IsErrOf, map, string_bytes};
+ghost use Rattle.std.specs.Prelude.{◌≡◌, Some, None, Err, IfOk, IsErrOf, map, string_bytes};
 ghost use Rattle.clap.specs.Words.{found_of, rows_of};
 ghost use Rattle.tk_words.specs.Asked.{HasCarriage, HasMonitors, asked_by};
-ghost use Rattle.tk_words.specs.Words.{asked_with, words_of};
+ghost use Rattle.tk_words.specs.Words.{asked_with, verb_of as verb_named_by, words_of};
 
 use crate::fault::WordsFault;
 use crate::generate::Generate;
@@ -63,7 +63,9 @@ fn asked<'a>(alloc: Global, verb: Verb, matches: &ArgMatches<'a>) -> Result<Comm
 /// Reads the words, which come without the program's name. The first is the command.
 pub fn read<'a>(alloc: Global, words: &'a [String]) -> Result<Command<'a>, WordsFault>
     ensures ok { IfOk result (λ c. words_of (map string_bytes words.entry.now) ≡ Some (asked_by c)) }
-    // Where the first names no command, clap refuses the rest, or a value is not in its form.
+    // Where the first names no command, they are refused whatever memory there is.
+    ensures unknown { verb_named_by (map string_bytes words.entry.now) ≡ None → result ≡ Err WordsFault.Usage }
+    // Where it names none, clap refuses the rest, or a value is not in its form.
     ensures usage { IsErrOf result WordsFault.Usage → words_of (map string_bytes words.entry.now) ≡ None }
     ensures monitors { IfOk result HasMonitors }
     ensures carriage { IfOk result HasCarriage }

@@ -3,9 +3,12 @@ use Rattle.tk_base.specs.declared.ids.Mon.{Mon}
 use Rattle.tk_words.specs.Asked.{asked_logs, asked_sources}
 use Rattle.tk_window.specs.Expanded.{sources_of}
 use Rattle.tk_window.specs.declared.expanded.Expanded.{Expanded}
-use Rattle.tk_load.specs.Input.{together}
+use Rattle.tk_load.specs.Input.{limits_asked, together}
 use Rattle.tk_load.specs.Reads.{Tells, reads_by}
 use Rattle.tk_load.proofs.LoadLemmas.{basis_loaded, joined_refused, logs_refused, names_refused, seen_fault, seen_logs, settings_refused}
+use Rattle.tk_load.proofs.FailLemmas.{none_behind, tells_other, told_behind}
+use Rattle.tk_load.proofs.OtherLemmas.{limits_other, together_other}
+use Rattle.std.proofs.Common.{inl}
 use Rattle.tk_load.proofs.basis.load_basis.Goals as goal
 
 pub returns-in-Err-clause-read : goal.returns-in-Err-clause-read
@@ -42,3 +45,21 @@ returns-clause-read g c =
     (seen_logs _ (reads_by g.F.Files c.read_names.new.files c.parts_of.new.files) c.in-Ok-limits_of.limits.width c.in-Ok.names _ _ c.in-Ok-parts_of.parts same c.in-Ok-parts_of.ensures.read)
     c.in-Ok-join.together (subst (λ (n : ℕ). together c.in-Ok-limits_of.limits.width (sources_of c.in-Ok-parts_of.parts.items) n ≡ Ok c.in-Ok-join.together) c.len.ensures.value
     (subst (λ (l : List (Mon × Expanded)). together c.in-Ok-limits_of.limits.width (sources_of l) c.len.result ≡ Ok c.in-Ok-join.together) c.as_slice-2.ensures.value c.in-Ok-join.ensures.meets))
+
+pub returns-in-Err-limits_of-clause-counts : goal.returns-in-Err-limits_of-clause-counts
+returns-in-Err-limits_of-clause-counts g c =
+    tells_other (reads_by g.F.Files c.args.files.now c.read_names.new.files) c.in-Err-limits_of.status (limits_asked (asked_sources c.args.words.now) c.in-Ok.names) (inl c.in-Ok.ensures.counts) (limits_other (asked_sources c.args.words.now) c.in-Ok.names) c.in-Err-limits_of.ensures.meets
+
+pub returns-in-Err-parts_of-clause-counts : goal.returns-in-Err-parts_of-clause-counts
+returns-in-Err-parts_of-clause-counts g c =
+    told_behind g.F.Files c.args.files.now c.read_names.new.files c.parts_of.new.files c.in-Ok.ensures.counts c.in-Err-parts_of.status c.in-Err-parts_of.ensures.counts
+
+pub returns-in-Err-join-clause-counts : goal.returns-in-Err-join-clause-counts
+returns-in-Err-join-clause-counts g c =
+    tells_other (reads_by g.F.Files c.args.files.now c.parts_of.new.files) c.in-Err-join.status (together c.in-Ok-limits_of.limits.width (sources_of c.as_slice-2.result.now) c.len.result)
+    (inl (none_behind g.F.Files c.args.files.now c.read_names.new.files c.parts_of.new.files c.in-Ok.ensures.counts c.in-Ok-parts_of.ensures.counts))
+    (together_other c.in-Ok-limits_of.limits.width (sources_of c.as_slice-2.result.now) c.len.result) c.in-Err-join.ensures.meets
+
+pub returns-clause-counts : goal.returns-clause-counts
+returns-clause-counts g c =
+    none_behind g.F.Files c.args.files.now c.read_names.new.files c.parts_of.new.files c.in-Ok.ensures.counts c.in-Ok-parts_of.ensures.counts

@@ -1,12 +1,16 @@
-use Rattle.std.proofs.Common.{rules, ◌≡◌, ℕ, ◌+◌, ◌∷◌, [], ◌++◌, ◌<◌, List, Bor, get_or, length, ap, arith}
+use Rattle.std.proofs.Common.{rules, ◌≡◌, ℕ, ◌+◌, ◌∷◌, [], ◌++◌, ◌<◌, ◌∙◌, All, List, Bor, IfErr, Result, true, get_or, length, ap, arith, refl, subst, sym}
+use Rattle.std.specs.Prelude.{is_ok}
 use Rattle.std.proofs.lemmas.Iterator.Adapters.{YieldsList-from_vec}
-use Rattle.std.proofs.lemmas.Iterator.Consumers.{YieldsList-turn}
-use Rattle.std.proofs.lemmas.List.{length-append}
+use Rattle.std.proofs.lemmas.Iterator.Consumers.{YieldsList-end, YieldsList-turn}
+use Rattle.std.proofs.lemmas.List.{length-append, map-id}
+use Rattle.std.proofs.lemmas.List.Elements.{All-push}
 use Rattle.tk_base.specs.declared.ids.Mon.{Mon}
 use Rattle.tk_words.specs.Asked.{asked_logs}
 use Rattle.tk_window.specs.declared.expanded.Expanded.{Expanded}
 use Rattle.tk_load.specs.Batch.{IsLogOf}
-use Rattle.tk_load.specs.Reads.{reads_by}
+use Rattle.tk_load.specs.Reads.{FailsAsTold, reads_by}
+use Rattle.tk_load.specs.declared.status.Status.{Status}
+use Rattle.tk_load.proofs.FailLemmas.{counts_wanting, most_behind, none_behind, refused_counts, told_behind}
 use Rattle.tk_load.proofs.BatchLemmas.{each_log_after}
 use Rattle.tk_load.proofs.LogsLemmas.{logs_answered}
 use Rattle.tk_load.proofs.PartsLemmas.{log_at, no_parts, one_more_part, part_refused, parts_later, place_inside}
@@ -22,12 +26,14 @@ pub loop-alloc-init : goal.loop-alloc-init
 loop-alloc-init g c = record {
   parts = no_parts (reads_by g.F.Files c.args.files.now c.args.files.now) c.args.width c.args.names.now c.args.words.now c.new-parts.result.items c.new-parts.ensures.items;
   kept = kept_all g.F.Files c.args.files.now;
+  none = λ name. refl;
 }
 
 pub loop-log-init : goal.loop-log-init
 loop-log-init g c = record {
   parts = parts_later g.F.Files c.args.files.now c.loop-alloc.files c.next_logs.new.files c.args.width c.args.names.now c.args.words.now c.loop-alloc.parts.items c.loop-alloc.updates c.next_logs.ensures.kept c.loop-alloc.invariant.parts;
   count = omega arith;
+  fine = λ i d within. absurd (omega (arith, within));
 }
 
 -- the log that is next is that of the word behind the parts so far
@@ -68,12 +74,17 @@ loop-log-preserved g c =
           let longer : length c.push.new.self.items ≡ length (c.loop-log.parts.items ++ (word.0, c.in-Ok.log) ∷ []) = ap (λ (l : List (Mon × Expanded)). length l) c.in_ok-push.ensures.items in
           let parts = length-append c.loop-log.parts.items ((word.0, c.in-Ok.log) ∷ []) in
           let passed = length-append c.loop-log.yielded (c.in-Some.log ∷ []) in omega (arith, before, longer, parts, passed);
+      fine = All-push (λ (log : Result Expanded Status). is_ok log ≡ true) c.loop-log.yielded c.in-Some.log c.loop-log.invariant.fine (ap (λ (r : Result Expanded Status). is_ok r) c.in-Ok.ensures.same);
     }
 
 pub loop-alloc-preserved : goal.loop-alloc-preserved
 loop-alloc-preserved g c = record {
   parts = c.loop-log.invariant.parts;
   kept = kept_on g.F.Files c.args.files.now c.loop-alloc.files c.next_logs.new.files c.loop-alloc.invariant.kept c.next_logs.ensures.kept;
+  none =
+      let whole = YieldsList-end (YieldsList-from_vec {s = c.into_iter-log-iterator.result} c.in_ok-logs.logs.items (search rules) (search rules)) c.loop-log.yielded c.loop-log.log-iterator c.loop-log.yielded_by c.next.result c.next.new.self c.in-None.is c.next.ensures.steps in
+      none_behind g.F.Files c.args.files.now c.loop-alloc.files c.next_logs.new.files c.loop-alloc.invariant.none
+      (c.in_ok-logs.ensures.counts.none (subst (All (λ (log : Result Expanded Status). is_ok log ≡ true)) (sym (map-id c.loop-log.yielded) ∙ whole.0) c.loop-log.invariant.fine));
 }
 
 pub returns-in-Err-clause-read : goal.returns-in-Err-clause-read
@@ -87,3 +98,23 @@ returns-in_err-logs-clause-read g c = logs_answered _ (reads_by g.F.Files c.args
 
 pub returns-in_err-push-clause-read : goal.returns-in_err-push-clause-read
 returns-in_err-push-clause-read g c = logs_answered _ (reads_by g.F.Files c.args.files.now c.next_logs.new.files) c.args.width c.args.names.now (asked_logs c.args.words.now) c.from_residual-in_err-push.result c.from_residual-in_err-push.ensures.1
+
+-- a log that is refused tells what reading it gave, or that there are too many changes
+pub returns-in-Err-clause-counts : goal.returns-in-Err-clause-counts
+returns-in-Err-clause-counts g c =
+    let logs = c.in_ok-logs.logs.items in
+    let reads = reads_by g.F.Files c.loop-alloc.files c.next_logs.new.files in
+    let turn = YieldsList-turn (YieldsList-from_vec {s = c.into_iter-log-iterator.result} logs (search rules) (search rules)) c.loop-log.yielded c.loop-log.log-iterator c.loop-log.yielded_by c.next.result c.next.new.self c.in-Some.log c.in-Some.is c.next.ensures.steps in
+    let one : IfErr c.in-Some.log (FailsAsTold reads) = subst (λ (l : Result Expanded Status). IfErr l (FailsAsTold reads)) (sym turn.1) (c.in_ok-logs.ensures.counts.each (length c.loop-log.yielded) c.in-Some.log turn.0) in
+    told_behind g.F.Files c.args.files.now c.loop-alloc.files c.next_logs.new.files c.loop-alloc.invariant.none c.in-Err.status
+    (refused_counts reads c.in-Some.log c.in-Err.status _ c.in_ok-logs.ensures.counts.most one c.in-Err.ensures.err)
+
+pub returns-in_err-logs-clause-counts : goal.returns-in_err-logs-clause-counts
+returns-in_err-logs-clause-counts g c =
+    counts_wanting (reads_by g.F.Files c.args.files.now c.next_logs.new.files) c.from_residual.result
+    (most_behind g.F.Files c.args.files.now c.loop-alloc.files c.next_logs.new.files c.loop-alloc.invariant.none c.in_err-logs.ensures.most) c.from_residual.ensures.1
+
+pub returns-in_err-push-clause-counts : goal.returns-in_err-push-clause-counts
+returns-in_err-push-clause-counts g c =
+    counts_wanting (reads_by g.F.Files c.args.files.now c.next_logs.new.files) c.from_residual-in_err-push.result
+    (most_behind g.F.Files c.args.files.now c.loop-alloc.files c.next_logs.new.files c.loop-alloc.invariant.none c.in_ok-logs.ensures.counts.most) c.from_residual-in_err-push.ensures.1

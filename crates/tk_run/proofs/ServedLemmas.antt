@@ -1,0 +1,31 @@
+-- Words of no command that is served ask for nothing.
+use Rattle.std.proofs.Common.{◌≡◌, ℕ, List, Bool, false, Option, Some, None, refl}
+use Rattle.std.specs.Prelude.{option_and_then, option_map}
+use Rattle.clap.specs.Words.{Row}
+use Rattle.tk_words.specs.Words.{LiveWords, asked_under, asked_with, verb_of, words_of}
+use Rattle.tk_words.specs.Words.Asked.{Lives}
+use Rattle.tk_words.specs.declared.verb.Verb.{Verb}
+use Rattle.tk_words.specs.declared.verb.Verb.TheVariants as v
+use Rattle.tk_run.specs.Ends.{served, serves}
+
+lives : (found : Option LiveWords) → served (option_map Lives found) ≡ None
+lives None = refl
+lives (Some words) = refl
+
+live_under : (found : Option (List Row)) → ((rows : List Row) → served (asked_with v.Live rows) ≡ None) → served (option_and_then (asked_with v.Live) found) ≡ None
+live_under None each = refl
+live_under (Some rows) each = each rows
+
+unserved_by : (verb : Option Verb) (words : List (List ℕ)) → serves verb ≡ false → served (option_and_then (λ one. asked_under one words) verb) ≡ None
+unserved_by None words none = refl
+unserved_by (Some v.Live) words none = live_under _ (λ rows. lives _)
+unserved_by (Some v.Replay) words none = absurd (cc)
+unserved_by (Some v.Generate) words none = absurd (cc)
+unserved_by (Some v.Window) words none = absurd (cc)
+unserved_by (Some v.Multi) words none = absurd (cc)
+unserved_by (Some v.Sessions) words none = absurd (cc)
+unserved_by (Some v.Trace) words none = absurd (cc)
+unserved_by (Some v.Check) words none = absurd (cc)
+
+pub unserved : (words : List (List ℕ)) → serves (verb_of words) ≡ false → served (words_of words) ≡ None
+unserved words none = unserved_by (verb_of words) words none
