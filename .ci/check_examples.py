@@ -7,7 +7,7 @@ fault stands in the file `fault`; of a run that is made from a seed the text alo
 depends on how its threads meet, so it has no expected text: each set that it prints is checked by plain sums. Where
 there is an awk, the change logs of the access logs are made once more and compared, too; so is the trace that is kept, each replay
 is run in pieces too, its trace is checked, what is no whole trace is refused, and so is each row of `refusals` and a word
-that is no UTF-8.
+that is no UTF-8; and each line is one write.
 """
 import csv
 import os
@@ -16,6 +16,7 @@ import re
 import resource
 import shutil
 import signal
+import socket
 import subprocess
 import sys
 import tempfile
@@ -300,6 +301,24 @@ def ends_of_output():
                 yield f"{way}: the program ends in another way, status {done.returncode}"
 
 
+def writes_of(folder):
+    """What the program writes, call by call: a socket that keeps the bounds of what is sent has each write as a message."""
+    ours, theirs = socket.socketpair(socket.AF_UNIX, socket.SOCK_SEQPACKET)
+    with ours:
+        with theirs:
+            theirs.setsockopt(socket.SOL_SOCKET, socket.SO_SNDBUF, 2**20)
+            subprocess.run([PROGRAM, *words_in(folder)], cwd=folder, stdout=theirs, stderr=subprocess.PIPE, timeout=60)
+        return list(iter(lambda: ours.recv(2**16), b""))
+
+
+def written_by_lines(folders):
+    """Each line is written by one call, and a set of a window together with its ticks, so that no reader meets half a line."""
+    for folder in folders:
+        writes = [] if is_refused(folder) else writes_of(folder)
+        if writes != re.findall(rb"[^\n]*\n(?:ticks[^\n]*\n)?", b"".join(writes)):
+            yield f"{folder.name}: not each line is written by one call"
+
+
 def short_of_room(most):
     """What makes a file of a child's take no more than so many bytes."""
     def limit():
@@ -361,6 +380,7 @@ def main():
         faults += [run(folder) for folder in folders]
         faults += [*ends_of_output(), *ends_of_room(), *traces()]
         faults += [*replays_in_pieces(folders), *checked_replays(folders), *ends_of_checks(), *refusals(), *words_of_bytes()]
+        faults += written_by_lines(folders)
     else:
         faults.append(f"{PROGRAM}: the program is not built, so that no example was run")
     if shutil.which("awk"):
