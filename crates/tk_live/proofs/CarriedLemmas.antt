@@ -6,10 +6,11 @@ use Rattle.std.proofs.Math.Seq.{take-length, take-suc}
 use Rattle.std.proofs.lemmas.List.{take-append-drop}
 use Rattle.std.proofs.lemmas.List.Sums.{sum_by-append, sum_by-cons}
 use Rattle.tk_base.specs.History.{IsFront}
+use Rattle.tk_frames.specs.Spelling.{IsVersion}
 use Rattle.tk_frames.specs.declared.frame.Frame.{Frame}
 use Rattle.tk_journal.specs.Laws.{IsMonitor}
 use Rattle.tk_journal.specs.Legal.{start}
-use Rattle.tk_journal.specs.Links.{frames_to}
+use Rattle.tk_journal.specs.Links.{frames_from, frames_to}
 use Rattle.tk_journal.specs.Readings.{monitors}
 use Rattle.tk_story.proofs.DownLemmas.{down_is_taken}
 use Rattle.tk_story.proofs.QuietLemmas.{joined}
@@ -20,7 +21,7 @@ use Rattle.tk_trail.specs.Setup.{MonitorSetup}
 use Rattle.tk_trail.specs.declared.entry.Entry.{Entry}
 use Rattle.tk_trail.specs.declared.refusal.MonitorRefusal.TheVariants.{AfterStop}
 use Rattle.tk_world.proofs.RangeLemmas.{summed_more}
-use Rattle.tk_live.specs.Carried.{IsCarried, bytes_of}
+use Rattle.tk_live.specs.Carried.{IsCarried, bytes_of, least_bytes}
 use Rattle.tk_live.specs.Complete.{IsHeard, heard_at, took_in}
 
 -- ---- what was taken
@@ -85,11 +86,24 @@ took_all version s h halted =
     let here : trail_of s (i + 1) ≡ get_or s.trails i [] = ap (λ k. get_or s.trails k []) place in
     ap (λ t. bytes_of version (taken_by t)) (sym here) ∙ ap (bytes_of version) (sym (all_taken s (i + 1) h m (halted (i + 1) m))))
 
+sum_at_most : {X : Type 0} (f g : X → ℕ) → ((x : X) → f x ≤ g x) → (xs : List X) → sum_by f xs ≤ sum_by g xs
+sum_at_most f g each [] = omega arith
+sum_at_most f g each (x ∷ xs) =
+    let rest = sum_at_most f g each xs in
+    let one = sum_by-cons f x xs in
+    let two = sum_by-cons g x xs in
+    omega (arith, rest, one, two, each x)
+
+-- of two versions the one that has fewer bytes has no more than either
+least_of : (version : ℕ) (frames : List Frame) → IsVersion version → least_bytes frames ≤ bytes_of version frames
+least_of version frames (inl is) = let same : bytes_of version frames ≡ bytes_of 1 frames = ap (λ v. bytes_of v frames) is in omega (arith, same)
+least_of version frames (inr is) = let same : bytes_of version frames ≡ bytes_of 2 frames = ap (λ v. bytes_of v frames) is in omega (arith, same)
+
 pub carried : (version : ℕ) (s : StoryView) (old new : ℕ) → IsStory s → ((mon : ℕ) → IsMonitor s.settings mon → is_stopped (trail_of s mon) ≡ true) → IsHeard version s old new → IsCarried version s old new
 carried version s old new h halted heard =
+    let least : ℕ → ℕ = λ mon. 18 + least_bytes (frames_from mon s.journal) in
+    let sent : ℕ → ℕ = λ mon. bytes_of version (frames_to mon s.journal) in
+    let fewer = sum_at_most least (heard_at heard.said s.journal) (λ mon. let few = least_of (heard.said mon) (frames_from mon s.journal) (heard.versions mon) in omega (arith, few)) (monitors s.settings) in
     let took = took_all version s h halted in
-    let both = sum_both (heard_at heard.said s.journal) (λ mon. bytes_of version (frames_to mon s.journal)) (monitors s.settings) in record {
-      said = heard.said;
-      versions = heard.versions;
-      taken = omega (arith, heard.taken, took, both);
-    }
+    let both = sum_both least sent (monitors s.settings) in
+    omega (arith, heard.taken, fewer, took, both)

@@ -33,10 +33,8 @@ use Rattle.tk_world.proofs.RangeLemmas.{summed_more}
 use Rattle.tk_live.specs.Carried.{bytes_of}
 use Rattle.tk_live.specs.Complete.{IsComplete, heard_at, took_in}
 use Rattle.tk_live.specs.Hosting.{Hosts}
-use Rattle.tk_live.specs.Ending.{choice_of}
 use Rattle.tk_live.specs.Hosting.{Writes, all_told}
 use Rattle.tk_live.specs.Odd.{IsSomeOdd}
-use Rattle.tk_live.specs.declared.ending.Choice.TheVariants as c
 use Rattle.tk_live.specs.declared.parting.Parting.{Parting}
 use Rattle.tk_live.specs.declared.parting.Parting.TheVariants as p
 use Rattle.tk_base.specs.History.{IsFront}
@@ -212,7 +210,7 @@ module _ {W : Type 0} (counts : W → Counts) (names : List (List ℕ)) (version
         heard = record {
           said = said counts hub h.kept covers;
           versions = versions counts hub h.kept covers;
-          taken = omega (arith, heard, wires, trails_, h.gone.taken);
+          taken = omega (arith, heard, wires, trails_, h.taken);
         };
       }
 
@@ -260,33 +258,6 @@ odd_never coordinator monitors count (inr odd) nothing =
     let same : (place + 1) - 1 ≡ place = omega arith in
     some_is (get_or (map (λ (end : MonEnd). end.odd) monitors) place None) odd.1.1
     (ap (λ k. get_or (map (λ (end : MonEnd). end.odd) monitors) k None) (sym same) ∙ nothing.monitors (place + 1) m)
-
--- the ends are joined where the hub was finished and every worker stopped, or where something is odd
-pub join_means : (parting : Parting) (cause : Why) (odd : Bool) → choice_of parting cause odd ≡ c.Join → ((parting ≡ p.Finished) × (cause ≡ w.Stopped)) ⊎ (odd ≡ true)
-join_means p.WriteFailed cause odd is = absurd (cc)
-join_means p.NoMemory cause odd is = absurd (cc)
-join_means p.Refused cause true is = inr refl
-join_means p.Refused cause false is = absurd (cc)
-join_means p.Finished w.Stopped odd is = inl (refl, refl)
-join_means p.Finished w.Odd true is = inr refl
-join_means p.Finished w.Odd false is = absurd (cc)
-join_means p.Finished w.NoMemory odd is = absurd (cc)
-join_means p.Finished w.Failed odd is = absurd (cc)
-join_means p.Alarmed w.Stopped odd is = absurd (cc)
-join_means p.Alarmed w.Odd true is = inr refl
-join_means p.Alarmed w.Odd false is = absurd (cc)
-join_means p.Alarmed w.NoMemory odd is = absurd (cc)
-join_means p.Alarmed w.Failed odd is = absurd (cc)
-join_means p.Failed w.Stopped odd is = absurd (cc)
-join_means p.Failed w.Odd true is = inr refl
-join_means p.Failed w.Odd false is = absurd (cc)
-join_means p.Failed w.NoMemory odd is = absurd (cc)
-join_means p.Failed w.Failed odd is = absurd (cc)
-join_means p.NetFailed w.Stopped odd is = absurd (cc)
-join_means p.NetFailed w.Odd true is = inr refl
-join_means p.NetFailed w.Odd false is = absurd (cc)
-join_means p.NetFailed w.NoMemory odd is = absurd (cc)
-join_means p.NetFailed w.Failed odd is = absurd (cc)
 
 -- all that was written is a front of the lines, however the loop ended
 pub writes_front : {W : Type 0} (parting : Parting) (names : List (List ℕ)) (hub : HubView W) (was now : Option (List ℕ)) → Writes parting names hub was now → GrowsByFront was now (all_told names hub)

@@ -1,6 +1,6 @@
 -- The caller's loop over its hub, turn by turn.
-use Rattle.std.proofs.Common.{◌≡◌, ◌≤◌, ◌⊎◌, ℕ, List, [], length, true, false, Option, Some, None, Result, Ok, Err, refl, sym, ap, subst, ◌∙◌, inl, inr, arith}
-use Rattle.std.specs.Prelude.{unwrap_or}
+use Rattle.std.proofs.Common.{◌≡◌, ◌≤◌, ◌⊎◌, ℕ, List, [], length, true, false, Bool, Option, Some, None, Result, Ok, Err, refl, sym, ap, subst, ◌∙◌, inl, inr, arith}
+use Rattle.std.specs.Prelude.{unwrap_or, if◌then◌else◌}
 use Rattle.std.proofs.lemmas.Bool.{false≢true}
 use Rattle.std.specs.List.{concat}
 use Rattle.tk_base.specs.History.{IsFront}
@@ -8,11 +8,11 @@ use Rattle.tk_input.specs.Sink.{Grows, GrowsByFront}
 use Rattle.tk_journal.specs.Publishing.{publications}
 use Rattle.tk_journal.specs.Readings.{is_stopped}
 use Rattle.tk_ledger.specs.Text.{lines_of}
-use Rattle.tk_hub.specs.Hub.{Cuts, HubView, IsFinished, IsHub, Turns, Writes as WritesHub}
+use Rattle.tk_hub.specs.Hub.{Cuts, HubView, IsClosed, IsFinished, IsHub, IsOnCourse, Turns, Writes as WritesHub}
 use Rattle.tk_coord.specs.Coordinator.{CoordinatorView}
 use Rattle.tk_end.proofs.HearingLemmas.{front_refl, front_trans}
 use Rattle.tk_hub.specs.Lines.{text_between, text_written, written_in}
-use Rattle.tk_hub.specs.Turn.{course_of, goes_on, halted_of}
+use Rattle.tk_hub.specs.Turn.{course_of, goes_on, halted_of, is_open}
 use Rattle.tk_hub.specs.declared.course.Course.{Course}
 use Rattle.tk_hub.specs.declared.course.Course.TheVariants as cs
 use Rattle.tk_hub.specs.declared.course.HubTurn.{HubTurn}
@@ -23,7 +23,7 @@ use Rattle.tk_wire.specs.Net.{NetState, called, listened}
 use Rattle.tk_wire.specs.declared.net.NetFault.{NetFault}
 use Rattle.tk_wire.specs.declared.net.NetFault.TheVariants as fault
 use Rattle.tk_live.specs.Hosting.{Closes, HasGone, Hosts, IsOfNet, IsRefusedCourse, TellsParting, Writes, all_told}
-use Rattle.tk_live.specs.Parting.{and_failed_of, of_fault, of_turn}
+use Rattle.tk_live.specs.Parting.{halts_of, is_done_of, left_on, of_fault, of_turn}
 use Rattle.tk_live.specs.declared.parting.Parting.{Parting}
 use Rattle.tk_live.specs.declared.parting.Parting.TheVariants as p
 use Rattle.tk_live.proofs.LineLemmas.{cut_front, no_lines, written_front}
@@ -103,17 +103,19 @@ hosts_between p.NetFailed names old hub net net1 net2 before now g gone is = rec
   settings = g.settings;
   grows = g.grows;
   kept = g.kept;
-  gone = gone_on net net1 net2 g.gone gone;
+  taken = (gone_on net net1 net2 g.gone gone).taken;
   writes = subst (Grows before now) g.all g.written;
   tells = tt;
+  unrefused = λ never is. subst IsRefusedCourse g.course is;
 }
 hosts_between p.NoMemory names old hub net net1 net2 before now g gone is = record {
   settings = g.settings;
   grows = g.grows;
   kept = g.kept;
-  gone = gone_on net net1 net2 g.gone gone;
+  taken = (gone_on net net1 net2 g.gone gone).taken;
   writes = written_front names hub.coordinator.journal hub.lines before now g.written;
   tells = tt;
+  unrefused = λ never is. subst IsRefusedCourse g.course is;
 }
 hosts_between p.Finished names old hub net net1 net2 before now g gone is = absurd is
 hosts_between p.Alarmed names old hub net net1 net2 before now g gone is = absurd is
@@ -121,19 +123,21 @@ hosts_between p.Failed names old hub net net1 net2 before now g gone is = absurd
 hosts_between p.Refused names old hub net net1 net2 before now g gone is = absurd is
 hosts_between p.WriteFailed names old hub net net1 net2 before now g gone is = absurd is
 
--- after a fault of the net
-pub hosts_faulted : {W : Type 0} (parting : Parting) (fault : NetFault) → parting ≡ of_fault fault → (names : List (List ℕ)) (old hub : HubView W) (net net1 net2 : NetState) (before now : Option (List ℕ))
-    → IsGoing names old hub net net1 before now → HasGone net1 net2 → Hosts parting names old hub net net2 before now
-hosts_faulted parting fault is names old hub net net1 net2 before now g gone =
-    subst (λ q. Hosts q names old hub net net2 before now) (sym is) (hosts_between (of_fault fault) names old hub net net1 net2 before now g gone (of_net fault))
-
 -- an open hub is not on another course
 pub is_not : (course other : Course) → (cs.Open ≡ other → ⊥) → course ≡ cs.Open → course ≡ other → ⊥
 is_not course other differs open_ is = differs (sym open_ ∙ is)
 
 pub hosts_alarmed : {W : Type 0} (names : List (List ℕ)) (old hub : HubView W) (net net1 : NetState) (before now : Option (List ℕ))
     → IsGoing names old hub net net1 before now → Hosts p.Alarmed names old hub net net1 before now
-hosts_alarmed names old hub net net1 before now g = record { settings = g.settings; grows = g.grows; kept = g.kept; gone = g.gone; writes = subst (Grows before now) g.all g.written; tells = tt }
+hosts_alarmed names old hub net net1 before now g = record {
+  settings = g.settings;
+  grows = g.grows;
+  kept = g.kept;
+  taken = g.gone.taken;
+  writes = subst (Grows before now) g.all g.written;
+  tells = tt;
+  unrefused = λ never is. subst IsRefusedCourse g.course is;
+}
 
 -- ---- a turn
 
@@ -183,8 +187,17 @@ module _ {W : Type 0} (names : List (List ℕ)) (old hub hub' : HubView W) (net 
   front : (turn : HubTurn) → TurnsLines turn names hub hub' now next → (turn ≡ t.WriteFailed → ⊥) → GrowsByFront before next (all_told names hub')
   front turn h fine = written_front names hub'.coordinator.journal hub'.lines before next (wrote turn h fine)
 
-  hosts : (turn : HubTurn) (parting : Parting) → TurnsLines turn names hub hub' now next → Writes parting names hub' before next → TellsParting parting hub' → Hosts parting names old hub' net net1 before next
-  hosts turn parting h writes tells = record { settings = h.settings ∙ g.settings; grows = front_trans old.coordinator.journal hub.coordinator.journal hub'.coordinator.journal g.grows h.grows; kept = h.kept; gone = g.gone; writes = writes; tells = tells }
+  hosts : (turn : HubTurn) (parting : Parting) → TurnsLines turn names hub hub' now next → Writes parting names hub' before next → TellsParting parting hub' → ((parting ≡ p.Refused → ⊥) → IsRefusedCourse (course_of turn) → ⊥)
+      → Hosts parting names old hub' net net1 before next
+  hosts turn parting h writes tells unrefused = record {
+    settings = h.settings ∙ g.settings;
+    grows = front_trans old.coordinator.journal hub.coordinator.journal hub'.coordinator.journal g.grows h.grows;
+    kept = h.kept;
+    taken = g.gone.taken;
+    writes = writes;
+    tells = tells;
+    unrefused = λ never is. unrefused never (subst IsRefusedCourse h.course is);
+  }
 
   refused : (course : Course) → IsRefusedCourse course → hub'.course ≡ course → IsRefusedCourse hub'.course
   refused course is at = subst IsRefusedCourse (sym at) is
@@ -193,13 +206,13 @@ module _ {W : Type 0} (names : List (List ℕ)) (old hub hub' : HubView W) (net 
   ended t.Quiet parting h is = absurd (cc)
   ended t.More parting h is = absurd (cc)
   ended t.Finished parting h is =
-      hosts t.Finished p.Finished h (subst (Grows before next) (text_all names hub'.coordinator.journal hub'.lines (h.finished refl).written) (wrote t.Finished h (λ e. absurd (cc)))) (h.finished refl)
-  ended t.Failed parting h is = hosts t.Failed p.Failed h (front t.Failed h (λ e. absurd (cc))) tt
-  ended (t.Refused mon why) parting h is = hosts (t.Refused mon why) p.Refused h (front (t.Refused mon why) h (λ e. absurd (cc))) (refused (cs.Refused mon why) tt h.course)
-  ended (t.Bad mon fault) parting h is = hosts (t.Bad mon fault) p.Refused h (front (t.Bad mon fault) h (λ e. absurd (cc))) (refused (cs.Bad mon fault) tt h.course)
+      hosts t.Finished p.Finished h (subst (Grows before next) (text_all names hub'.coordinator.journal hub'.lines (h.finished refl).written) (wrote t.Finished h (λ e. absurd (cc)))) (h.finished refl) (λ never is. is)
+  ended t.Failed parting h is = hosts t.Failed p.Failed h (front t.Failed h (λ e. absurd (cc))) tt (λ never is. is)
+  ended (t.Refused mon why) parting h is = hosts (t.Refused mon why) p.Refused h (front (t.Refused mon why) h (λ e. absurd (cc))) (refused (cs.Refused mon why) tt h.course) (λ never is. never refl)
+  ended (t.Bad mon fault) parting h is = hosts (t.Bad mon fault) p.Refused h (front (t.Bad mon fault) h (λ e. absurd (cc))) (refused (cs.Bad mon fault) tt h.course) (λ never is. never refl)
   ended t.WriteFailed parting h is =
-      hosts t.WriteFailed p.WriteFailed h (cut_front names hub'.coordinator.journal hub.lines hub'.lines before now next h.forward (stayed h.grows) (h.cut refl)) tt
-  ended t.NoMemory parting h is = hosts t.NoMemory p.NoMemory h (front t.NoMemory h (λ e. absurd (cc))) tt
+      hosts t.WriteFailed p.WriteFailed h (cut_front names hub'.coordinator.journal hub.lines hub'.lines before now next h.forward (stayed h.grows) (h.cut refl)) h.course (λ never is. is)
+  ended t.NoMemory parting h is = hosts t.NoMemory p.NoMemory h (front t.NoMemory h (λ e. absurd (cc))) tt (λ never is. is)
 
   pub hosts_turned : (turn : HubTurn) (parting : Parting) → TurnsLines turn names hub hub' now next → of_turn turn ≡ Some parting → Hosts parting names old hub' net net1 before next
   hosts_turned turn parting h is = subst (λ q. Hosts q names old hub' net net1 before next) (ap (λ o. unwrap_or o parting) is) (ended turn parting h is)
@@ -214,8 +227,46 @@ left_course cs.Halted is = absurd is
 left_course cs.Failed is = absurd is
 left_course cs.WriteFailed is = absurd is
 
-pub halted_refused : (course left : Course) → left ≡ halted_of course → IsRefusedCourse course → IsRefusedCourse left
+halted_refused : (course left : Course) → left ≡ halted_of course → IsRefusedCourse course → IsRefusedCourse left
 halted_refused course left at is = subst IsRefusedCourse (sym at) (left_course course is)
+
+halted_back : (course : Course) → IsRefusedCourse (halted_of course) → IsRefusedCourse course
+halted_back (cs.Refused mon why) is = tt
+halted_back (cs.Bad mon fault) is = tt
+halted_back cs.Open is = absurd is
+halted_back cs.Halted is = absurd is
+halted_back cs.Failed is = absurd is
+halted_back cs.WriteFailed is = absurd is
+
+left_back : (halts : Bool) (course : Course) → IsRefusedCourse (if halts then halted_of course else course) → IsRefusedCourse course
+left_back true course is = halted_back course is
+left_back false course is = is
+
+halted_shut : (course : Course) → is_open (halted_of course) ≡ false
+halted_shut cs.Open = refl
+halted_shut cs.Halted = refl
+halted_shut cs.Failed = refl
+halted_shut (cs.Refused mon why) = refl
+halted_shut (cs.Bad mon fault) = refl
+halted_shut cs.WriteFailed = refl
+
+-- unless the run is done, a hub that is left goes on no more
+left_shut : (parting : Parting) (course left : Course) → left ≡ left_on parting course → (parting ≡ p.WriteFailed → course ≡ cs.WriteFailed) → (parting ≡ p.Finished → ⊥) → is_open left ≡ false
+left_shut p.Finished course left at unwritten never = absurd (never refl)
+left_shut p.WriteFailed course left at unwritten never = ap is_open (at ∙ unwritten refl)
+left_shut p.Alarmed course left at unwritten never = ap is_open at ∙ halted_shut course
+left_shut p.Failed course left at unwritten never = ap is_open at ∙ halted_shut course
+left_shut p.Refused course left at unwritten never = ap is_open at ∙ halted_shut course
+left_shut p.NetFailed course left at unwritten never = ap is_open at ∙ halted_shut course
+left_shut p.NoMemory course left at unwritten never = ap is_open at ∙ halted_shut course
+
+closed_at : {W : Type 0} (hub : HubView W) (course : Course) → is_open course ≡ false → IsOnCourse hub.coordinator hub.links hub.held course → IsClosed hub.links hub.held
+closed_at hub cs.Open shut on = absurd (false≢true (sym shut))
+closed_at hub cs.Halted shut on = on
+closed_at hub cs.Failed shut on = on.0
+closed_at hub (cs.Refused mon why) shut on = on.0
+closed_at hub (cs.Bad mon fault) shut on = on.0
+closed_at hub cs.WriteFailed shut on = on
 
 -- what was written does not depend on more of the hub than its coordinator
 writes_left : {W : Type 0} (parting : Parting) (names : List (List ℕ)) (hub hub' : HubView W) (before now : Option (List ℕ)) → hub'.coordinator ≡ hub.coordinator → Writes parting names hub before now → Writes parting names hub' before now
@@ -227,46 +278,43 @@ writes_left p.Refused names hub hub' before now is w = subst (λ (c : Coordinato
 writes_left p.WriteFailed names hub hub' before now is w = subst (λ (c : CoordinatorView). GrowsByFront before now (concat (lines_of names c.journal))) (sym is) w
 writes_left p.NoMemory names hub hub' before now is w = subst (λ (c : CoordinatorView). GrowsByFront before now (concat (lines_of names c.journal))) (sym is) w
 
-tells_left : {W : Type 0} (parting left : Parting) (hub hub' : HubView W) (net net' : NetState) → Closes parting left hub hub' net net' → TellsParting parting hub → TellsParting parting hub'
-tells_left p.Finished left hub hub' net net' c tells = subst IsFinished (sym (c.finished refl)) tells
-tells_left p.Refused left hub hub' net net' c tells = c.refused tells
-tells_left p.Alarmed left hub hub' net net' c tells = tt
-tells_left p.Failed left hub hub' net net' c tells = tt
-tells_left p.WriteFailed left hub hub' net net' c tells = tt
-tells_left p.NetFailed left hub hub' net net' c tells = tt
-tells_left p.NoMemory left hub hub' net net' c tells = tt
+tells_left : {W : Type 0} (parting : Parting) (hub hub' : HubView W) (net net' : NetState) → Closes parting hub hub' net net' → TellsParting parting hub → TellsParting parting hub'
+tells_left p.Finished hub hub' net net' c tells = subst IsFinished (sym (c.finished refl)) tells
+tells_left p.Refused hub hub' net net' c tells = halted_refused hub.course hub'.course c.course tells
+tells_left p.WriteFailed hub hub' net net' c tells = c.course ∙ tells
+tells_left p.Alarmed hub hub' net net' c tells = tt
+tells_left p.Failed hub hub' net net' c tells = tt
+tells_left p.NetFailed hub hub' net net' c tells = tt
+tells_left p.NoMemory hub hub' net net' c tells = tt
 
-pub hosts_left : {W : Type 0} (parting left : Parting) (names : List (List ℕ)) (old hub hub' : HubView W) (net net1 net2 : NetState) (before now : Option (List ℕ))
-    → Hosts parting names old hub net net1 before now → Closes parting left hub hub' net1 net2 → Hosts left names old hub' net net2 before now
-hosts_left parting left names old hub hub' net net1 net2 before now h c =
-    let same : Hosts parting names old hub' net net2 before now = record {
-      settings = ap (λ (k : CoordinatorView). k.settings) c.coordinator ∙ h.settings;
-      grows = subst (λ (k : CoordinatorView). IsFront old.coordinator.journal k.journal) (sym c.coordinator) h.grows;
-      kept = c.kept;
-      gone = gone_on net net1 net2 h.gone c.gone;
-      writes = writes_left parting names hub hub' before now c.coordinator h.writes;
-      tells = tells_left parting left hub hub' net1 net2 c h.tells;
-    } in
-    elim c.stays [
-      | inl is ↦ subst (λ q. Hosts q names old hub' net net2 before now) (sym is) same
-      | inr both ↦
-          let alarmed : Hosts p.Alarmed names old hub' net net2 before now = subst (λ q. Hosts q names old hub' net net2 before now) both.0 same in
-          let failed : Hosts p.NetFailed names old hub' net net2 before now = record { settings = alarmed.settings; grows = alarmed.grows; kept = alarmed.kept; gone = alarmed.gone; writes = alarmed.writes; tells = tt } in
-          subst (λ q. Hosts q names old hub' net net2 before now) (sym both.1) failed
-    ]
+module _ {W : Type 0} (parting : Parting) (names : List (List ℕ)) (old hub hub' : HubView W) (net net1 net2 : NetState) (before now : Option (List ℕ)) (h : Hosts parting names old hub net net1 before now) (c : Closes parting hub hub' net1 net2) where
+  -- what it has done stays
+  pub hosts_left : Hosts parting names old hub' net net2 before now
+  hosts_left = record {
+    settings = ap (λ (k : CoordinatorView). k.settings) c.coordinator ∙ h.settings;
+    grows = subst (λ (k : CoordinatorView). IsFront old.coordinator.journal k.journal) (sym c.coordinator) h.grows;
+    kept = c.kept;
+    taken = c.taken ∙ h.taken;
+    writes = writes_left parting names hub hub' before now c.coordinator h.writes;
+    tells = tells_left parting hub hub' net1 net2 c h.tells;
+    unrefused = λ never is. h.unrefused never (left_back (halts_of parting) hub.course (subst IsRefusedCourse c.course is));
+  }
 
--- an end that stays, or gives way to the net's failure
-pub stays_failed : (parting : Parting) → (and_failed_of parting ≡ parting) ⊎ ((parting ≡ p.Alarmed) × (and_failed_of parting ≡ p.NetFailed))
-stays_failed p.Finished = inl refl
-stays_failed p.Alarmed = inr (refl, refl)
-stays_failed p.Failed = inl refl
-stays_failed p.Refused = inl refl
-stays_failed p.WriteFailed = inl refl
-stays_failed p.NetFailed = inl refl
-stays_failed p.NoMemory = inl refl
+  -- and unless the run is done all its wires are shut, and nobody is held
+  pub closed_left : (parting ≡ p.Finished → ⊥) → IsClosed hub'.links hub'.held
+  closed_left never =
+      let shut = left_shut parting hub.course hub'.course c.course (λ is. subst (λ q. TellsParting q hub) is h.tells) never in
+      closed_at hub' hub'.course shut c.kept.course
 
-pub stays_as : (parting left : Parting) → left ≡ and_failed_of parting → (left ≡ parting) ⊎ ((parting ≡ p.Alarmed) × (left ≡ p.NetFailed))
-stays_as parting left is = subst (λ q. (q ≡ parting) ⊎ ((parting ≡ p.Alarmed) × (q ≡ p.NetFailed))) (sym is) (stays_failed parting)
+-- a run that is done was finished
+pub done_is : (parting : Parting) → is_done_of parting ≡ true → parting ≡ p.Finished
+done_is p.Finished is = refl
+done_is p.Alarmed is = absurd (cc)
+done_is p.Failed is = absurd (cc)
+done_is p.Refused is = absurd (cc)
+done_is p.WriteFailed is = absurd (cc)
+done_is p.NetFailed is = absurd (cc)
+done_is p.NoMemory is = absurd (cc)
 
 pub hosts_same : {W : Type 0} (parting : Parting) (names : List (List ℕ)) (old new : HubView W) (net a b : NetState) (before x y : Option (List ℕ))
     → Hosts parting names old new net a before x → b ≡ a → y ≡ x → Hosts parting names old new net b before y

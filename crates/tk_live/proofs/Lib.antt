@@ -1,7 +1,10 @@
 mod CarriedLemmas
 mod CauseLemmas
+mod ChoiceLemmas
 mod CompleteLemmas
+mod CountLemmas
 mod HostLemmas
+mod LawLemmas
 mod LineLemmas
 mod ServingLemmas
 mod StageLemmas

@@ -31,4 +31,4 @@ pub unread : {words : List (List ℕ)} {reads : FileReads} {before : Option (Lis
     → served (words_of words) ≡ Some asked → Loads reads asked.sources (Err status)
     → outcome ≡ record { status = status; story = None; ends = None } → EndsWords words (record { reads = reads; traffic = traffic_of before before taken taken }) outcome
 unread {words} {reads} {before} {taken} asked status outcome is loads made =
-    subst (EndsWords words (record { reads = reads; traffic = traffic_of before before taken taken })) (sym made) (Unread asked is loads (record { story = refl; ends = refl; unwritten = refl }))
+    subst (EndsWords words (record { reads = reads; traffic = traffic_of before before taken taken })) (sym made) (Unread asked is loads (record { story = refl; ends = refl; unwritten = refl; untaken = refl }))

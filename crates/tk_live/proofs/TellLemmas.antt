@@ -15,7 +15,7 @@ use Rattle.std.specs.Prelude.{OnOk, OnErr}
 use Rattle.tk_load.specs.declared.input.Input.{Input}
 use Rattle.tk_verify.specs.Headline.{IsSound}
 use Rattle.tk_story.proofs.PublishedLemmas.{IsPublished, last_is_full, published_holds}
-use Rattle.tk_story.specs.Ends.{AreOfOneRun, TellsDifference, kept_by}
+use Rattle.tk_story.specs.Ends.{AreOfOneRun, HaveNothingOdd, TellsDifference, kept_by}
 use Rattle.tk_story.specs.Kept.{KeptStory}
 use Rattle.tk_story.specs.Moments.{IsOver}
 use Rattle.tk_story.specs.Story.{IsStory, StoryView, trail_of}
@@ -28,7 +28,7 @@ use Rattle.tk_live.specs.Complete.{IsComplete}
 use Rattle.tk_live.specs.Joined.{joined_as}
 use Rattle.tk_base.specs.Settings.{Setup}
 use Rattle.tk_input.specs.Logs.{LogSet, beginnings}
-use Rattle.tk_live.specs.Joining.{IsFrom, IsVerdictOf, ledger_lines}
+use Rattle.tk_live.specs.Joining.{IsFrom, ledger_lines, printed_as}
 use Rattle.tk_live.specs.Lived.{AreOfInput, Concludes, IsOfInput, TellsEnds}
 use Rattle.tk_live.specs.declared.verdict.Lived.{Lived}
 use Rattle.tk_live.specs.declared.verdict.Verdict.{Verdict}
@@ -113,19 +113,19 @@ fault_of x a b first second (inr is) = subst IsFault (sym is) second
 fault_never : (verdict : Verdict) → IsFault verdict → verdict ≡ v.Done → ⊥
 fault_never verdict fault is = subst IsFault is fault
 
-fault_tells : (verdict : Verdict) (ends : Option Ends) → IsFault verdict → TellsEnds verdict ends
-fault_tells v.Done ends fault = absurd fault
-fault_tells (v.LinkDiffers mon direction place sent received) ends fault = absurd fault
-fault_tells v.WriteFault ends fault = tt
-fault_tells v.LinkFault ends fault = tt
-fault_tells v.NoMemory ends fault = tt
+fault_tells : (verdict : Verdict) (ends : Ends) → HaveNothingOdd (kept_by ends.coordinator ends.monitors.items) → IsFault verdict → TellsEnds verdict (Some ends)
+fault_tells v.Done ends nothing fault = absurd fault
+fault_tells (v.LinkDiffers mon direction place sent received) ends nothing fault = absurd fault
+fault_tells v.WriteFault ends nothing fault = tt
+fault_tells v.LinkFault ends nothing fault = nothing
+fault_tells v.NoMemory ends nothing fault = tt
 
--- the ends were kept beside a fault
-pub concludes_fault : (input : Input) (version : ℕ) (was now : Option (List ℕ)) (taken taken' : ℕ) (verdict : Verdict) (ends : Ends) (lived : Lived) → IsFault verdict → AreOfInput input ends
+-- the ends were kept beside a fault, and nothing is odd
+pub concludes_fault : (input : Input) (version : ℕ) (was now : Option (List ℕ)) (taken taken' : ℕ) (verdict : Verdict) (ends : Ends) (lived : Lived) → IsFault verdict → HaveNothingOdd (kept_by ends.coordinator ends.monitors.items) → AreOfInput input ends
     → GrowsByFront was now (concat (lines_of input.names ends.coordinator.coordinator.journal)) → lived ≡ record { verdict = verdict; story = None; ends = Some ends }
     → Concludes input version (traffic_of was now taken taken') lived
-concludes_fault input version was now taken taken' verdict ends lived fault are grown is =
-    subst (λ l. Concludes input version (traffic_of was now taken taken') l) (sym is) (concludes_kept input version was now taken taken' verdict ends are grown (fault_never verdict fault) (fault_tells verdict (Some ends) fault))
+concludes_fault input version was now taken taken' verdict ends lived fault nothing are grown is =
+    subst (λ l. Concludes input version (traffic_of was now taken taken') l) (sym is) (concludes_kept input version was now taken taken' verdict ends are grown (fault_never verdict fault) (fault_tells verdict ends nothing fault))
 
 -- the ends did not agree, or there was no memory to see it
 pub concludes_joined : (input : Input) (version : ℕ) (was now : Option (List ℕ)) (taken taken' : ℕ) (fault : JoinFault) (ends : Ends) (lived : Lived) → AreOfInput input ends
@@ -135,18 +135,22 @@ concludes_joined input version was now taken taken' fault ends lived are grown t
     subst (λ l. Concludes input version (traffic_of was now taken taken') l) (sym is) (concludes_kept input version was now taken taken' (joined_as fault) ends are grown (joined_never fault) (joined_tells fault ends tells))
 
 -- there is a story, as the ledger was printed
-pub printed_as : {A : Type 0} (printed : Result A PrintFault) (verdict : Verdict) → IsVerdictOf printed verdict → TellsEnds verdict None
-printed_as (Ok done) verdict is = subst (λ x. TellsEnds x None) (sym is) refl
-printed_as (Err g.WriteFailed) verdict (inl is) = subst (λ x. TellsEnds x None) (sym is) tt
-printed_as (Err g.WriteFailed) verdict (inr is) = subst (λ x. TellsEnds x None) (sym is) tt
-printed_as (Err g.NoMemory) verdict is = subst (λ x. TellsEnds x None) (sym is) tt
+pub printed_tells : {A : Type 0} (printed : Result A PrintFault) → TellsEnds (printed_as printed) None
+printed_tells (Ok done) = refl
+printed_tells (Err g.WriteFailed) = tt
+printed_tells (Err g.NoMemory) = tt
+
+-- no link failed of it
+pub printed_linked : {A : Type 0} (printed : Result A PrintFault) → printed_as printed ≡ v.LinkFault → ⊥
+printed_linked (Ok done) is = absurd (cc)
+printed_linked (Err g.WriteFailed) is = absurd (cc)
+printed_linked (Err g.NoMemory) is = absurd (cc)
 
 -- what was printed, where the verdict is Done, and in any case
-pub printed_done : {A : Type 0} (printed : Result A PrintFault) (verdict : Verdict) (P : Type 0) → IsVerdictOf printed verdict → OnOk printed P → verdict ≡ v.Done → P
-printed_done (Ok done) verdict P is ok was = ok
-printed_done (Err g.WriteFailed) verdict P (inl is) ok was = absurd (cc)
-printed_done (Err g.WriteFailed) verdict P (inr is) ok was = absurd (cc)
-printed_done (Err g.NoMemory) verdict P is ok was = absurd (cc)
+pub printed_done : {A : Type 0} (printed : Result A PrintFault) (P : Type 0) → OnOk printed P → printed_as printed ≡ v.Done → P
+printed_done (Ok done) P ok was = ok
+printed_done (Err g.WriteFailed) P ok was = absurd (cc)
+printed_done (Err g.NoMemory) P ok was = absurd (cc)
 
 pub printed_front : {A : Type 0} (printed : Result A PrintFault) (old new : Option (List ℕ)) (text : List ℕ) → OnOk printed (Grows old new text) → OnErr printed (GrowsByFront old new text) → GrowsByFront old new text
 printed_front (Ok done) old new text ok err = (text, [], sym (append-nil text), ok)
@@ -169,6 +173,28 @@ of_run input settings logs from ends is run =
     subst (λ s. AreOfOneRun ends.coordinator ends.monitors.items input.logs s (beginnings input.logs)) is.settings_are
     (subst (λ l. AreOfOneRun ends.coordinator ends.monitors.items l settings (beginnings input.logs)) is.logs_are
     (subst (λ p. AreOfOneRun ends.coordinator ends.monitors.items logs settings p) is.from_is run))
+
+-- no worker was started
+pub concludes_unstarted : (input : Input) (version : ℕ) (at : Option (List ℕ)) (taken taken' : ℕ) (verdict : Verdict) (lived : Lived) → (verdict ≡ v.LinkFault) ⊎ (verdict ≡ v.NoMemory) → taken' ≡ taken
+    → lived ≡ record { verdict = verdict; story = None; ends = None } → Concludes input version (traffic_of at at taken taken') lived
+concludes_unstarted input version at taken taken' verdict lived which same is =
+    let fault = fault_of verdict v.LinkFault v.NoMemory tt tt which in
+    let told : TellsEnds verdict None = elim which [
+      | inl linked ↦ subst (λ x. TellsEnds x None) (sym linked) tt
+      | inr memory ↦ subst (λ x. TellsEnds x None) (sym memory) tt
+    ] in
+    let here : Concludes input version (traffic_of at at taken taken') (record { verdict = verdict; story = None; ends = None }) = record {
+      done = λ e. absurd (fault_never verdict fault e);
+      lived = λ e. absurd (fault_never verdict fault e);
+      sound = tt;
+      over = tt;
+      of_input = tt;
+      ends = tt;
+      one = λ s. refl;
+      written = (refl, same);
+      differs = told;
+    } in
+    subst (λ l. Concludes input version (traffic_of at at taken taken') l) (sym is) here
 
 -- ends that are kept beside a verdict
 abbrev pub kept_as : Verdict → Ends → Lived

@@ -1,5 +1,5 @@
 -- The workers of a live run, and what each of them answers. No public clause cites it.
-use Rattle.std.specs.Prelude.{ℕ, List}
+use Rattle.std.specs.Prelude.{ℕ, List, ⊤}
 use Rattle.tk_monitor.specs.Monitored.{MonitorView}
 use Rattle.tk_story.specs.Ends.{as_made}
 use Rattle.tk_serve.specs.declared.served.Why.{Why}
@@ -20,6 +20,13 @@ graver w.Failed w.Stopped = w.Failed
 graver w.Failed w.Failed = w.Failed
 graver w.Failed w.Odd = w.Odd
 graver w.Failed w.NoMemory = w.NoMemory
+
+-- Stop or a fault: what no worker answers that has something odd
+abbrev pub IsCalm : Why → Type 0
+IsCalm w.Odd = ⊥
+IsCalm w.NoMemory = ⊥
+IsCalm w.Stopped = ⊤
+IsCalm w.Failed = ⊤
 
 -- the gravest cause of all workers, monitors ascending
 abbrev pub gravest : List Why → Why

@@ -1,5 +1,5 @@
 -- What the caller's loop over its hub does with the net, the sink and the hub. No public clause cites it.
-use Rattle.std.specs.Prelude.{ℕ, ◌≡◌, ◌≤◌, ◌⊎◌, List, [], length, true, false, Option, ⊤}
+use Rattle.std.specs.Prelude.{ℕ, ◌≡◌, ◌≤◌, List, [], length, true, false, Option, ⊤}
 use Rattle.std.specs.List.{concat}
 use Rattle.tk_base.specs.History.{IsFront}
 use Rattle.tk_hub.specs.Hub.{HubView, IsFinished, IsHub}
@@ -10,6 +10,7 @@ use Rattle.tk_hub.specs.declared.course.Course.{Course}
 use Rattle.tk_hub.specs.declared.course.Course.TheVariants as cs
 use Rattle.tk_input.specs.Sink.{Grows, GrowsByFront}
 use Rattle.tk_wire.specs.Net.{NetState}
+use Rattle.tk_live.specs.Parting.{left_on}
 use Rattle.tk_live.specs.declared.parting.Parting.{Parting}
 use Rattle.tk_live.specs.declared.parting.Parting.TheVariants as p
 
@@ -41,13 +42,13 @@ Writes p.Refused names hub old new = GrowsByFront old new (all_told names hub)
 Writes p.WriteFailed names hub old new = GrowsByFront old new (all_told names hub)
 Writes p.NoMemory names hub old new = GrowsByFront old new (all_told names hub)
 
--- what an end tells of the hub: that it is finished, or refused something
+-- what an end tells of the hub: that it is finished, refused something, or did not write
 abbrev pub TellsParting : {W : Type 0} → Parting → HubView W → Type 0
 TellsParting p.Finished hub = IsFinished hub
 TellsParting p.Refused hub = IsRefusedCourse hub.course
 TellsParting p.Alarmed hub = ⊤
 TellsParting p.Failed hub = ⊤
-TellsParting p.WriteFailed hub = ⊤
+TellsParting p.WriteFailed hub = hub.course ≡ cs.WriteFailed
 TellsParting p.NetFailed hub = ⊤
 TellsParting p.NoMemory hub = ⊤
 
@@ -64,9 +65,10 @@ pub record Hosts {W : Type 0} (parting : Parting) (names : List (List ℕ)) (old
   pub settings : new.coordinator.settings ≡ old.coordinator.settings
   pub grows : IsFront old.coordinator.journal new.coordinator.journal
   pub kept : IsHub new
-  pub gone : HasGone net net'
+  pub taken : net'.taken ≡ net.taken
   pub writes : Writes parting names new before after
   pub tells : TellsParting parting new
+  pub unrefused : (parting ≡ p.Refused → ⊥) → IsRefusedCourse new.course → ⊥
 
 -- what ends the loop between two turns: the net failed, or there was no memory
 abbrev pub IsOfNet : Parting → Type 0
@@ -78,11 +80,12 @@ IsOfNet p.Failed = ⊥
 IsOfNet p.Refused = ⊥
 IsOfNet p.WriteFailed = ⊥
 
--- the hub's side is left: what its coordinator has done stays, and what it refused
-pub record Closes {W : Type 0} (parting left : Parting) (old new : HubView W) (net net' : NetState) : Type 0 where
+-- the hub's side is left: what its coordinator has done stays, and unless the run is done the hub is halted, where that is
+-- due, and the door is closed
+pub record Closes {W : Type 0} (parting : Parting) (old new : HubView W) (net net' : NetState) : Type 0 where
   pub coordinator : new.coordinator ≡ old.coordinator
   pub finished : parting ≡ p.Finished → new ≡ old
-  pub refused : IsRefusedCourse old.course → IsRefusedCourse new.course
+  pub course : new.course ≡ left_on parting old.course
   pub kept : IsHub new
-  pub gone : HasGone net net'
-  pub stays : (left ≡ parting) ⊎ ((parting ≡ p.Alarmed) × (left ≡ p.NetFailed))
+  pub taken : net'.taken ≡ net.taken
+  pub shut : (parting ≡ p.Finished → ⊥) → net'.listens ≡ false

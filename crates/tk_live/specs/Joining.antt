@@ -1,5 +1,5 @@
 -- What the joining of ends goes by. No public clause cites it.
-use Rattle.std.specs.Prelude.{ℕ, ◌≡◌, ◌⊎◌, List, Option, Result, Ok, Err}
+use Rattle.std.specs.Prelude.{ℕ, ◌≡◌, List, Option, Result, Ok, Err}
 use Rattle.std.specs.List.{concat}
 use Rattle.tk_base.specs.Settings.{Setup}
 use Rattle.tk_input.specs.Logs.{LogSet, beginnings}
@@ -25,10 +25,10 @@ abbrev pub ledger_lines : StoryView → List ℕ
 ledger_lines s = ledger_text (ledger_of s.settings s.journal)
 
 -- the verdict where the ledger was printed so
-abbrev pub IsVerdictOf : {A : Type 0} → Result A PrintFault → Verdict → Type 0
-IsVerdictOf (Ok done) verdict = verdict ≡ v.Done
-IsVerdictOf (Err f.WriteFailed) verdict = (verdict ≡ v.WriteFault) ⊎ (verdict ≡ v.NoMemory)
-IsVerdictOf (Err f.NoMemory) verdict = verdict ≡ v.NoMemory
+abbrev pub printed_as : {A : Type 0} → Result A PrintFault → Verdict
+printed_as (Ok done) = v.Done
+printed_as (Err f.WriteFailed) = v.WriteFault
+printed_as (Err f.NoMemory) = v.NoMemory
 
 -- settings, logs and starting places are those of an input
 pub record IsFrom (input : Input) (settings : Setup) (logs : LogSet) (from : List (List ℕ)) : Type 0 where

@@ -1,5 +1,5 @@
 -- What is left of a live run once all workers have ended. No public clause cites it.
-use Rattle.std.specs.Prelude.{ℕ, ◌≡◌, List, Option}
+use Rattle.std.specs.Prelude.{ℕ, ◌≡◌, List, All, Option, None}
 use Rattle.std.specs.List.{concat}
 use Rattle.tk_input.specs.Sink.{GrowsByFront}
 use Rattle.tk_ledger.specs.Text.{lines_of}
@@ -8,11 +8,17 @@ use Rattle.tk_load.specs.Surroundings.{Output}
 use Rattle.tk_serve.specs.declared.served.Why.TheVariants as w
 use Rattle.tk_story.specs.Ends.{joined, kept_by}
 use Rattle.tk_live.specs.Complete.{IsComplete}
+use Rattle.tk_live.specs.Crew.{IsCalm}
 use Rattle.tk_live.specs.Lived.{Concludes}
 use Rattle.tk_live.specs.Traffic.{Traffic, traffic_of}
 use Rattle.tk_live.specs.declared.left.Left.{Left}
 use Rattle.tk_live.specs.declared.parting.Parting.TheVariants as p
 use Rattle.tk_live.specs.declared.verdict.Lived.{Lived}
+
+-- a hub has something odd only where it refused it, and a worker only where the gravest cause is that or want of memory
+pub record TellsOdd (left : Left) : Type 0 where
+  pub hub : (left.parting ≡ p.Refused → ⊥) → left.ends.coordinator.odd ≡ None
+  pub workers : IsCalm left.cause → All (λ end. end.odd ≡ None) left.ends.monitors.items
 
 -- where the hub was finished and every worker stopped, the story of the ends is one that is over
 abbrev pub IsCompleteLeft : Input → ℕ → List (List ℕ) → Left → Traffic → Type 0

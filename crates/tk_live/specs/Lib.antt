@@ -6,6 +6,7 @@ pub mod Hosted
 pub mod Hosting
 pub mod Joined
 pub mod Joining
+pub mod Laws
 pub mod Left
 pub mod Lived
 pub mod Made

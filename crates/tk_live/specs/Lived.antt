@@ -8,7 +8,7 @@ use Rattle.tk_ledger.specs.Text.{lines_of, text_of}
 use Rattle.tk_load.specs.declared.input.Input.{Input}
 use Rattle.tk_verify.specs.Headline.{IsSound}
 use Rattle.tk_load.specs.Surroundings.{IsUnwritten, Output}
-use Rattle.tk_story.specs.Ends.{AreOfOneRun, IsFirstOfAll, kept_by}
+use Rattle.tk_story.specs.Ends.{AreOfOneRun, HaveNothingOdd, IsFirstOfAll, kept_by}
 use Rattle.tk_story.specs.Kept.{KeptStory}
 use Rattle.tk_story.specs.Moments.{IsOver}
 use Rattle.tk_story.specs.Story.{StoryView}
@@ -41,21 +41,23 @@ pub record HasLived (input : Input) (version : ℕ) (traffic : Traffic) (kept : 
 abbrev pub AreOfInput : Input → Ends → Type 0
 AreOfInput input ends = AreOfOneRun ends.coordinator ends.monitors.items input.logs input.settings (beginnings input.logs)
 
--- what was written: with a story a front of its text, with ends a front of the lines that their journal published, and
--- with neither nothing
-abbrev pub Leaves : List (List ℕ) → Output → Option KeptStory → Option Ends → Type 0
-Leaves names output (Some kept) ends = GrowsByFront output.before output.after (text_of names kept.story)
-Leaves names output None (Some ends) = GrowsByFront output.before output.after (concat (lines_of names ends.coordinator.coordinator.journal))
-Leaves names output None None = IsUnwritten output
+-- what was written: with a story a front of its text, with ends a front of the lines that their journal published; and
+-- with neither nothing, and no byte was taken from a link, as where no worker was started
+abbrev pub Leaves : List (List ℕ) → Traffic → Option KeptStory → Option Ends → Type 0
+Leaves names traffic (Some kept) ends = GrowsByFront traffic.output.before traffic.output.after (text_of names kept.story)
+Leaves names traffic None (Some ends) = GrowsByFront traffic.output.before traffic.output.after (concat (lines_of names ends.coordinator.coordinator.journal))
+Leaves names traffic None None = IsUnwritten traffic.output × (traffic.taken_then ≡ traffic.taken)
 
--- a difference is the first that the ends show
+-- a difference is the first that the ends show; and a failed link is told only where no end has what it did not take, so
+-- what was refused, or was no frame, never passes for a failed link
 abbrev pub TellsEnds : Verdict → Option Ends → Type 0
 TellsEnds (v.LinkDiffers mon direction place sent received) None = ⊥
 TellsEnds (v.LinkDiffers mon direction place sent received) (Some ends) =
     IsFirstOfAll (kept_by ends.coordinator ends.monitors.items) mon.0 direction place sent received
 TellsEnds v.Done ends = ends ≡ None
 TellsEnds v.WriteFault ends = ⊤
-TellsEnds v.LinkFault ends = ⊤
+TellsEnds v.LinkFault None = ⊤
+TellsEnds v.LinkFault (Some ends) = HaveNothingOdd (kept_by ends.coordinator ends.monitors.items)
 TellsEnds v.NoMemory ends = ⊤
 
 -- what a live run leaves
@@ -69,7 +71,7 @@ pub record Concludes (input : Input) (version : ℕ) (traffic : Traffic) (result
   -- any ends are those of the nodes that were made for the input
   pub ends : IfSome result.ends (AreOfInput input)
   pub one : IsSome result.story → result.ends ≡ None
-  pub written : Leaves input.names traffic.output result.story result.ends
+  pub written : Leaves input.names traffic result.story result.ends
   pub differs : TellsEnds result.verdict result.ends
 
 -- the same over a net, which counts the bytes that were taken from its links

@@ -1,7 +1,10 @@
 -- Why the caller's loop over its hub ended. No public clause cites it.
-use Rattle.std.specs.Prelude.{Bool, true, false, Option, Some, None}
+use Rattle.std.specs.Prelude.{ℕ, Bool, true, false, if◌then◌else◌, Option, Some, None}
+use Rattle.tk_hub.specs.Turn.{halted_of}
+use Rattle.tk_hub.specs.declared.course.Course.{Course}
 use Rattle.tk_hub.specs.declared.course.HubTurn.{HubTurn}
 use Rattle.tk_hub.specs.declared.course.HubTurn.TheVariants as t
+use Rattle.tk_input.specs.Files.{one_more}
 use Rattle.tk_wire.specs.declared.net.NetFault.{NetFault}
 use Rattle.tk_wire.specs.declared.net.NetFault.TheVariants as fault
 use Rattle.tk_live.specs.declared.parting.Parting.{Parting}
@@ -23,16 +26,6 @@ abbrev pub of_fault : NetFault → Parting
 of_fault fault.Failed = p.NetFailed
 of_fault fault.NoMemory = p.NoMemory
 
--- where the net failed behind it
-abbrev pub and_failed_of : Parting → Parting
-and_failed_of p.Finished = p.Finished
-and_failed_of p.Alarmed = p.NetFailed
-and_failed_of p.Failed = p.Failed
-and_failed_of p.Refused = p.Refused
-and_failed_of p.WriteFailed = p.WriteFailed
-and_failed_of p.NetFailed = p.NetFailed
-and_failed_of p.NoMemory = p.NoMemory
-
 -- whether the run is done then
 abbrev pub is_done_of : Parting → Bool
 is_done_of p.Finished = true
@@ -52,3 +45,17 @@ halts_of p.Refused = true
 halts_of p.WriteFailed = false
 halts_of p.NetFailed = true
 halts_of p.NoMemory = true
+
+-- the course on which a hub is left
+abbrev pub left_on : Parting → Course → Course
+left_on parting course = if halts_of parting then halted_of course else course
+
+-- how many puts of the output have failed: one more exactly where a line was not written
+abbrev pub faults_of : Parting → ℕ → ℕ
+faults_of p.Finished faults = faults
+faults_of p.Alarmed faults = faults
+faults_of p.Failed faults = faults
+faults_of p.Refused faults = faults
+faults_of p.WriteFailed faults = one_more faults
+faults_of p.NetFailed faults = faults
+faults_of p.NoMemory faults = faults

@@ -1,12 +1,13 @@
 -- How the words of a live run end.
 use Rattle.std.specs.Prelude.{ℕ, ◌≡◌, List, Option, Some, None, Ok, Err}
+use Rattle.tk_input.specs.Files.{one_more}
 use Rattle.tk_words.specs.Words.{Asked, LiveWords, words_of}
 use Rattle.tk_words.specs.Words.Asked.{Checks, Generates, Lives, Queries, Replays, Restarts, Traces}
 use Rattle.tk_load.specs.Reads.{Loads}
 use Rattle.tk_load.specs.declared.input.Input.{Input}
 use Rattle.tk_load.specs.declared.status.Status.{Status}
 use Rattle.tk_load.specs.declared.status.Status.TheVariants as s
-use Rattle.tk_load.specs.Surroundings.{IsUnwritten, Output}
+use Rattle.tk_load.specs.Surroundings.{IsUnwritten}
 use Rattle.tk_live.specs.Lived.{Concludes}
 use Rattle.tk_live.specs.Traffic.{LiveSurroundings, Traffic}
 use Rattle.tk_live.specs.declared.outcome.Outcome.{Outcome}
@@ -32,11 +33,25 @@ status_of v.LinkFault = s.LinkFault
 status_of (v.LinkDiffers mon direction place sent received) = s.LinkDiffers mon direction place sent received
 status_of v.NoMemory = s.NoMemory
 
--- no worker was started, and nothing was written
-pub record IsUnstarted (output : Output) (outcome : Outcome) : Type 0 where
+-- how many puts of the output have failed after a live run: one more exactly where its status tells so
+abbrev pub faults_told : Status → ℕ → ℕ
+faults_told s.WriteFault faults = one_more faults
+faults_told s.Done faults = faults
+faults_told s.Usage faults = faults
+faults_told (s.ReadFault file) faults = faults
+faults_told (s.BadInput file line kind) faults = faults
+faults_told (s.TooGreat mon obj) faults = faults
+faults_told s.NoMemory faults = faults
+faults_told s.LinkFault faults = faults
+faults_told (s.LinkDiffers mon direction place sent received) faults = faults
+faults_told (s.BadTrace file fault) faults = faults
+
+-- no worker was started: nothing was written, and no byte was taken from a link
+pub record IsUnstarted (traffic : Traffic) (outcome : Outcome) : Type 0 where
   pub story : outcome.story ≡ None
   pub ends : outcome.ends ≡ None
-  pub unwritten : IsUnwritten output
+  pub unwritten : IsUnwritten traffic.output
+  pub untaken : traffic.taken_then ≡ traffic.taken
 
 -- the input of the words has run, and the status tells its verdict
 pub record HasRun (input : Input) (version : ℕ) (traffic : Traffic) (outcome : Outcome) : Type 0 where
@@ -47,7 +62,7 @@ pub record HasRun (input : Input) (version : ℕ) (traffic : Traffic) (outcome :
 -- how words end: they are not those of a live run; there was no memory for them; their files give no input, by the first
 -- rule that fails; or their input has run
 pub data EndsWords (words : List (List ℕ)) (met : LiveSurroundings) (outcome : Outcome) : Type 0 where
-  Refused : served (words_of words) ≡ None → outcome.status ≡ s.Usage → IsUnstarted met.traffic.output outcome → EndsWords words met outcome
-  Unmet : outcome.status ≡ s.NoMemory → IsUnstarted met.traffic.output outcome → EndsWords words met outcome
-  Unread : (asked : LiveWords) → served (words_of words) ≡ Some asked → Loads met.reads asked.sources (Err outcome.status) → IsUnstarted met.traffic.output outcome → EndsWords words met outcome
+  Refused : served (words_of words) ≡ None → outcome.status ≡ s.Usage → IsUnstarted met.traffic outcome → EndsWords words met outcome
+  Unmet : outcome.status ≡ s.NoMemory → IsUnstarted met.traffic outcome → EndsWords words met outcome
+  Unread : (asked : LiveWords) → served (words_of words) ≡ Some asked → Loads met.reads asked.sources (Err outcome.status) → IsUnstarted met.traffic outcome → EndsWords words met outcome
   Ran : (asked : LiveWords) (input : Input) → served (words_of words) ≡ Some asked → Loads met.reads asked.sources (Ok input) → HasRun input asked.frames met.traffic outcome → EndsWords words met outcome

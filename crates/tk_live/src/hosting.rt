@@ -1,28 +1,44 @@
-ghost use Rattle.std.specs.Prelude.{◌≡◌, true, IfSome};
+ghost use Rattle.std.specs.Prelude.{◌≡◌, true, IfErr, IfSome};
 ghost use Rattle.tk_hub.specs.Hub.{IsHub};
 ghost use Rattle.tk_hub.specs.declared.course.Course.TheVariants.{Open};
 ghost use Rattle.tk_live.specs.declared.parting.Parting.TheVariants.{Finished as Done};
 ghost use Rattle.tk_live.specs.Hosted.{HostsFrom};
-ghost use Rattle.tk_live.specs.Hosting.{CanHost, Closes, HasGone, Hosts, IsOfNet, IsRefusedCourse};
+ghost use Rattle.tk_live.specs.Hosting.{CanHost, Closes, HasGone, Hosts, IsOfNet};
+ghost use Rattle.tk_live.specs.Parting.{faults_of, left_on};
 
 use crate::parting::Parting;
 use std::sync::Wait;
-use tk_hub::Hub;
+use tk_hub::{Hub, HubTurn};
 use tk_input::{Catalog, Sink};
 use tk_serve::Alarm;
-use tk_wire::{Net, NetFault, Wire};
+use tk_wire::{Net, Wire};
 
 /// How many connections are accepted between two turns at most.
 const KNOCKS: u32 = 64;
 
-/// Accepts connections that wait, and hands them to the hub.
-fn admit<N: Net>(hub: &mut Hub<N::Link>, net: &mut N) -> Option<Parting>
+/// Waits until something may have come, where nothing is left to do.
+fn pause<N: Net>(net: &mut N, is_idle: bool) -> Option<Parting>
+    requires listens { (N.state net.old).listens ≡ true }
+    ensures net { HasGone (N.state net.old) (N.state net.new) }
+    ensures fault { IfSome result IsOfNet }
+{
+    if !is_idle {
+        return None;
+    }
+    match net.wait() {
+        Ok(()) => None,
+        Err(fault) => Some(Parting::by(fault)),
+    }
+}
+
+/// Accepts connections that wait, and hands them to the hub. Says whether there may be more.
+fn admit<N: Net>(hub: &mut Hub<N::Link>, net: &mut N) -> Result<bool, Parting>
     requires going { hub.old.course ≡ Open }
     requires listens { (N.state net.old).listens ≡ true }
     ensures rest { hub.new ≡ record hub.old { held = hub.new.held } }
     ensures kept { IsHub hub.new }
     ensures net { HasGone (N.state net.old) (N.state net.new) }
-    ensures fault { IfSome result IsOfNet }
+    ensures fault { IfErr result IsOfNet }
 {
     // The hub is read for its clause, that it is one.
     let _ = hub.coordinator();
@@ -30,14 +46,23 @@ fn admit<N: Net>(hub: &mut Hub<N::Link>, net: &mut N) -> Option<Parting>
         match net.accept() {
             Ok(Some(link)) => {
                 if hub.admit(link).is_err() {
-                    return Some(Parting::NoMemory);
+                    return Err(Parting::NoMemory);
                 }
             }
-            Ok(None) => return None,
-            Err(fault) => return Some(Parting::by(fault)),
+            Ok(None) => return Ok(false),
+            Err(fault) => return Err(Parting::by(fault)),
         }
     }
-    None
+    Ok(true)
+}
+
+/// Whether nothing is left to do before something comes: what waits is told of once, so after a turn or a door that may
+/// have more there is no wait.
+fn is_idle(more: bool, turn: HubTurn) -> bool {
+    match turn {
+        HubTurn::More => false,
+        _ => !more,
+    }
 }
 
 /// Waits, admits and turns the hub, until it is done, something failed or the alarm is raised.
@@ -50,40 +75,29 @@ fn attend<R: Wait, N: Net, O: Sink>(
     alarm: &Alarm,
 ) -> Parting
     requires { CanHost hub.old (N.state net.old) names.now }
-    ensures { Hosts result names.now hub.old hub.new (N.state net.old) (N.state net.new)
+    ensures hosts { Hosts result names.now hub.old hub.new (N.state net.old) (N.state net.new)
         (O.written out.old) (O.written out.new) }
+    ensures counted { O.fault_count out.new ≡ faults_of result (O.fault_count out.old) }
 {
     // The hub is read for its clause, that it is one.
     let _ = hub.coordinator();
+    let mut idle = true;
     for _ in rt.forever() {
         if alarm.raised() {
             return Parting::Alarmed;
         }
-        if let Err(fault) = net.wait() {
-            return Parting::by(fault);
-        }
-        if let Some(parting) = admit(hub, net) {
+        if let Some(parting) = pause(net, idle) {
             return parting;
         }
-        if let Some(parting) = Parting::after(hub.turn(names, out)) {
+        let more = match admit(hub, net) {
+            Ok(more) => more,
+            Err(parting) => return parting,
+        };
+        let turn = hub.turn(names, out);
+        if let Some(parting) = Parting::after(turn) {
             return parting;
         }
-    }
-    unreachable!()
-}
-
-/// Accepts and drops each connection that still waits, so that its port's link ends. Says whether the net failed.
-fn turn_away<R: Wait, N: Net>(rt: &R, net: &mut N) -> bool
-    requires { (N.state net.old).listens ≡ true }
-    ensures { HasGone (N.state net.old) (N.state net.new) }
-{
-    for _ in rt.forever() {
-        match net.accept() {
-            Ok(Some(link)) => drop(link),
-            Ok(None) => return false,
-            Err(NetFault::Failed) => return true,
-            Err(NetFault::NoMemory) => return false,
-        }
+        idle = is_idle(more, turn);
     }
     unreachable!()
 }
@@ -98,7 +112,7 @@ pub struct Host<'h, N: Net, O: Sink> {
 
 impl<'h, N: Net, O: Sink> Host<'h, N, O> {
     /// Runs the hub until the run is done or can't be. After another end than that it is halted, unless its wires are shut,
-    /// and connections that wait are dropped.
+    /// and the door is closed, so that no worker waits for ever.
     pub fn run<R: Wait>(self, rt: &R, names: &Catalog, alarm: &Alarm) -> (Host<'h, N, O>, Parting)
         requires { CanHost self.hub (N.state self.net.now) names.now }
         ensures same_net { result.0.net.ghost_name ≡ self.entry.net.ghost_name }
@@ -107,7 +121,7 @@ impl<'h, N: Net, O: Sink> Host<'h, N, O> {
     {
         let Host { mut hub, net, out } = self;
         let parting = attend(rt, &mut hub, net, names, out, alarm);
-        let parting = leave(rt, &mut hub, net, parting);
+        leave(&mut hub, net, parting);
         (Host { hub, net, out }, parting)
     }
 }
@@ -116,7 +130,7 @@ impl<'h, N: Net, O: Sink> Host<'h, N, O> {
 fn halt<W: Wire + Drop>(hub: &mut Hub<W>, parting: Parting)
     ensures coordinator { hub.new.coordinator ≡ hub.old.coordinator }
     ensures finished { parting ≡ Done → hub.new ≡ hub.old }
-    ensures refused { IsRefusedCourse hub.old.course → IsRefusedCourse hub.new.course }
+    ensures course { hub.new.course ≡ left_on parting hub.old.course }
     ensures kept { IsHub hub.new }
 {
     // The hub is read for its clause, that it is one.
@@ -126,18 +140,13 @@ fn halt<W: Wire + Drop>(hub: &mut Hub<W>, parting: Parting)
     }
 }
 
-/// Ends the hub's side: halts the hub and drops connections that wait, each where it is due.
-fn leave<R: Wait, N: Net>(rt: &R, hub: &mut Hub<N::Link>, net: &mut N, parting: Parting) -> Parting
-    requires { (N.state net.old).listens ≡ true }
-    ensures { Closes parting result hub.old hub.new (N.state net.old) (N.state net.new) }
+/// Ends the hub's side where the run is not done: halts the hub and closes the door, each where it is due.
+fn leave<N: Net>(hub: &mut Hub<N::Link>, net: &mut N, parting: Parting)
+    ensures { Closes parting hub.old hub.new (N.state net.old) (N.state net.new) }
 {
     halt(hub, parting);
     if parting.is_done() {
-        return parting;
+        return;
     }
-    if turn_away(rt, net) {
-        parting.and_failed()
-    } else {
-        parting
-    }
+    net.close();
 }

@@ -1,10 +1,11 @@
 ghost use Rattle.std.specs.Prelude.{◌≡◌, OnOk, OnErr};
-ghost use Rattle.tk_input.specs.Files.{HasRisen};
 ghost use Rattle.tk_input.specs.Sink.{Grows, GrowsByFront};
 ghost use Rattle.tk_load.specs.Surroundings.{output_by};
 ghost use Rattle.tk_story.specs.Ends.{AreOfOneRun};
-ghost use Rattle.tk_live.specs.Joining.{ConcludesEnds, ConcludesStory, IsVerdictOf, ledger_lines};
-ghost use Rattle.tk_live.specs.declared.verdict.Verdict.TheVariants.{LinkFault as Unlinked, WriteFault as Unwritten};
+ghost use Rattle.tk_ledger.specs.Printing.{print_faults};
+ghost use Rattle.tk_live.specs.Joining.{ConcludesEnds, ConcludesStory, ledger_lines, printed_as};
+ghost use Rattle.tk_live.specs.Serving.{faults_told, status_of};
+ghost use Rattle.tk_live.specs.declared.verdict.Verdict.TheVariants.{LinkFault as Unlinked};
 
 use crate::verdict::{Lived, Verdict};
 use std::alloc::Global;
@@ -19,6 +20,7 @@ use tk_world::serialize;
 fn print<O: Sink>(alloc: Global, story: &Story, out: &mut O) -> Result<(), PrintFault>
     ensures ok { OnOk result (Grows (O.written out.old) (O.written out.new) (ledger_lines story.now.story)) }
     ensures err { OnErr result (GrowsByFront (O.written out.old) (O.written out.new) (ledger_lines story.now.story)) }
+    ensures counted { O.fault_count out.new ≡ print_faults result (O.fault_count out.old) }
 {
     let Ok(ledger) = Ledger::of(alloc, story) else {
         return Err(PrintFault::NoMemory);
@@ -27,22 +29,21 @@ fn print<O: Sink>(alloc: Global, story: &Story, out: &mut O) -> Result<(), Print
 }
 
 /// The verdict on a story whose ledger was printed so.
-fn verdict_of<O: Sink>(printed: Result<(), PrintFault>, faults: u64, out: &O) -> Verdict
-    ensures verdict { IsVerdictOf printed result }
-    ensures risen { result ≡ Unwritten → HasRisen faults (O.fault_count out.now) }
+fn verdict_of(printed: Result<(), PrintFault>) -> Verdict
+    ensures { result ≡ printed_as printed }
 {
     match printed {
         Ok(()) => Verdict::Done,
-        Err(PrintFault::WriteFailed) => Verdict::of_output(faults, out.faults()),
+        Err(PrintFault::WriteFailed) => Verdict::WriteFault,
         Err(PrintFault::NoMemory) => Verdict::NoMemory,
     }
 }
 
 /// Gives a story that is over its events, and writes the lines of its ledger.
-fn finish<O: Sink>(alloc: Global, story: Story, faults: u64, out: &mut O) -> Lived
+fn finish<O: Sink>(alloc: Global, story: Story, out: &mut O) -> Lived
     ensures concludes { ConcludesStory story.story (output_by O.Sink out.old out.new) result }
     ensures unlinked { result.verdict ≡ Unlinked → ⊥ }
-    ensures risen { result.verdict ≡ Unwritten → HasRisen faults (O.fault_count out.new) }
+    ensures counted { O.fault_count out.new ≡ faults_told (status_of result.verdict) (O.fault_count out.old) }
 {
     // The journal is read for its clause, that the story is legal; the law says that it is sound.
     let _ = story.journal();
@@ -52,8 +53,7 @@ fn finish<O: Sink>(alloc: Global, story: Story, faults: u64, out: &mut O) -> Liv
         Err((_, story)) => return Lived::told(Verdict::NoMemory, story),
     };
     let printed = print(alloc, &story, out);
-    let verdict = verdict_of(printed, faults, out);
-    Lived::told(verdict, story)
+    Lived::told(verdict_of(printed), story)
 }
 
 /// Joins the ends: to the story that they tell, or to the first difference between them.
@@ -63,20 +63,19 @@ pub fn join_ends<O: Sink>(
     logs: Logs,
     from: Cut,
     ends: Ends,
-    faults: u64,
     out: &mut O,
 ) -> Lived
     requires { AreOfOneRun ends.coordinator ends.monitors.items logs settings from }
     ensures concludes { ConcludesEnds settings logs from ends (output_by O.Sink out.old out.new) result }
     ensures unlinked { result.verdict ≡ Unlinked → ⊥ }
-    ensures risen { result.verdict ≡ Unwritten → HasRisen faults (O.fault_count out.new) }
+    ensures counted { O.fault_count out.new ≡ faults_told (status_of result.verdict) (O.fault_count out.old) }
 {
     let Ends {
         coordinator,
         monitors,
     } = ends;
     match Story::join(coordinator, monitors, logs, settings, from, Vec::new(alloc)) {
-        Ok(story) => finish(alloc, story, faults, out),
+        Ok(story) => finish(alloc, story, out),
         Err((fault, ends)) => Lived::kept(Verdict::of_join(fault), ends),
     }
 }

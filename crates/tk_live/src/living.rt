@@ -1,4 +1,4 @@
-ghost use Rattle.std.specs.Prelude.{◌≡◌, ◌≤◌, [], false, length, map, vec_capacity};
+ghost use Rattle.std.specs.Prelude.{ℕ, ◌≡◌, ◌≤◌, [], false, length, map, vec_capacity};
 ghost use Rattle.tk_frames.specs.Spelling.{IsVersion};
 ghost use Rattle.tk_input.specs.Files.{HasRisen};
 ghost use Rattle.tk_input.specs.Logs.{IsCut, beginnings};
@@ -6,11 +6,13 @@ ghost use Rattle.tk_journal.specs.Legal.{opened, start as begun_by};
 ghost use Rattle.tk_load.specs.Whole.{AreAgreed};
 ghost use Rattle.tk_live.specs.Crew.{made_in};
 ghost use Rattle.tk_live.specs.Hosting.{CanHost};
-ghost use Rattle.tk_live.specs.Left.{ConcludesLeft};
+ghost use Rattle.tk_live.specs.Left.{ConcludesLeft, TellsOdd};
 ghost use Rattle.tk_live.specs.Lived.{AreOfInput, EndsOver};
 ghost use Rattle.tk_live.specs.Made.{all_made};
+ghost use Rattle.tk_live.specs.Parting.{faults_of};
+ghost use Rattle.tk_live.specs.Serving.{faults_told, status_of};
 ghost use Rattle.tk_load.specs.Surroundings.{output_by};
-ghost use Rattle.tk_live.specs.declared.verdict.Verdict.TheVariants.{LinkFault as Unlinked, WriteFault as Unwritten};
+ghost use Rattle.tk_live.specs.declared.verdict.Verdict.TheVariants.{LinkFault as Unlinked};
 
 use crate::ending::{Choice, choose, is_odd};
 use crate::joining::join_ends;
@@ -30,28 +32,23 @@ use tk_serve::Gate;
 use tk_story::Ends;
 use tk_wire::Net;
 
-/// The counts of faults of a net and of a sink before a run.
-#[derive(Clone, Copy)]
-struct Faults {
-    net: u64,
-    out: u64,
-}
-
 /// Chooses how the run ended: by the hub, the workers, a link or the net, and else by the ends, which are then joined.
 fn conclude<N: Net, O: Sink>(
     alloc: Global,
     input: Input,
     from: Cut,
     left: Left,
-    faults: Faults,
+    faults: u64,
     net: &N,
     out: &mut O,
 ) -> Lived
     requires run { AreOfInput input left.ends }
     requires from { from ≡ beginnings input.logs }
+    requires odd { TellsOdd left }
     ensures concludes { ConcludesLeft input from left (output_by O.Sink out.old out.new) result }
-    ensures failed { result.verdict ≡ Unlinked → HasRisen faults.net (N.state net.now).faults }
-    ensures unwritten { result.verdict ≡ Unwritten → HasRisen faults.out (O.fault_count out.new) }
+    ensures failed { result.verdict ≡ Unlinked → HasRisen faults (N.state net.now).faults }
+    ensures counted { (was : ℕ) → O.fault_count out.old ≡ faults_of left.parting was
+        → O.fault_count out.new ≡ faults_told (status_of result.verdict) was }
 {
     let Left {
         parting,
@@ -60,12 +57,12 @@ fn conclude<N: Net, O: Sink>(
     } = left;
     let odd = is_odd(&ends.coordinator, ends.monitors.as_slice());
     match choose(parting, cause, odd) {
-        Choice::WriteFault => Lived::kept(Verdict::of_output(faults.out, out.faults()), ends),
-        Choice::LinkFault => Lived::kept(Verdict::of_link(faults.net, net.faults()), ends),
+        Choice::WriteFault => Lived::kept(Verdict::WriteFault, ends),
+        Choice::LinkFault => Lived::kept(Verdict::of_link(faults, net.faults()), ends),
         Choice::NoMemory => Lived::kept(Verdict::NoMemory, ends),
         Choice::Join => {
             let Input { settings, logs, .. } = input;
-            join_ends(alloc, settings, logs, from, ends, faults.out, out)
+            join_ends(alloc, settings, logs, from, ends, out)
         }
     }
 }
@@ -78,7 +75,7 @@ fn run_stage<R: Threads + Wait + Sync, N: Net, G: Gate + Sync, O: Sink>(
     from: Cut,
     version: u8,
     stage: Stage<N::Link, N::Rest, N::Bell>,
-    faults: Faults,
+    faults: u64,
     gate: &G,
     net: &mut N,
     out: &mut O,
@@ -93,8 +90,8 @@ fn run_stage<R: Threads + Wait + Sync, N: Net, G: Gate + Sync, O: Sink>(
     requires empty { stage.ends.items ≡ [] }
     requires room { length stage.crew.berths.items ≤ vec_capacity stage.ends }
     ensures ends { EndsOver input version (output_by O.Sink out.old out.new) (N.state net.old) (N.state net.new) result }
-    ensures failed { result.verdict ≡ Unlinked → HasRisen faults.net (N.state net.new).faults }
-    ensures unwritten { result.verdict ≡ Unwritten → HasRisen faults.out (O.fault_count out.new) }
+    ensures failed { result.verdict ≡ Unlinked → HasRisen faults (N.state net.new).faults }
+    ensures counted { O.fault_count out.new ≡ faults_told (status_of result.verdict) (O.fault_count out.old) }
 {
     let Stage { hub, crew, ends } = stage;
     let (hub, parting, workers) = play(rt, crew, hub, &input.names, gate, net, out);
@@ -132,14 +129,11 @@ pub fn live_over<R: Threads + Wait + Sync, N: Net, G: Gate + Sync, O: Sink>(
     // Done tells a story that is sound, of this input, whose events it runs; its text is written, and its bytes came over
     // the links. Any other verdict leaves the story or the ends, and a front of what is written of them.
     ensures ends { EndsOver input version (output_by O.Sink out.old out.new) (N.state net.old) (N.state net.new) result }
-    // Each fault has its cause.
+    // A failed link has its cause, and a failed write is told just where there is one.
     ensures failed { result.verdict ≡ Unlinked → HasRisen (N.state net.old).faults (N.state net.new).faults }
-    ensures unwritten { result.verdict ≡ Unwritten → HasRisen (O.fault_count out.old) (O.fault_count out.new) }
+    ensures counted { O.fault_count out.new ≡ faults_told (status_of result.verdict) (O.fault_count out.old) }
 {
-    let faults = Faults {
-        net: net.faults(),
-        out: out.faults(),
-    };
+    let faults = net.faults();
     let Ok(from) = input.logs.start(alloc) else {
         return Lived::unstarted(Verdict::NoMemory);
     };
@@ -156,7 +150,7 @@ pub fn live_over<R: Threads + Wait + Sync, N: Net, G: Gate + Sync, O: Sink>(
         Err(fault) => {
             drop(input);
             drop(from);
-            Lived::unstarted(Verdict::of_net(fault, faults.net, net.faults()))
+            Lived::unstarted(Verdict::of_net(fault, faults, net.faults()))
         }
     }
 }

@@ -1,5 +1,5 @@
 ghost use Rattle.std.specs.Prelude.{◌≡◌};
-ghost use Rattle.tk_live.specs.Parting.{and_failed_of, halts_of, is_done_of, of_fault, of_turn};
+ghost use Rattle.tk_live.specs.Parting.{halts_of, is_done_of, of_fault, of_turn};
 
 use tk_hub::HubTurn;
 use tk_wire::NetFault;
@@ -46,21 +46,6 @@ impl Parting {
         match fault {
             NetFault::Failed => Parting::NetFailed,
             NetFault::NoMemory => Parting::NoMemory,
-        }
-    }
-
-    /// The same end where the net failed behind it. Only an alarm gives way to that.
-    pub fn and_failed(self) -> Parting
-        ensures { result ≡ and_failed_of self }
-    {
-        match self {
-            Parting::Alarmed => Parting::NetFailed,
-            Parting::Finished => self,
-            Parting::Failed => self,
-            Parting::Refused => self,
-            Parting::WriteFailed => self,
-            Parting::NetFailed => self,
-            Parting::NoMemory => self,
         }
     }
 

@@ -2,6 +2,7 @@ ghost use Rattle.std.specs.Prelude.{◌≡◌, map};
 ghost use Rattle.tk_live.specs.Crew.{made_in};
 ghost use Rattle.tk_live.specs.Hosted.{HostsFrom};
 ghost use Rattle.tk_live.specs.Hosting.{CanHost, Hosts};
+ghost use Rattle.tk_live.specs.Parting.{faults_of};
 
 use crate::berths::Crew;
 use crate::crew::{join_all, start};
@@ -98,6 +99,7 @@ pub fn play<R: Threads + Wait + Sync, N: Net, G: Gate + Sync, O: Sink>(
     requires { CanHost hub (N.state net.old) names.now }
     ensures hosts { Hosts result.1 names.now hub result.0 (N.state net.old) (N.state net.new)
         (O.written out.old) (O.written out.new) }
+    ensures counted { O.fault_count out.new ≡ faults_of result.1 (O.fault_count out.old) }
     ensures made { map (λ w. made_in w.served.end.monitor w.version) result.2.items
         ≡ map (λ b. made_in b.port.monitor b.version) crew.berths.items }
 {

@@ -1,8 +1,8 @@
-ghost use Rattle.std.specs.Prelude.{◌≡◌, ◌≤◌, true, All, [], length, map, sum_by, vec_capacity};
+ghost use Rattle.std.specs.Prelude.{◌≡◌, ◌≤◌, true, None, All, [], length, map, sum_by, vec_capacity};
 ghost use Rattle.tk_trail.specs.Readings.{is_stopped};
 ghost use Rattle.tk_live.specs.Carried.{HasTaken};
 ghost use Rattle.tk_live.specs.Complete.{took_in};
-ghost use Rattle.tk_live.specs.Crew.{graver as graver_of, gravest};
+ghost use Rattle.tk_live.specs.Crew.{IsCalm, graver as graver_of, gravest};
 
 use crate::worked::Worked;
 use tk_serve::{Served, Why};
@@ -45,6 +45,7 @@ pub fn part<N: Net>(
     requires empty { room.items ≡ [] }
     ensures ends { result.0.items ≡ map (λ w. w.served.end) workers.items }
     ensures cause { result.1 ≡ gravest (map (λ w. w.served.why) workers.items) }
+    ensures calm { IsCalm result.1 → All (λ w. w.served.end.odd ≡ None) workers.items }
     ensures stopped { result.1 ≡ Why.Stopped → All (λ w. is_stopped w.served.end.monitor.trail ≡ true) workers.items }
     ensures taken { HasTaken (N.state net.old) (N.state net.new)
         (sum_by (λ w. took_in w.version w.served.end.monitor.trail) workers.items) }

@@ -1,9 +1,9 @@
 ghost use Rattle.std.specs.Prelude.{◌≡◌, false, map, string_bytes};
 ghost use Rattle.tk_input.specs.Files.{HasRisen};
-ghost use Rattle.tk_live.specs.Serving.{EndsWords};
+ghost use Rattle.tk_live.specs.Serving.{EndsWords, faults_told};
 ghost use Rattle.tk_live.specs.Traffic.{all_met};
 ghost use Rattle.tk_load.specs.Reads.{AreKept};
-ghost use Rattle.tk_load.specs.declared.status.Status.TheVariants.{LinkFault as Unlinked, WriteFault as Unwritten};
+ghost use Rattle.tk_load.specs.declared.status.Status.TheVariants.{LinkFault as Unlinked};
 
 use crate::living::live_over;
 use crate::outcome::Outcome;
@@ -36,9 +36,9 @@ pub fn live<R: Threads + Wait + Sync, F: Files, N: Net, G: Gate + Sync, O: Sink>
         (all_met F.Files O.Sink N.state files.old files.new out.old out.new net.old net.new) result }
     // Reading changes nothing that is told of the files.
     ensures kept { AreKept F.Files files.old files.new }
-    // Each fault has its cause.
+    // A failed link has its cause, and a failed write is told just where there is one.
     ensures failed { result.status ≡ Unlinked → HasRisen (N.state net.old).faults (N.state net.new).faults }
-    ensures unwritten { result.status ≡ Unwritten → HasRisen (O.fault_count out.old) (O.fault_count out.new) }
+    ensures counted { O.fault_count out.new ≡ faults_told result.status (O.fault_count out.old) }
 {
     let words = match read(alloc, words) {
         Ok(Command::Live(words)) => words,

@@ -1,4 +1,4 @@
-ghost use Rattle.std.specs.Prelude.{◌≡◌, ◌+◌, ◌<◌, ◌≤◌, true, false, [], length, map, IfOk, vec_capacity};
+ghost use Rattle.std.specs.Prelude.{◌≡◌, ◌+◌, ◌<◌, ◌≤◌, true, false, All, [], length, map, IfOk, vec_capacity};
 ghost use Rattle.tk_frames.specs.Spelling.{IsVersion};
 ghost use Rattle.tk_hub.specs.declared.course.Course.TheVariants.{Open};
 ghost use Rattle.tk_input.specs.Logs.{IsCut};
@@ -54,6 +54,7 @@ fn make_berth<N: Net>(
     requires listens { (N.state net.old).listens ≡ true }
     requires links { (N.state net.old).links < 64 }
     ensures made { IfOk result (λ b. made_in b.port.monitor b.version ≡ planned plan.now mon.0) }
+    ensures run { IfOk result (λ b. b.port.run ≡ plan.now.run) }
     ensures links { IfOk result (λ b. (N.state net.new).links ≡ (N.state net.old).links + 1) }
     ensures gone { HasGone (N.state net.old) (N.state net.new) }
 {
@@ -90,6 +91,7 @@ fn make_berths<N: Net>(
     requires listens { (N.state net.old).listens ≡ true }
     requires links { (N.state net.old).links ≡ 0 }
     ensures made { IfOk result (λ all. map (λ b. made_in b.port.monitor b.version) all.items ≡ all_planned plan.now) }
+    ensures runs { IfOk result (λ all. All (λ b. b.port.run ≡ plan.now.run) all.items) }
     ensures gone { HasGone (N.state net.old) (N.state net.new) }
 {
     let count = plan.input.settings.monitors();
@@ -120,6 +122,7 @@ fn make_crew<N: Net>(
     requires listens { (N.state net.old).listens ≡ true }
     requires links { (N.state net.old).links ≡ 0 }
     ensures made { IfOk result (λ c. map (λ b. made_in b.port.monitor b.version) c.berths.items ≡ all_planned plan.now) }
+    ensures runs { IfOk result (λ c. All (λ b. b.port.run ≡ plan.now.run) c.berths.items) }
     ensures gone { HasGone (N.state net.old) (N.state net.new) }
 {
     let berths = make_berths(alloc, plan, net)?;
@@ -140,6 +143,7 @@ fn make_crew<N: Net>(
 
 /// A hub for the settings of an input.
 fn make_hub<W: Wire + Drop>(alloc: Global, plan: &Plan<'_>) -> Result<Hub<W>, NetFault>
+    ensures run { IfOk result (λ hub. hub.run ≡ plan.now.run) }
     ensures settings { IfOk result (λ hub. hub.coordinator.settings ≡ plan.now.input.now.settings) }
     ensures begins { IfOk result (λ hub. hub.coordinator.journal ≡ opened (begun_by plan.now.input.now.settings)) }
     ensures course { IfOk result (λ hub. hub.course ≡ Open) }
@@ -172,6 +176,9 @@ pub fn make_stage<N: Net>(
     ensures unwritten { IfOk result (λ s. publications s.hub.coordinator.journal ≡ []) }
     ensures unstopped { IfOk result (λ s. is_stopped s.hub.coordinator.journal ≡ false) }
     ensures made { IfOk result (λ s. map (λ b. made_in b.port.monitor b.version) s.crew.berths.items ≡ all_planned plan.now) }
+    // The hub lets in who says the number of the run, and each port says it.
+    ensures run { IfOk result (λ s. s.hub.run ≡ plan.now.run) }
+    ensures runs { IfOk result (λ s. All (λ b. b.port.run ≡ plan.now.run) s.crew.berths.items) }
     ensures empty { IfOk result (λ s. s.ends.items ≡ []) }
     ensures ends { IfOk result (λ s. length s.crew.berths.items ≤ vec_capacity s.ends) }
     ensures gone { HasGone (N.state net.old) (N.state net.new) }

@@ -2,7 +2,7 @@ ghost use Rattle.std.specs.Prelude.{◌≡◌, ◌⊎◌, true, None, Some};
 ghost use Rattle.tk_live.specs.Joined.{joined_as};
 ghost use Rattle.tk_input.specs.Files.{HasRisen};
 ghost use Rattle.tk_live.specs.declared.verdict.Verdict.TheVariants.{LinkFault as Unlinked};
-ghost use Rattle.tk_live.specs.declared.verdict.Verdict.TheVariants.{NoMemory as OutOfMemory, WriteFault as Unwritten};
+ghost use Rattle.tk_live.specs.declared.verdict.Verdict.TheVariants.{NoMemory as OutOfMemory};
 
 use tk_base::Mon;
 use tk_frames::Frame;
@@ -79,18 +79,6 @@ impl Verdict {
                 received,
             },
             JoinFault::NoMemory => Verdict::NoMemory,
-        }
-    }
-
-    /// The output was not written, as its count of faults shows.
-    pub fn of_output(old: u64, new: u64) -> Verdict
-        ensures is { (result ≡ Unwritten) ⊎ (result ≡ OutOfMemory) }
-        ensures risen { result ≡ Unwritten → HasRisen old new }
-    {
-        if has_risen(old, new) {
-            Verdict::WriteFault
-        } else {
-            Verdict::NoMemory
         }
     }
 }

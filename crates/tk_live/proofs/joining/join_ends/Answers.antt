@@ -1,6 +1,9 @@
-use Rattle.std.proofs.Common.{◌≡◌, ap, ◌∙◌}
+use Rattle.std.proofs.Common.{◌≡◌, sym, ap, ◌∙◌}
 use Rattle.tk_story.specs.Ends.{joined, kept_by}
 use Rattle.tk_live.specs.Joined.{joined_as}
+use Rattle.tk_live.specs.Serving.{faults_told, status_of}
+use Rattle.tk_live.specs.declared.verdict.Lived.{Lived}
+use Rattle.tk_live.proofs.CountLemmas.{joined_spared}
 use Rattle.tk_live.proofs.TellLemmas.{complete_story, concludes_joined, kept_as, of_run, of_story}
 use Rattle.tk_live.proofs.joining.join_ends.Goals as goal
 
@@ -20,3 +23,9 @@ returns-in-Err-clause-concludes g c = λ input version was taken taken' from com
     let same : c.in-Err.ends ≡ a.ends = c.in-Err.ensures.err in
     let told : c.kept.result ≡ kept_as (joined_as c.in-Err.fault) a.ends = c.kept.ensures ∙ (ap (λ x. kept_as x c.in-Err.ends) verdict ∙ ap (λ e. kept_as (joined_as c.in-Err.fault) e) same) in
     concludes_joined input version was (g.O.Sink.written a.out.now) taken taken' c.in-Err.fault a.ends c.kept.result (of_run input a.settings a.logs a.from a.ends from c.requires) front c.in-Err.ensures.differs told
+
+pub returns-in-Err-clause-counted : goal.returns-in-Err-clause-counted
+returns-in-Err-clause-counted g c =
+    let told = ap (λ (l : Lived). l.verdict) c.kept.ensures ∙ c.of_join.ensures in
+    let before = g.O.Sink.fault_count c.args.out.now in
+    joined_spared c.in-Err.fault before ∙ ap (λ x. faults_told (status_of x) before) (sym told)

@@ -1,6 +1,7 @@
-use Rattle.std.proofs.Common.{◌≡◌, ◌≤◌, ◌+◌, ◌-◌, ◌^◌, List, length, map, min, sum_by, sym, ap, ◌∙◌, subst, arith}
+use Rattle.std.proofs.Common.{◌≡◌, ◌≤◌, ◌+◌, ◌-◌, ◌^◌, List, All, None, length, map, min, sum_by, sym, ap, ◌∙◌, subst, arith}
 use Rattle.std.specs.List.{concat}
 use Rattle.std.proofs.lemmas.List.{length-map}
+use Rattle.std.proofs.lemmas.List.Elements.{All-map}
 use Rattle.std.proofs.lemmas.List.FromFn.{length-map-range_with_len}
 use Rattle.tk_base.specs.History.{IsFront}
 use Rattle.tk_base.specs.Settings.{Setup}
@@ -17,6 +18,7 @@ use Rattle.tk_live.specs.Crew.{made_in}
 use Rattle.tk_live.specs.Hosting.{Hosts}
 use Rattle.tk_live.specs.Made.{made_of}
 use Rattle.tk_live.specs.Traffic.{traffic_of}
+use Rattle.tk_live.proofs.ChoiceLemmas.{odd_none}
 use Rattle.tk_live.proofs.CompleteLemmas.{complete_ends, complete_hub, ends_made, made_run, trails_stopped, trails_sum, writes_front}
 use Rattle.tk_live.proofs.living.run_stage.Goals as goal
 
@@ -41,6 +43,18 @@ conclude-requires-clause-run g c κs within =
     let made = ap (λ xs. map (λ (e : MonEnd). as_made e.monitor) xs) c.part-monitors.ensures.ends
     ∙ ends_made (λ w. w.served.end) (λ w. w.version) c.args.version (made_for input.settings input.logs c.args.from) (numbers input.settings) c.play-hub.result.2.items whole in
     subst (λ f. AreOfOneRun coordinator monitors input.logs input.settings f) c.requires.from (made_run input c.args.from coordinator monitors c.requires.agreed c.requires.cut settings begins made)
+
+-- what is odd was refused by the hub, or left by a worker
+pub conclude-requires-clause-odd : goal.conclude-requires-clause-odd
+conclude-requires-clause-odd g c κs within =
+    let hub = c.play-hub.result.0 in
+    let p = c.part-monitors.ensures in record {
+      hub = λ never. odd_none hub.course hub.links c.into_end-coordinator.result.0.odd (c.play-hub.ensures.hosts.unrefused never) c.into_end-coordinator.ensures.odd;
+      workers = λ calm. subst (λ ms. All (λ (end : MonEnd). end.odd ≡ None) ms) (sym p.ends) (All-map (λ (end : MonEnd). end.odd ≡ None) (λ w. w.served.end) c.play-hub.result.2.items (p.calm calm));
+    }
+
+pub returns-clause-counted : goal.returns-clause-counted
+returns-clause-counted g c = c.conclude.ensures.counted (g.O.Sink.fault_count c.args.out.now) c.play-hub.ensures.counted
 
 pub returns-clause-ends : goal.returns-clause-ends
 returns-clause-ends g c =

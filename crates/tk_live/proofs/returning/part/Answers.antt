@@ -1,4 +1,4 @@
-use Rattle.std.proofs.Common.{◌≡◌, ◌++◌, ◌∷◌, [], All, true, length, map, arith, rules, sym, ◌∙◌, subst, ap}
+use Rattle.std.proofs.Common.{◌≡◌, ◌++◌, ◌∷◌, [], All, true, None, length, map, arith, rules, sym, ◌∙◌, subst, ap}
 use Rattle.std.proofs.lemmas.Iterator.Adapters.{YieldsList-from_vec}
 use Rattle.std.proofs.lemmas.Iterator.Consumers.{YieldsList-end, YieldsList-turn}
 use Rattle.std.proofs.lemmas.List.{length_push, map-append, map-id}
@@ -7,8 +7,8 @@ use Rattle.std.proofs.lemmas.List.Sums.{sum_by_push}
 use Rattle.tk_serve.specs.declared.served.Why.TheVariants.{Stopped}
 use Rattle.tk_trail.specs.Readings.{is_stopped, taken_by}
 use Rattle.tk_live.specs.Carried.{bytes_of}
-use Rattle.tk_live.specs.Crew.{graver as graver_of, gravest}
-use Rattle.tk_live.proofs.CauseLemmas.{gravest_push, stopped_both, why_stopped}
+use Rattle.tk_live.specs.Crew.{IsCalm, graver as graver_of, gravest}
+use Rattle.tk_live.proofs.CauseLemmas.{calm_both, gravest_push, stopped_both, why_calm, why_stopped}
 use Rattle.tk_live.proofs.returning.part.Goals as goal
 
 pub push_reserved-requires : goal.push_reserved-requires
@@ -26,6 +26,9 @@ loop-worked-preserved g c =
     let cause = c.graver-cause.ensures ∙ ap (λ k. graver_of k one.served.why) before.cause in record {
       ends = c.push_reserved.ensures.items ∙ ap (λ xs. xs ++ one.served.end ∷ []) before.ends ∙ sym (map-append (λ w. w.served.end) done (one ∷ []));
       cause = cause ∙ sym (ap gravest (map-append (λ w. w.served.why) done (one ∷ [])) ∙ gravest_push (map (λ w. w.served.why) done) one.served.why);
+      calm = λ is.
+          let both = calm_both c.loop-worked.cause one.served.why (subst IsCalm c.graver-cause.ensures is) in
+          All-push (λ w. w.served.end.odd ≡ None) done one (before.calm both.0) (why_calm one.served.end (g.N.Link.Wire.counts one.served.link) (g.N.Rest.Rest.fault_count one.served.rest) (subst IsCalm one.why both.1));
       stopped = λ is.
           let both = stopped_both c.loop-worked.cause one.served.why (sym c.graver-cause.ensures ∙ is) in
           All-push (λ w. is_stopped w.served.end.monitor.trail ≡ true) done one (before.stopped both.0) (why_stopped one.served.end (g.N.Link.Wire.counts one.served.link) (g.N.Rest.Rest.fault_count one.served.rest) (sym one.why ∙ both.1));
@@ -48,3 +51,8 @@ pub returns-clause-stopped : goal.returns-clause-stopped
 returns-clause-stopped g c =
     let whole = YieldsList-end (YieldsList-from_vec {s = c.into_iter-worked-iterator.result} c.args.workers.items (search rules) (search rules)) c.loop-worked.yielded c.loop-worked.worked-iterator c.loop-worked.yielded_by c.next.result c.next.new.self c.in-None.is c.next.ensures.steps in
     subst (λ xs. c.loop-worked.cause ≡ Stopped → All (λ w. is_stopped w.served.end.monitor.trail ≡ true) xs) (sym (map-id c.loop-worked.yielded) ∙ whole.0) c.loop-worked.invariant.stopped
+
+pub returns-clause-calm : goal.returns-clause-calm
+returns-clause-calm g c =
+    let whole = YieldsList-end (YieldsList-from_vec {s = c.into_iter-worked-iterator.result} c.args.workers.items (search rules) (search rules)) c.loop-worked.yielded c.loop-worked.worked-iterator c.loop-worked.yielded_by c.next.result c.next.new.self c.in-None.is c.next.ensures.steps in
+    subst (λ xs. IsCalm c.loop-worked.cause → All (λ w. w.served.end.odd ≡ None) xs) (sym (map-id c.loop-worked.yielded) ∙ whole.0) c.loop-worked.invariant.calm

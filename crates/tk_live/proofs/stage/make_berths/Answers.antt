@@ -1,6 +1,7 @@
-use Rattle.std.proofs.Common.{◌≡◌, ◌+◌, ◌++◌, ◌∷◌, [], map, sym, ◌∙◌, ap, arith, rules}
+use Rattle.std.proofs.Common.{◌≡◌, ◌+◌, ◌++◌, ◌∷◌, [], map, All, sym, subst, ◌∙◌, ap, arith, rules}
 use Rattle.std.specs.List.{range_with_len}
 use Rattle.std.proofs.lemmas.List.{map-append}
+use Rattle.std.proofs.lemmas.List.Elements.{All-push}
 use Rattle.tk_live.specs.Crew.{made_in}
 use Rattle.tk_live.specs.Made.{made_of}
 use Rattle.tk_live.proofs.HostLemmas.{gone_on}
@@ -20,6 +21,7 @@ loop-j-preserved g c =
           ∙ ap (λ xs. xs ++ made_in c.in-Ok-make_berth.berth.port.monitor c.in-Ok-make_berth.berth.version ∷ []) before.made
           ∙ ap (λ x. map of_ (range_with_len 1 c.loop-j.j) ++ x ∷ []) c.in-Ok-make_berth.ensures.made
           ∙ sym (counted_more of_ c.loop-j.j);
+      runs = subst (λ bs. All (λ b. b.port.run ≡ c.args.plan.now.run) bs) (sym c.push_reserved.ensures.items) (All-push (λ b. b.port.run ≡ c.args.plan.now.run) c.loop-j.berths.items c.in-Ok-make_berth.berth before.runs c.in-Ok-make_berth.ensures.run);
       gone = gone_on _ _ _ before.gone c.make_berth.ensures.gone;
       count = search rules;
       room = search rules;

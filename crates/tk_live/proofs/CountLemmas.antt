@@ -1,0 +1,80 @@
+-- How many puts of the output failed, by how the loop, the printing and the run ended.
+use Rattle.std.proofs.Common.{◌≡◌, ◌⊎◌, ℕ, true, Option, Some, None, Result, Ok, Err, refl, sym, ap, ◌∙◌, inl, inr}
+use Rattle.std.specs.Prelude.{unwrap_or}
+use Rattle.tk_hub.specs.Writing.{turn_faults}
+use Rattle.tk_hub.specs.declared.course.HubTurn.{HubTurn}
+use Rattle.tk_hub.specs.declared.course.HubTurn.TheVariants as t
+use Rattle.tk_ledger.specs.Printing.{print_faults}
+use Rattle.tk_ledger.specs.declared.printing.PrintFault.{PrintFault}
+use Rattle.tk_ledger.specs.declared.printing.PrintFault.TheVariants as g
+use Rattle.tk_story.specs.declared.ends.join_fault.JoinFault.{JoinFault}
+use Rattle.tk_story.specs.declared.ends.join_fault.JoinFault.TheVariants as f
+use Rattle.tk_live.specs.Hosting.{IsOfNet}
+use Rattle.tk_live.specs.Joined.{joined_as}
+use Rattle.tk_live.specs.Joining.{printed_as}
+use Rattle.tk_live.specs.Parting.{faults_of, of_turn}
+use Rattle.tk_live.specs.Serving.{faults_told, status_of}
+use Rattle.tk_live.specs.declared.parting.Parting.{Parting}
+use Rattle.tk_live.specs.declared.parting.Parting.TheVariants as p
+use Rattle.tk_live.specs.declared.verdict.Lived.{Lived}
+use Rattle.tk_live.specs.declared.verdict.Verdict.{Verdict}
+use Rattle.tk_live.specs.declared.verdict.Verdict.TheVariants as v
+
+-- ---- the loop
+
+-- the net writes nothing
+pub faults_net : (parting : Parting) → IsOfNet parting → (faults : ℕ) → faults_of parting faults ≡ faults
+faults_net p.NetFailed is faults = refl
+faults_net p.NoMemory is faults = refl
+faults_net p.Finished is faults = absurd is
+faults_net p.Alarmed is faults = absurd is
+faults_net p.Failed is faults = absurd is
+faults_net p.Refused is faults = absurd is
+faults_net p.WriteFailed is faults = absurd is
+
+turned_as : (turn : HubTurn) (faults : ℕ) → turn_faults turn faults ≡ faults_of (unwrap_or (of_turn turn) p.Finished) faults
+turned_as t.Quiet faults = refl
+turned_as t.More faults = refl
+turned_as t.Finished faults = refl
+turned_as t.Failed faults = refl
+turned_as (t.Refused mon why) faults = refl
+turned_as (t.Bad mon why) faults = refl
+turned_as t.WriteFailed faults = refl
+turned_as t.NoMemory faults = refl
+
+-- a turn that ends the loop failed to write where that end tells it, and one that does not end it has written
+pub faults_turned : (turn : HubTurn) (parting : Option Parting) → of_turn turn ≡ parting → (faults : ℕ) → turn_faults turn faults ≡ faults_of (unwrap_or parting p.Finished) faults
+faults_turned turn parting is faults = turned_as turn faults ∙ ap (λ o. faults_of (unwrap_or o p.Finished) faults) is
+
+pub same_count : (parting : Parting) (old now after : ℕ) → now ≡ faults_of parting old → after ≡ now → after ≡ faults_of parting old
+same_count parting old now after is same = same ∙ is
+
+-- ---- the verdict
+
+-- another verdict than a failed write tells of none
+pub told_spared : (verdict : Verdict) → (verdict ≡ v.WriteFault → ⊥) → (faults : ℕ) → faults ≡ faults_told (status_of verdict) faults
+told_spared v.Done never faults = refl
+told_spared v.WriteFault never faults = absurd (never refl)
+told_spared v.LinkFault never faults = refl
+told_spared (v.LinkDiffers mon direction place sent received) never faults = refl
+told_spared v.NoMemory never faults = refl
+
+-- a failed link, or want of memory
+pub link_spared : (verdict : Verdict) → (verdict ≡ v.LinkFault) ⊎ (verdict ≡ v.NoMemory) → (faults : ℕ) → faults ≡ faults_told (status_of verdict) faults
+link_spared verdict (inl is) faults = ap (λ x. faults_told (status_of x) faults) (sym is)
+link_spared verdict (inr is) faults = ap (λ x. faults_told (status_of x) faults) (sym is)
+
+-- so where no worker was started
+pub unstarted_spared : (verdict : Verdict) → (verdict ≡ v.LinkFault) ⊎ (verdict ≡ v.NoMemory) → (lived : Lived) → lived ≡ record { verdict = verdict; story = None; ends = None } → (faults : ℕ) → faults ≡ faults_told (status_of lived.verdict) faults
+unstarted_spared verdict which lived is faults = link_spared verdict which faults ∙ ap (λ (l : Lived). faults_told (status_of l.verdict) faults) (sym is)
+
+-- a difference, or want of memory
+pub joined_spared : (why : JoinFault) (faults : ℕ) → faults ≡ faults_told (status_of (joined_as why)) faults
+joined_spared (f.Differs mon direction place sent received) faults = refl
+joined_spared f.NoMemory faults = refl
+
+-- the verdict on a ledger that was printed
+pub printed_told : {A : Type 0} (printed : Result A PrintFault) (faults : ℕ) → print_faults printed faults ≡ faults_told (status_of (printed_as printed)) faults
+printed_told (Ok done) faults = refl
+printed_told (Err g.WriteFailed) faults = refl
+printed_told (Err g.NoMemory) faults = refl

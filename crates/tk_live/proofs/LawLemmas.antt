@@ -1,0 +1,54 @@
+-- An input that the files tell is run live.
+use Rattle.std.proofs.Common.{◌≡◌, ◌∙◌, ℕ, true, false, List, Some, Option, Result, Err, is_ok, refl, sym, subst}
+use Rattle.tk_words.specs.Words.{LiveWords, words_of}
+use Rattle.tk_load.specs.Faults.{Fault}
+use Rattle.tk_load.specs.Input.{input_of}
+use Rattle.tk_load.specs.Laws.{WhatIsToldIsMeant}
+use Rattle.tk_load.specs.Reads.{Loads, Tells}
+use Rattle.tk_load.specs.Told.{read_by}
+use Rattle.tk_load.specs.declared.status.Status.{Status}
+use Rattle.tk_load.specs.declared.status.Status.TheVariants as s
+use Rattle.tk_story.specs.declared.ends.Ends.{Ends}
+use Rattle.tk_live.specs.Laws.{GivesInput, IsLived}
+use Rattle.tk_live.specs.Lived.{TellsEnds}
+use Rattle.tk_live.specs.Serving.{EndsWords, served, status_of}
+use Rattle.tk_live.specs.Serving.EndsWords.{Ran, Refused, Unmet, Unread}
+use Rattle.tk_live.specs.Traffic.{LiveSurroundings}
+use Rattle.tk_live.specs.declared.outcome.Outcome.{Outcome}
+use Rattle.tk_live.specs.declared.verdict.Verdict.{Verdict}
+use Rattle.tk_live.specs.declared.verdict.Verdict.TheVariants as v
+
+-- no fault is told of what is meant
+no_fault : {V : Type 0} (meant : Result V Fault) (fault : Fault) → is_ok meant ≡ true → meant ≡ Err fault → ⊥
+no_fault {V} meant fault ok is = let bad : false ≡ true = subst (λ (m : Result V Fault). is_ok m ≡ true) is ok in cc (bad)
+
+meant_is_lived : {V : Type 0} (meant : Result V Fault) (status : Status) (ends : Option Ends) → is_ok meant ≡ true → Tells status meant → IsLived status ends
+meant_is_lived meant (s.ReadFault file) ends ok tells = absurd (no_fault meant _ ok tells)
+meant_is_lived meant (s.BadInput file line kind) ends ok tells = absurd (no_fault meant _ ok tells)
+meant_is_lived meant (s.TooGreat mon obj) ends ok tells = absurd (no_fault meant _ ok tells)
+meant_is_lived meant s.NoMemory ends ok tells = tt
+meant_is_lived meant s.Done ends ok tells = absurd tells
+meant_is_lived meant s.Usage ends ok tells = absurd tells
+meant_is_lived meant s.WriteFault ends ok tells = absurd tells
+meant_is_lived meant s.LinkFault ends ok tells = absurd tells
+meant_is_lived meant (s.LinkDiffers mon direction place sent received) ends ok tells = absurd tells
+meant_is_lived meant (s.BadTrace file fault) ends ok tells = absurd tells
+
+-- a run whose links did not fail, and whose output was written
+verdict_is_lived : (verdict : Verdict) (ends : Option Ends) → (status_of verdict ≡ s.LinkFault → ⊥) → (status_of verdict ≡ s.WriteFault → ⊥) → TellsEnds verdict ends → IsLived (status_of verdict) ends
+verdict_is_lived v.Done ends linked written tells = tt
+verdict_is_lived v.NoMemory ends linked written tells = tt
+verdict_is_lived (v.LinkDiffers mon direction place sent received) ends linked written tells = tells
+verdict_is_lived v.LinkFault ends linked written tells = absurd (linked refl)
+verdict_is_lived v.WriteFault ends linked written tells = absurd (written refl)
+
+pub input_is_lived : WhatIsToldIsMeant input_of → (words : List (List ℕ)) (asked : LiveWords) (met : LiveSurroundings) (contents : List ℕ → List ℕ) (outcome : Outcome) → served (words_of words) ≡ Some asked → GivesInput met contents asked
+    → (outcome.status ≡ s.LinkFault → ⊥) → (outcome.status ≡ s.WriteFault → ⊥) → EndsWords words met outcome → IsLived outcome.status outcome.ends
+input_is_lived law words asked met contents outcome understood given linked written (Refused none usage unstarted) = absurd (cc (none, understood))
+input_is_lived law words asked met contents outcome understood given linked written (Unmet is unstarted) = subst (λ st. IsLived st outcome.ends) (sym is) tt
+input_is_lived law words asked met contents outcome understood given linked written (Unread found is loads unstarted) =
+    let same : found ≡ asked = cc (is, understood) in
+    let here = subst (λ (a : LiveWords). Loads met.reads a.sources (Err outcome.status)) same loads in
+    meant_is_lived (input_of (read_by contents asked.sources)) outcome.status outcome.ends given.meant (law met.reads contents asked.sources (Err outcome.status) given.told here)
+input_is_lived law words asked met contents outcome understood given linked written (Ran found input is loads run) =
+    subst (λ st. IsLived st outcome.ends) (sym run.told) (verdict_is_lived run.verdict outcome.ends (λ e. linked (run.told ∙ e)) (λ e. written (run.told ∙ e)) run.concludes.differs)
