@@ -1,6 +1,6 @@
 """Makes the table of docs/definitions.md, and compares it with what stands there; with --write it writes it.
 
-The table has each definition of a specs/ folder that an ensures of a public call of these crates cites, and those that
+The table has each relation and record of a specs/ folder that an ensures of a public call of these crates cites, and what
 they stand on most, with the comment above it. The crates are those that say what a finished run is and what the program's
 calls promise. Every other definition has its line in the file that a contract's imports name.
 """
@@ -68,9 +68,12 @@ def cited(crate):
 
 
 def rows():
-    for crate, file, name in sorted({each for crate in CRATES for each in cited(crate)} | set(STOOD_ON)):
+    # A function is read where it stands; a relation or a record is what a reader looks up.
+    relations = {each for crate in CRATES for each in cited(crate) if each[2][0].isupper()}
+    for crate, file, name in sorted(relations | set(STOOD_ON)):
         line = dict(defined_in(crate, file)).get(name)
-        if line:
+        # One that says "the same" of other arguments means nothing away from its file.
+        if line and not line.startswith("the same "):
             yield f"| `{name}` | {crate}/{file} | {line} |\n"
 
 

@@ -27,7 +27,8 @@ use Rattle.tk_alloc.proofs.PartLemmas.{objects_put}
 use Rattle.tk_alloc.proofs.RoundLemmas.{own_part, bordered, member_value, other_value, present_no_debt}
 use Rattle.tk_alloc.proofs.ShortLemmas.{one_takes}
 use Rattle.tk_alloc.proofs.FullLemmas.{IsCalled, full_ranked, full_no_debt}
-use Rattle.tk_alloc.proofs.WideLemmas.{IsWideCalled, wide_own, wide_value, wide_order_kept, slight_own, slight_at, leeway_size, of_catalogue, in_catalogue, catalogue_length}
+use Rattle.tk_alloc.specs.Limit.{CanWiden}
+use Rattle.tk_alloc.proofs.WideLemmas.{wide_own, wide_value, wide_order_kept, slight_own, slight_at, leeway_size, of_catalogue, in_catalogue, catalogue_length}
 use Rattle.tk_journal.specs.Laws.{IsMonitor, AreSentShort}
 use Rattle.tk_journal.specs.Readings.{assigns_sent, members_at, table_at, tunings, first_round, in_force}
 use Rattle.tk_journal.specs.Deciding.{is_within_limit, short_decides, full_decides, wide_decides, passes_short_test}
@@ -167,7 +168,7 @@ full_standing s j reports some c within =
 -- ---- a wide round
 
 pub record IsWideAt (s : Setup) (j : List Noted) (reports : List Reported) : Type 0 where
-  pub called : IsWideCalled (in_force s j) (table_at s j) reports
+  pub called : CanWiden (in_force s j) (table_at s j) reports
   pub sizes : AreSized s j
 
 pub wide_ascends : (n : ℕ) → IsAscending (objects n)
