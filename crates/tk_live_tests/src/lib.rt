@@ -1,6 +1,7 @@
 //! The tests of tk_live of what its runs leave and how they end, which no clause says: over links in memory they are done, and just
-//! the bytes of their frames go over the links; over a net whose calls fail or that turns a byte they end with
-//! a failed link or a difference; and two feeders run at once. What is run is an input, so no words and files are linked.
+//! the bytes of their frames go over the links; over a net whose calls fail or that turns a byte, up or down, they end with
+//! a failed link or a difference; a failing output ends them; and two feeders run at once. What is run is an input, but for one
+//! run from words and files.
 #![tactic(auto)]
 
 #[cfg(test)]
@@ -9,3 +10,5 @@ mod case;
 mod meeting;
 #[cfg(test)]
 mod tests;
+#[cfg(test)]
+mod words;

@@ -2,14 +2,17 @@ ghost use Rattle.std.specs.Prelude.{◌≡◌, false, IfSome};
 
 use crate::case::Case;
 use crate::meeting::Meeting;
+use crate::words::{files, words};
 use std::alloc::Global;
 use std::marker::Sync;
 use std::sync::Wait;
 use std::test::Fail;
 use std::thread::Threads;
-use tk_input::VecSink;
-use tk_live::{Verdict, live_over};
+use tk_input::{MapFiles, Sink, VecSink};
+use tk_live::{Verdict, live, live_over};
+use tk_load::Status;
 use tk_net::MemNet;
+use tk_story::Direction;
 use tk_wire::Net;
 
 /// The call at which each net in memory fails, so that no run waits for ever: one that needs so many ends with a failed link.
@@ -22,18 +25,25 @@ const ROOM: usize = 1_000;
 #[derive(Clone, Copy, Debug, PartialEq)]
 enum Ended {
     Done,
+    WriteFault,
     LinkFault,
-    LinkDiffers,
-    Otherwise,
+    /// A link up differs.
+    UpDiffers,
+    /// A link down differs.
+    DownDiffers,
+    NoMemory,
 }
 
 fn end_of(verdict: &Verdict) -> Ended {
     match verdict {
         Verdict::Done => Ended::Done,
+        Verdict::WriteFault => Ended::WriteFault,
         Verdict::LinkFault => Ended::LinkFault,
-        Verdict::LinkDiffers { .. } => Ended::LinkDiffers,
-        Verdict::WriteFault => Ended::Otherwise,
-        Verdict::NoMemory => Ended::Otherwise,
+        Verdict::LinkDiffers { direction, .. } => match direction {
+            Direction::UpLink => Ended::UpDiffers,
+            Direction::DownLink => Ended::DownDiffers,
+        },
+        Verdict::NoMemory => Ended::NoMemory,
     }
 }
 
@@ -211,14 +221,24 @@ fn odd_call<R: Threads + Wait + Sync>(rt: &R, alloc: Global) -> Option<u64> {
 }
 
 /// Behind the Hello of 18 bytes come the four of the length of the first Assign, its kind, its number, and its members.
-const BYTES: [u64; 5] = [18, 22, 30, 34, 38];
+const DOWN: [u64; 5] = [18, 22, 30, 34, 38];
 
-/// The first of these bytes that ends a run otherwise than as a difference once it is turned.
-fn odd_byte<R: Threads + Wait + Sync>(rt: &R, alloc: Global) -> Option<u64> {
-    for byte in BYTES {
-        match in_the_open(rt, alloc, Case::OneMonitor, MOST, Some(byte)) {
-            Some((Ended::LinkDiffers, true, _)) => {}
-            _ => return Some(byte),
+/// Behind the 25 bytes of the Assign come the four of the length of the first Settled, its kind, its number, whether it is the
+/// last, and how many places it has. With another number it is refused, and otherwise it is no frame.
+const UP: [u64; 5] = [43, 47, 55, 56, 60];
+
+/// The first of these bytes that ends a run otherwise than so, with nothing written, once it is turned.
+fn odd_byte<R: Threads + Wait + Sync>(
+    rt: &R,
+    alloc: Global,
+    bytes: [u64; 5],
+    ended: Ended,
+) -> Option<u64> {
+    for byte in bytes {
+        if in_the_open(rt, alloc, Case::OneMonitor, MOST, Some(byte))
+            != Some((ended, true, false))
+        {
+            return Some(byte);
         }
     }
     None
@@ -232,6 +252,78 @@ fn a_call_that_fails_is_a_failed_link_or_too_late(rt: HostRuntime) -> Result<(),
 
 #[test]
 fn a_turned_byte_of_a_frame_is_a_difference(rt: HostRuntime) -> Result<(), Fail> {
-    assert_eq!(rt; odd_byte(&rt, rt.alloc()), None);
+    let alloc = rt.alloc();
+    let down = odd_byte(&rt, alloc, DOWN, Ended::DownDiffers);
+    let up = odd_byte(&rt, alloc, UP, Ended::UpDiffers);
+    assert_eq!(rt; (down, up), (None, None));
+    Ok(())
+}
+
+/// How a run ends whose first put fails, and how many puts failed.
+fn unwritten<R: Threads + Wait + Sync>(rt: &R, alloc: Global) -> Option<(Ended, u64)> {
+    let fails = Vec::from_slice(alloc, &[1]).ok()?;
+    let mut out = VecSink::new(alloc, ROOM, fails).ok()?;
+    let gate = Meeting::open();
+    let ended = over_memory(rt, alloc, Case::OneMonitor, MOST, None, &gate, &mut out);
+    let faults = out.faults();
+    drop(out);
+    Some((ended?, faults))
+}
+
+#[test]
+fn a_failing_output_ends_a_live_run(rt: HostRuntime) -> Result<(), Fail> {
+    assert_eq!(rt; unwritten(&rt, rt.alloc()), Some((Ended::WriteFault, 1)));
+    Ok(())
+}
+
+/// Whether words that name these files are done over a net.
+fn is_done<R: Threads + Wait + Sync>(
+    rt: &R,
+    alloc: Global,
+    words: &[String],
+    files: &mut MapFiles,
+    net: &mut MemNet,
+    out: &mut VecSink,
+) -> bool
+    requires listens { net.old.state.listens ≡ false }
+    requires links { net.old.state.links ≡ 0 }
+{
+    let status = live(rt, alloc, words, files, net, 5, &Meeting::open(), out).into_status();
+    let is_done = matches!(&status, Status::Done);
+    drop(status);
+    is_done
+}
+
+/// Whether the words of two monitors are done over links in memory.
+fn are_done<R: Threads + Wait + Sync>(rt: &R, alloc: Global, out: &mut VecSink) -> Option<bool> {
+    let mut net = memory(alloc, MOST, None)?;
+    let Some(words) = words(alloc) else {
+        drop(net);
+        return None;
+    };
+    let Some(mut files) = files(alloc) else {
+        drop(net);
+        drop(words);
+        return None;
+    };
+    let are_done = is_done(rt, alloc, words.as_slice(), &mut files, &mut net, out);
+    drop(net);
+    drop(words);
+    drop(files);
+    Some(are_done)
+}
+
+/// The same, and whether the last set is a over the whole logs.
+fn run_words<R: Threads + Wait + Sync>(rt: &R, alloc: Global) -> Option<(bool, bool)> {
+    let mut out = VecSink::new(alloc, ROOM, Vec::new(alloc)).ok()?;
+    let are_done = are_done(rt, alloc, &mut out);
+    let is_told = has(out.written(), b" cut 1:1 2:1 members a\n");
+    drop(out);
+    Some((are_done?, is_told))
+}
+
+#[test]
+fn words_and_files_are_run_over_memory(rt: HostRuntime) -> Result<(), Fail> {
+    assert_eq!(rt; run_words(&rt, rt.alloc()), Some((true, true)));
     Ok(())
 }
