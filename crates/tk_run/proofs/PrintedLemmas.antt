@@ -9,7 +9,8 @@ use Rattle.tk_journal.specs.Walks.{walk}
 use Rattle.tk_journal.specs.declared.noted.Noted.{Noted}
 use Rattle.tk_journal.specs.declared.noted.Noted.TheVariants as n
 use Rattle.tk_journal.specs.declared.publication.Publication.{Publication}
-use Rattle.tk_ledger.specs.Text.{is_tuned, line_with, lines_by, lines_of, sets_text, text_of, ticked_text_of}
+use Rattle.tk_window.specs.TickEnds.{ticks_at}
+use Rattle.tk_ledger.specs.Text.{ticks_text, is_tuned, line_with, lines_by, lines_of, sets_text, text_of, ticked_text_of}
 use Rattle.tk_load.specs.Surroundings.{Output}
 use Rattle.tk_story.specs.Story.{StoryView}
 use Rattle.tk_verify.specs.Headline.{ArePublishedValid}
@@ -25,7 +26,7 @@ module _ (ends : Option (List (List (List ℕ)))) (names : List (List ℕ)) (s :
   published : (o : Option (List (List (List ℕ)))) → o ≡ ends → (before : List Noted) (p : Publication) (after : List Noted) (lines : List (List ℕ)) → s.journal ≡ before ++ n.Published p ∷ after → All Tells lines
       → All Tells (lines ++ cons_option (line_with o names (list_any is_tuned before) (n.Published p)) [])
   published None same before p after lines is all =
-      All-push Tells lines _ all (subst (λ (o : Option (List (List (List ℕ)))). TellsAValidSet o names s (line_text names (list_any is_tuned before) p)) same (record {
+      All-push Tells lines (line_text names (list_any is_tuned before) p) all (subst (λ (o : Option (List (List (List ℕ)))). TellsAValidSet o names s (line_text names (list_any is_tuned before) p)) same (record {
         before = before;
         publication = p;
         after = after;
@@ -34,7 +35,7 @@ module _ (ends : Option (List (List (List ℕ)))) (names : List (List ℕ)) (s :
         valid = valid before after p is;
       }))
   published (Some some) same before p after lines is all =
-      All-push Tells lines _ all (subst (λ (o : Option (List (List (List ℕ)))). TellsAValidSet o names s _) same (record {
+      All-push Tells lines (line_text names (list_any is_tuned before) p ++ ticks_text (ticks_at some p.cut)) all (subst (λ (o : Option (List (List (List ℕ)))). TellsAValidSet o names s (line_text names (list_any is_tuned before) p ++ ticks_text (ticks_at some p.cut))) same (record {
         before = before;
         publication = p;
         after = after;

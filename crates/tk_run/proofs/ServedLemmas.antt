@@ -1,8 +1,8 @@
 -- Words of no command that is served ask for nothing.
 use Rattle.std.proofs.Common.{◌≡◌, ℕ, List, Bool, false, Option, Some, None, refl}
 use Rattle.std.specs.Prelude.{option_and_then, option_map}
-use Rattle.clap.specs.Words.{Row}
-use Rattle.tk_words.specs.Words.{LiveWords, asked_under, asked_with, verb_of, words_of}
+use Rattle.tk_words.specs.Clap.{app_named, found_in}
+use Rattle.tk_words.specs.Words.{Asked, LiveWords, asked_under, asked_with, live_of, verb_of, words_of}
 use Rattle.tk_words.specs.Words.Asked.{Lives}
 use Rattle.tk_words.specs.declared.verb.Verb.{Verb}
 use Rattle.tk_words.specs.declared.verb.Verb.TheVariants as v
@@ -12,13 +12,13 @@ lives : (found : Option LiveWords) → served (option_map Lives found) ≡ None
 lives None = refl
 lives (Some words) = refl
 
-live_under : (found : Option (List Row)) → ((rows : List Row) → served (asked_with v.Live rows) ≡ None) → served (option_and_then (asked_with v.Live) found) ≡ None
-live_under None each = refl
-live_under (Some rows) each = each rows
+behind : {R : Type 0} (asks : R → Option Asked) (found : Option R) → ((rows : R) → served (asks rows) ≡ None) → served (option_and_then asks found) ≡ None
+behind asks None each = refl
+behind asks (Some rows) each = each rows
 
 unserved_by : (verb : Option Verb) (words : List (List ℕ)) → serves verb ≡ false → served (option_and_then (λ one. asked_under one words) verb) ≡ None
 unserved_by None words none = refl
-unserved_by (Some v.Live) words none = live_under _ (λ rows. lives _)
+unserved_by (Some v.Live) words none = behind (asked_with v.Live) (found_in (app_named v.Live) words) (λ rows. lives (live_of rows))
 unserved_by (Some v.Replay) words none = absurd (cc)
 unserved_by (Some v.Generate) words none = absurd (cc)
 unserved_by (Some v.Window) words none = absurd (cc)

@@ -1,9 +1,10 @@
-use Rattle.std.proofs.Common.{◌≡◌, ◌∙◌, Option, Some, ap, inr}
+use Rattle.std.proofs.Common.{◌≡◌, ◌∙◌, Option, Some, ap, inl, inr, map, refl, string_bytes, subst, sym}
 use Rattle.tk_words.specs.Asked.{asked_by, asked_generate, asked_multi, asked_replay, asked_sources}
 use Rattle.tk_words.specs.Words.{Asked}
 use Rattle.tk_words.specs.Words.Asked.{Checks, Generates, Queries, Replays, Restarts, Traces}
 use Rattle.tk_words.specs.declared.command.Command.{Command}
-use Rattle.tk_run.specs.Ends.{served}
+use Rattle.tk_run.specs.Ends.{IsRefused, served}
+use Rattle.tk_run.proofs.ServedLemmas.{unserved}
 use Rattle.tk_run.proofs.serving.run.Goals as goal
 
 -- what is served of words that were read as a command
@@ -69,3 +70,9 @@ pub returns-in-Ok-Check-clause-ends : goal.returns-in-Ok-Check-clause-ends
 returns-in-Ok-Check-clause-ends g c =
     let read = c.in-Ok-Check in
     inr (record { asked = Checks read.file.now; understood = here _ _ _ read.ensures.ok read.field-0-is; ends = c.serve_check.ensures.ends })
+
+-- words of no command that is served
+pub returns-then-not-is_served-clause-ends : goal.returns-then-not-is_served-clause-ends
+returns-then-not-is_served-clause-ends g c =
+    let words = map string_bytes c.args.words.now in
+    inl (subst (IsRefused words) (sym c.ended.ensures.status) (unserved words (sym c.is_served.ensures ∙ c.if-not-is_served.true)), refl)
