@@ -1,5 +1,5 @@
 -- Each line of the sets of a text tells a publication.
-use Rattle.std.proofs.Common.{◌≡◌, ℕ, Bool, List, [], ◌∷◌, ◌++◌, All, Option, Some, None, IfSome, refl, sym, subst, ap, ◌∙◌, arith, codes}
+use Rattle.std.proofs.Common.{◌≡◌, ℕ, Bool, List, [], ◌∷◌, ◌++◌, All, Option, Some, None, refl, sym, subst, ap, ◌∙◌, arith, codes}
 use Rattle.std.specs.List.{concat, cons_option, list_any}
 use Rattle.std.proofs.lemmas.List.{append-nil, append_assoc}
 use Rattle.std.proofs.lemmas.List.Elements.{All-push}
@@ -10,7 +10,7 @@ use Rattle.tk_journal.specs.declared.noted.Noted.{Noted}
 use Rattle.tk_journal.specs.declared.noted.Noted.TheVariants as n
 use Rattle.tk_journal.specs.declared.publication.Publication.{Publication}
 use Rattle.tk_window.specs.TickEnds.{ticks_at}
-use Rattle.tk_ledger.specs.Text.{ticks_text, is_tuned, line_with, lines_by, lines_of, sets_text, text_of, ticked_text_of}
+use Rattle.tk_ledger.specs.Text.{ticks_text, is_tuned, line_with, lines_by, lines_of, text_of, ticked_text_of}
 use Rattle.tk_load.specs.Surroundings.{Output}
 use Rattle.tk_story.specs.Story.{StoryView}
 use Rattle.tk_verify.specs.Headline.{ArePublishedValid}

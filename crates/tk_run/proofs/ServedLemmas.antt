@@ -1,5 +1,5 @@
 -- Words of no command that is served ask for nothing.
-use Rattle.std.proofs.Common.{◌≡◌, ℕ, List, Bool, false, Option, Some, None, refl}
+use Rattle.std.proofs.Common.{◌≡◌, ℕ, List, false, Option, Some, None, refl}
 use Rattle.std.specs.Prelude.{option_and_then, option_map}
 use Rattle.tk_words.specs.Clap.{app_named, found_in}
 use Rattle.tk_words.specs.Words.{Asked, LiveWords, asked_under, asked_with, live_of, verb_of, words_of}
