@@ -36,10 +36,15 @@ fn two_monitors(rt: HostRuntime) {
     assert!(rt; dealt(rt.alloc(), 2, &BELOW) == Some(wanted));
 }
 
-/// The factors of a and of b at a coordinator without a share of the leeway.
-fn dealt_without_a_share(alloc: Global, turns: &[Turn<'_>]) -> Option<(Factors, Factors)> {
+/// A coordinator of two objects and two monitors, with epsilon 2 and no share of the leeway.
+fn without_a_share(alloc: Global) -> Option<Coordinator> {
     let settings = Settings::new(1, 2, 0, 2, 2).ok()?;
-    let seen = after(alloc, Coordinator::new(alloc, settings).ok()?, turns, &[])?;
+    Coordinator::new(alloc, settings).ok()
+}
+
+/// The factors of a and of b there.
+fn dealt_without_a_share(alloc: Global, turns: &[Turn<'_>]) -> Option<(Factors, Factors)> {
+    let seen = after(alloc, without_a_share(alloc), turns, &[])?;
     Some(seen.factors)
 }
 
