@@ -4,5 +4,6 @@ mod InputLemmas
 mod MultiLemmas
 mod OnceLemmas
 mod PrintedLemmas
+mod QueriedLemmas
 mod ServedLemmas
 mod SessionsLemmas

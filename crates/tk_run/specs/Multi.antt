@@ -1,11 +1,20 @@
--- A run of several queries: what it tells of its input, and its text.
-use Rattle.std.specs.Prelude.{ℕ, ◌≡◌, List, ◌++◌, codes, flat_map, map, Some}
+-- A run of several queries: what it tells of its input, its text, and what its sets are over the common logs.
+use Rattle.std.specs.Prelude.{ℕ, ◌≡◌, List, ◌∷◌, ◌++◌, codes, flat_map, map, Some, Ok}
 use Rattle.std.specs.List.{zip}
+use Rattle.tk_input.specs.Catalog.{AreDifferent}
+use Rattle.tk_input.specs.Logs.{AreLogs, LogSet}
+use Rattle.tk_journal.specs.declared.noted.Noted.{Noted}
+use Rattle.tk_journal.specs.declared.noted.Noted.TheVariants as n
+use Rattle.tk_journal.specs.declared.publication.Publication.{Publication}
 use Rattle.tk_ledger.specs.Text.{text_of}
 use Rattle.tk_load.specs.declared.multi.MultiInput.{MultiInput}
-use Rattle.tk_multi.specs.Answers.{AreAnswers, events_in}
+use Rattle.tk_multi.specs.Alone.{AreOfOneSize, alones_of}
+use Rattle.tk_multi.specs.Answers.{AreAnswers, IsAnswer, events_in}
+use Rattle.tk_multi.specs.Projection.{watch_of}
 use Rattle.tk_multi.specs.Queries.{QueryView, entry_at}
+use Rattle.tk_multi.specs.Watched.{HoldsOverTheLogs}
 use Rattle.tk_multi.specs.declared.alone.Alone.{Alone}
+use Rattle.tk_multi.specs.declared.event.MultiEvent.{MultiEvent}
 use Rattle.tk_story.specs.Kept.{KeptStory}
 use Rattle.tk_verify.specs.Headline.{IsSound}
 
@@ -29,3 +38,14 @@ queries_text queries names stories = flat_map query_text (zip (zip (map (λ quer
 -- the texts of the stories of an input
 abbrev pub multi_text : MultiInput → List KeptStory → List ℕ
 multi_text input stories = queries_text input.queries (map (λ alone. alone.names) input.alones.items) stories
+
+-- where queries run over the logs of a catalogue, a set that the sound story of one of them published holds over fronts of these
+-- logs: each watched object of the set has a total there that, with epsilon, is at least that of each watched one outside
+abbrev pub PublishedHoldsOverTheLogs : Type 0
+PublishedHoldsOverTheLogs =
+    (names : List (List ℕ)) (all : LogSet) (queries : List QueryView) (alones : List Alone) (events : List MultiEvent)
+    (q : ℕ) (query : QueryView) (alone : Alone) (kept : KeptStory) (before after : List Noted) (p : Publication)
+    → AreDifferent names → AreLogs all → alones_of names all queries ≡ Ok alones
+    → entry_at queries q ≡ Some query → entry_at alones q ≡ Some alone → AreOfOneSize alone
+    → IsAnswer all events q alone kept → IsSound kept.story → kept.story.journal ≡ before ++ n.Published p ∷ after
+    → HoldsOverTheLogs (watch_of query.prefix names) all p.epsilon p.cut p.members

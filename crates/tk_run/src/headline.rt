@@ -5,6 +5,7 @@ ghost use Rattle.tk_base.specs.Settings.{Setup};
 ghost use Rattle.tk_input.specs.Logs.{LogSet};
 ghost use Rattle.tk_run.specs.Ends.{IsStoryOf};
 ghost use Rattle.tk_run.specs.Laws.{InputIsRun, PublishedIsValidForItsWindows, WrittenTraceIsChecked};
+ghost use Rattle.tk_run.specs.Multi.{PublishedHoldsOverTheLogs};
 ghost use Rattle.tk_run.specs.Printed.{CheckPrintsValidSets, ReplayPrintsValidSets};
 ghost use Rattle.tk_run.specs.Sessions.{AreSound};
 ghost use Rattle.tk_session.specs.Chain.{IsChainOf};
@@ -15,6 +16,7 @@ use tk_load::{
     a_right_trace_is_read, a_valid_set_is_valid_for_its_windows, a_window_goes_over_the_logs,
     what_is_told_is_meant,
 };
+use tk_multi::a_query_counts_what_the_logs_count;
 use tk_session::each_session_is_legal;
 use tk_trace::nothing_is_wrong_with_a_finished_run;
 use tk_verify::{a_finished_run_is_sound, a_story_is_sound_so_far};
@@ -58,6 +60,13 @@ pub fn a_set_is_valid_for_its_windows()
 {
     a_window_goes_over_the_logs();
     a_valid_set_is_valid_for_its_windows();
+}
+
+/// Each set that a query published holds over fronts of the logs that all queries share.
+pub fn a_querys_set_holds_over_the_logs()
+    ensures { PublishedHoldsOverTheLogs }
+{
+    a_query_counts_what_the_logs_count();
 }
 
 /// Each line of sets that a replay, a window or a check has printed tells a publication of the story that it answers, whose set

@@ -20,8 +20,8 @@ mod titled;
 mod trace;
 
 pub use headline::{
-    a_set_is_valid_for_its_windows, a_written_trace_is_checked, an_input_has_one_story,
-    an_input_is_run, each_printed_set_is_valid, sessions_are_sound,
+    a_querys_set_holds_over_the_logs, a_set_is_valid_for_its_windows, a_written_trace_is_checked,
+    an_input_has_one_story, an_input_is_run, each_printed_set_is_valid, sessions_are_sound,
 };
 pub use outcome::Outcome;
 pub use serving::run;
