@@ -24,7 +24,7 @@ import tempfile
 ROOT = pathlib.Path(__file__).resolve().parent.parent
 PROGRAM = ROOT / "crates" / "topk" / "out" / "topk"
 # The other ways in which the frames of a replay go.
-WAYS = ("--piece 1", "--piece 7 --frames 2", "--piece 4096", "--frames 2")
+WAYS = ("--piece 1", "--piece 1 --frames 2", "--piece 7 --frames 2", "--piece 4096", "--frames 2")
 # A run, and its trace.
 TRACED = ROOT / "examples" / "two_monitors"
 TRACE = ROOT / "examples" / "checked" / "two_monitors.trace"
