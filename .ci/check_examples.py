@@ -4,8 +4,8 @@ these texts.
 It knows nothing of the protocol: a printed set is right where each member's total over the printed
 prefixes, plus epsilon, is at least that of every object outside. An example with a status is refused with it, and its
 fault stands in the file `fault`; of a run that is made from a seed the text alone is compared. What a live run prints
-depends on how its threads meet, so it has no expected text: each set that it prints is checked by plain sums. Where
-there is an awk, the change logs of the access logs are made once more and compared, too; so is the trace that is kept, each replay
+depends on how its threads meet, so it has no expected text: each set that it prints is checked by plain sums. The scripts are
+tried by check_tools.py. The trace that is kept is made once more and compared, each replay
 is run in pieces too, its trace is checked, what is no whole trace is refused, and so is each row of `refusals` and a word
 that is no UTF-8; and each line is one write.
 """
@@ -20,6 +20,8 @@ import socket
 import subprocess
 import sys
 import tempfile
+
+import check_tools
 
 ROOT = pathlib.Path(__file__).resolve().parent.parent
 PROGRAM = ROOT / "crates" / "topk" / "out" / "topk"
@@ -200,16 +202,6 @@ def run(folder):
     return None
 
 
-def made_again(folder):
-    """Compares the catalogue and the change logs with what the script makes of the access logs."""
-    logs = sorted(log.resolve() for log in folder.glob("*.log"))
-    with tempfile.TemporaryDirectory() as room:
-        subprocess.run(["awk", "-f", (folder / "to_logs.awk").resolve(), *logs], cwd=room, check=True)
-        made = {file.name: file.read_bytes() for file in pathlib.Path(room).iterdir()}
-    kept = {file.name: file.read_bytes() for file in folder.glob("*.csv")}
-    return None if made == kept else f"{folder.name}: to_logs.awk makes other logs"
-
-
 def altered():
     """The altered trace is the one that is kept, with one other byte."""
     kept, other = TRACE.read_bytes(), (ROOT / "examples" / "altered_trace" / "altered.trace").read_bytes()
@@ -383,8 +375,7 @@ def main():
         faults += written_by_lines(folders)
     else:
         faults.append(f"{PROGRAM}: the program is not built, so that no example was run")
-    if shutil.which("awk"):
-        faults.append(made_again(ROOT / "examples" / "access_log"))
+    faults += check_tools.tried()
     if (TRACED / "expected.txt").read_text() != (ROOT / "crates" / "topk" / "stdout").read_text():
         faults.append("crates/topk/stdout: not the expected text")
     faults = [fault for fault in faults if fault]

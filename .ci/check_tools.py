@@ -1,0 +1,171 @@
+"""Tries the scripts of the examples, for check_examples.py, with each awk that there is: mawk and gawk may read a script in two ways.
+
+What hot.awk and counts.awk say of all examples stands in examples/tools, an example behind its name; one picture stands
+beside its run. Over a run of 20,000 updates, which is made here from a seed, both are compared with plain sums.
+"""
+import pathlib
+import random
+import re
+import shutil
+import subprocess
+import tempfile
+import xml.etree.ElementTree as xml
+
+ROOT = pathlib.Path(__file__).resolve().parent.parent
+PROGRAM = ROOT / "crates" / "topk" / "out" / "topk"
+EXAMPLES = ROOT / "examples"
+TOOLS = EXAMPLES / "tools"
+# The picture that is kept.
+PICTURE = EXAMPLES / "pages" / "hot.svg"
+AWKS = [awk for awk in ("mawk", "gawk") if shutil.which(awk)] or [awk for awk in ("awk",) if shutil.which(awk)]
+# The run that is made: its options, its monitors, and its updates.
+OPTIONS = ("--k", "10", "--epsilon", "50", "--objects", "objects.csv")
+MONITORS, OBJECTS, UPDATES = 4, 100, 20000
+
+
+def told_by(awk, script, words, text, folder):
+    """What a script prints of a text, and its status."""
+    done = subprocess.run([awk, "-f", TOOLS / script, *words], cwd=folder, input=text, capture_output=True, text=True, timeout=60)
+    return done.stdout, done.returncode
+
+
+def words_in(folder):
+    return [word for word in (folder / "words").read_text().split("\n") if word]
+
+
+def with_sets(commands):
+    """The examples of some commands with the texts that have sets."""
+    for words in sorted(EXAMPLES.glob("*/words")):
+        text = words.parent / "expected.txt"
+        if words_in(words.parent)[0] in commands and text.exists() and re.search("^final", text.read_text(), re.M):
+            yield words.parent, text.read_text()
+
+
+def drawn(awk):
+    parts = []
+    for folder, text in with_sets(("replay", "window", "multi", "sessions", "check")):
+        out, status = told_by(awk, "hot.awk", (), text, folder)
+        parts.append(f"== {folder.name}\n{out}")
+        picture, other = told_by(awk, "hot_svg.awk", (), text, folder)
+        if status or other or not xml.fromstring(picture).tag.endswith("svg"):
+            yield f"{folder.name}: {awk} draws no sets"
+        if folder == PICTURE.parent and picture != PICTURE.read_text():
+            yield f"{folder.name}: {awk} draws another picture"
+    if "".join(parts) != (TOOLS / "hot.txt").read_text():
+        yield f"hot.awk: {awk} draws other sets than those of hot.txt"
+
+
+def ends_of_drawing(awk):
+    """A text without a set is refused, a strip has so many sets, and a picture may have any name."""
+    text = "set 1 cut 1:0 members a&b<c>\nset 2 cut 1:1 members \"'\nfinal 3 cut 1:2 members \"'\n"
+    strips = "sets 1 to 2, a column each: # a member, . not\na&b<c> #.\n\"'     .#\nsets 3 to 3, a column each: # a member, . not\n\"'     #\n"
+    if told_by(awk, "hot.awk", ("-v", "most=2"), text, TOOLS) != (strips, 0):
+        yield f"hot.awk: {awk} draws other strips"
+    named = [label.text for label in xml.fromstring(told_by(awk, "hot_svg.awk", (), text, TOOLS)[0]).iter() if label.text]
+    if not {"a&b<c>", "\"'"} <= set(named):
+        yield f"hot_svg.awk: {awk} draws other names"
+    for script in ("hot.awk", "hot_svg.awk"):
+        if told_by(awk, script, (), "", TOOLS) != ("", 1):
+            yield f"{script}: {awk} draws a text without a set"
+
+
+def counted(awk):
+    parts = []
+    for folder, text in with_sets(("replay", "window", "sessions")):
+        out, status = told_by(awk, "counts.awk", words_in(folder), text, folder)
+        parts.append(f"== {folder.name}\n{out}")
+        # The numbers of this one are past those of awk.
+        if status != (2 if folder.name == "at_the_limit" else 0):
+            yield f"{folder.name}: {awk} counts with status {status}"
+    if "".join(parts) != (TOOLS / "counts.txt").read_text():
+        yield f"counts.awk: {awk} counts other totals than those of counts.txt"
+
+
+def judged(awk):
+    """Sets that are wrong are told, each with its reason, and a missing file is."""
+    folder = EXAMPLES / "past_epsilon"
+    words, text = words_in(folder), (folder / "expected.txt").read_text()
+    rows = [("members b", "members a", "final 2: not within epsilon 2"), ("members b", "members a b", "final 2: 2 members, not 1"),
+            ("2:1", "2:2", "final 2: log 2:1 ends at 1")]
+    for right, wrong, why in rows:
+        out, status = told_by(awk, "counts.awk", words, text.replace(right, wrong), folder)
+        if status != 1 or not out.endswith(f"WRONG: {why}\n"):
+            yield f"counts.awk: {awk} does not tell: {why}"
+    for other, row in ([*words[:-1], "2=none.csv"], text), (words, ""), (words, text.replace("1:0 2:0 members a", "1:0 2:0 members c")):
+        out, status = told_by(awk, "counts.awk", other, row, folder)
+        if status != 2 or "final" in out:
+            yield f"counts.awk: {awk} ends with status {status} where nothing can be judged"
+
+
+def make_run(room):
+    """A run whose hot objects change: updates of a few objects, of which one is left and one is new every 500 updates."""
+    pick = random.Random(59)
+    names = [f"o{number}" for number in range(1, OBJECTS + 1)]
+    logs = {monitor: [] for monitor in range(1, MONITORS + 1)}
+    for update in range(UPDATES):
+        name = names[min(update // 500 + pick.randrange(20), pick.randrange(OBJECTS))]
+        logs[pick.randrange(MONITORS) + 1].append((name, pick.randrange(-20, 80)))
+    (room / "objects.csv").write_text("".join(f"{name}\n" for name in names))
+    for monitor, log in logs.items():
+        (room / f"{monitor}.csv").write_text("".join(f"{name},{by}\n" for name, by in log))
+    return names, logs
+
+
+def sets_in(text):
+    for line in re.findall("^(?:set|final) .*", text, re.M):
+        head, members = line.split(" members ")
+        yield head, {int(m): int(place) for m, place in re.findall(r"(\d+):(\d+)", head)}, members.split()
+
+
+def counts_of(names, logs, text):
+    """What counts.awk should print of a run without feeders."""
+    lines = []
+    for head, cut, members in sets_in(text):
+        totals = dict.fromkeys(names, 0)
+        for monitor, place in cut.items():
+            for name, by in logs[monitor][:place]:
+                totals[name] += by
+        best = max((name for name in names if name not in members), key=totals.get)
+        lines += [" ".join(head.split()[:2]), *(f"  {totals[name]} {name}" for name in sorted(members, key=lambda name: -totals[name]))]
+        lines.append(f"  {totals[best]} {best} (outside)")
+    return "\n".join(lines) + "\n"
+
+
+def drawing_of(text):
+    sets = [members for _, _, members in sets_in(text)]
+    names = list(dict.fromkeys(name for members in sets for name in members))
+    rows = [name.ljust(max(map(len, names))) + " " + "".join("#" if name in members else "." for members in sets) for name in names]
+    return "\n".join([f"sets 1 to {len(sets)}, a column each: # a member, . not", *rows]) + "\n"
+
+
+def generated():
+    with tempfile.TemporaryDirectory() as folder:
+        room = pathlib.Path(folder)
+        names, logs = make_run(room)
+        words = ["replay", *OPTIONS, *(f"{monitor}={monitor}.csv" for monitor in logs)]
+        text = subprocess.run([PROGRAM, *words], cwd=room, capture_output=True, text=True, check=True, timeout=60).stdout
+        wanted = {"counts.awk": counts_of(names, logs, text), "hot.awk": drawing_of(text)}
+        given = {"counts.awk": words, "hot.awk": ("-v", "most=0")}
+        for awk in AWKS:
+            for script, out in wanted.items():
+                if told_by(awk, script, given[script], text, room) != (out, 0):
+                    yield f"{script}: {awk} tells the generated run in another way"
+
+
+def made_again(awk, folder):
+    """Compares the catalogue and the change logs with what the script makes of the access logs."""
+    logs = sorted(folder.glob("*.log"))
+    with tempfile.TemporaryDirectory() as room:
+        subprocess.run([awk, "-f", folder / "to_logs.awk", *logs], cwd=room, check=True, timeout=60)
+        made = {file.name: file.read_bytes() for file in pathlib.Path(room).iterdir()}
+    kept = {file.name: file.read_bytes() for file in folder.glob("*.csv")}
+    if made != kept:
+        yield f"{folder.name}: with {awk} to_logs.awk makes other logs"
+
+
+def tried():
+    for awk in AWKS:
+        yield from [*drawn(awk), *ends_of_drawing(awk), *counted(awk), *judged(awk)]
+        yield from made_again(awk, EXAMPLES / "access_log")
+    if PROGRAM.exists():
+        yield from generated()
