@@ -1,4 +1,4 @@
-"""Tries the scripts of the examples, for check_examples.py, with each awk that there is: mawk and gawk may read a script in two ways.
+"""Tries the scripts of the examples, for check_examples.py, with mawk and gawk where these are there.
 
 What hot.awk and counts.awk say of all examples stands in examples/tools, an example behind its name; one picture stands
 beside its run. Over a run of 20,000 updates, which is made here from a seed, both are compared with plain sums.
@@ -18,6 +18,9 @@ TOOLS = EXAMPLES / "tools"
 # The picture that is kept.
 PICTURE = EXAMPLES / "pages" / "hot.svg"
 AWKS = [awk for awk in ("mawk", "gawk") if shutil.which(awk)] or [awk for awk in ("awk",) if shutil.which(awk)]
+# Examples whose logs a script made: the folder of the script and of what it read, its options, and the names of that.
+SOURCES = (("access_log", "access_log", (), "*.log"), ("access_log_window", "access_log", ("-v", "ticks=60"), "*.log"),
+           ("flow_records", "flow_records", (), "*.flows"), ("cache_keys", "cache_keys", ("-v", "ticks=10"), "node*.txt"))
 # The run that is made: its options, its monitors, and its updates.
 OPTIONS = ("--k", "10", "--epsilon", "50", "--objects", "objects.csv")
 MONITORS, OBJECTS, UPDATES = 4, 100, 20000
@@ -82,7 +85,7 @@ def counted(awk):
 
 
 def judged(awk):
-    """Sets that are wrong are told, each with its reason, and a missing file is."""
+    """Sets that are wrong are told, each with its reason."""
     folder = EXAMPLES / "past_epsilon"
     words, text = words_in(folder), (folder / "expected.txt").read_text()
     rows = [("members b", "members a", "final 2: not within epsilon 2"), ("members b", "members a b", "final 2: 2 members, not 1"),
@@ -91,6 +94,16 @@ def judged(awk):
         out, status = told_by(awk, "counts.awk", words, text.replace(right, wrong), folder)
         if status != 1 or not out.endswith(f"WRONG: {why}\n"):
             yield f"counts.awk: {awk} does not tell: {why}"
+    folder = EXAMPLES / "restarted"
+    retuned = "session 1\nset 1 k 2 epsilon 7 cut 1:0 2:0 members a b\nsession 2\nset 1 cut 1:0 2:1 members a\n"
+    if not told_by(awk, "counts.awk", words_in(folder), retuned, folder)[0].endswith("WRONG: set 1: not within epsilon 0\n"):
+        yield f"counts.awk: {awk} judges a session by the settings of the one before"
+
+
+def ends_of_judging(awk):
+    """Where nothing can be judged the status says so."""
+    folder = EXAMPLES / "past_epsilon"
+    words, text = words_in(folder), (folder / "expected.txt").read_text()
     for other, row in ([*words[:-1], "2=none.csv"], text), (words, ""), (words, text.replace("1:0 2:0 members a", "1:0 2:0 members c")):
         out, status = told_by(awk, "counts.awk", other, row, folder)
         if status != 2 or "final" in out:
@@ -152,20 +165,41 @@ def generated():
                     yield f"{script}: {awk} tells the generated run in another way"
 
 
-def made_again(awk, folder):
-    """Compares the catalogue and the change logs with what the script makes of the access logs."""
-    logs = sorted(folder.glob("*.log"))
+def made_again(awk, folder, options, script, logs):
+    """Compares the catalogue and the change logs of an example with what a script makes of the field's logs."""
     with tempfile.TemporaryDirectory() as room:
-        subprocess.run([awk, "-f", folder / "to_logs.awk", *logs], cwd=room, check=True, timeout=60)
+        done = subprocess.run([awk, *options, "-f", script, *logs], cwd=room, capture_output=True, text=True, timeout=60)
         made = {file.name: file.read_bytes() for file in pathlib.Path(room).iterdir()}
     kept = {file.name: file.read_bytes() for file in folder.glob("*.csv")}
-    if made != kept:
-        yield f"{folder.name}: with {awk} to_logs.awk makes other logs"
+    if made != kept or done.returncode or done.stderr:
+        yield f"{folder.name}: with {awk} its script makes other logs"
+
+
+def fields_logs(awk):
+    """The logs of the examples whose input came from elsewhere, and those of a server without a line among others."""
+    for name, source, options, pattern in SOURCES:
+        folder = EXAMPLES / source
+        yield from made_again(awk, EXAMPLES / name, options, folder / "to_logs.awk", sorted(folder.glob(pattern)))
+        with tempfile.TemporaryDirectory() as room:
+            logs = ["/dev/null", sorted(folder.glob(pattern))[1], "/dev/null"]
+            subprocess.run([awk, *options, "-f", folder / "to_logs.awk", *logs], cwd=room, check=True, timeout=60)
+            lines = [(pathlib.Path(room) / f"{number}.csv").read_text().splitlines() for number in (1, 2, 3)]
+        ticks = [line for line in lines[1] if line == "tick"]
+        if len(lines[1]) == len(ticks) or lines[0] != ticks or lines[2] != ticks:
+            yield f"{name}: with {awk} its script loses a server without lines"
+
+
+def live_runs(awk):
+    """The sets of a live run are judged too, and drawn."""
+    folder = EXAMPLES / "live_pages"
+    text = subprocess.run([PROGRAM, *words_in(folder)], cwd=folder, capture_output=True, text=True, timeout=60).stdout
+    if told_by(awk, "counts.awk", words_in(folder), text, folder)[1] or told_by(awk, "hot.awk", (), text, folder)[1]:
+        yield f"live_pages: {awk} does not tell its sets"
 
 
 def tried():
     for awk in AWKS:
-        yield from [*drawn(awk), *ends_of_drawing(awk), *counted(awk), *judged(awk)]
-        yield from made_again(awk, EXAMPLES / "access_log")
+        yield from [*drawn(awk), *ends_of_drawing(awk), *counted(awk), *judged(awk), *ends_of_judging(awk), *fields_logs(awk)]
+        yield from live_runs(awk) if PROGRAM.exists() else ()
     if PROGRAM.exists():
         yield from generated()
