@@ -1,4 +1,4 @@
-"""Tries the scripts of the examples, for check_examples.py, with mawk and gawk where these are there.
+"""Tries the scripts of the examples and install.sh, for check_examples.py, with mawk and gawk where these are there.
 
 What hot.awk and counts.awk say of all examples stands in examples/tools, an example behind its name; one picture stands
 beside its run. Over a run of 20,000 updates, which is made here from a seed, both are compared with plain sums.
@@ -189,6 +189,26 @@ def fields_logs(awk):
             yield f"{name}: with {awk} its script loses a server without lines"
 
 
+def installed():
+    """The program and the manual come under the prefix, and run there without an environment; one that is not built is told."""
+    with tempfile.TemporaryDirectory() as folder:
+        room = pathlib.Path(folder)
+        done = subprocess.run([ROOT / "install.sh", room / "a prefix"], capture_output=True, text=True, timeout=60)
+        program, manual = room / "a prefix" / "bin" / "topk", room / "a prefix" / "share" / "man" / "man1" / "topk.1"
+        if done.returncode or done.stderr or not done.stdout.endswith(" or later, and no other library\n"):
+            yield f"install.sh: ends with status {done.returncode}: {done.stdout}{done.stderr}"
+            return
+        two = EXAMPLES / "two_monitors"
+        text = subprocess.run([program, *words_in(two)], cwd=two, env={}, capture_output=True, text=True, timeout=60).stdout
+        if manual.read_bytes() != (ROOT / "docs" / "topk.1").read_bytes() or text != (two / "expected.txt").read_text():
+            yield "install.sh: puts other files in place"
+        shutil.copy(ROOT / "install.sh", room)
+        done = subprocess.run([room / "install.sh", room / "none"], capture_output=True, text=True, timeout=60)
+        told = "install: there is no crates/topk/out/topk: build it first, as README.md says\n"
+        if (done.returncode, done.stdout, done.stderr, (room / "none").exists()) != (1, "", told, False):
+            yield "install.sh: does not tell that the program is not built"
+
+
 def live_runs(awk):
     """The sets of a live run are judged too, and drawn."""
     folder = EXAMPLES / "live_pages"
@@ -202,4 +222,4 @@ def tried():
         yield from [*drawn(awk), *ends_of_drawing(awk), *counted(awk), *judged(awk), *ends_of_judging(awk), *fields_logs(awk)]
         yield from live_runs(awk) if PROGRAM.exists() else ()
     if PROGRAM.exists():
-        yield from generated()
+        yield from [*generated(), *installed()]
