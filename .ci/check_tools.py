@@ -1,7 +1,8 @@
 """Tries the scripts of the examples and install.sh, for check_examples.py, with mawk and gawk where these are there.
 
 What hot.awk and counts.awk say of all examples stands in examples/tools, an example behind its name; one picture stands
-beside its run. Over a run of 20,000 updates, which is made here from a seed, both are compared with plain sums.
+beside its run. Called by itself this writes these three files anew, for a reader to judge what differs. Over a run of 20,000
+updates, which is made here from a seed, both scripts are compared with plain sums.
 """
 import pathlib
 import random
@@ -15,6 +16,9 @@ ROOT = pathlib.Path(__file__).resolve().parent.parent
 PROGRAM = ROOT / "crates" / "topk" / "out" / "topk"
 EXAMPLES = ROOT / "examples"
 TOOLS = EXAMPLES / "tools"
+# What is kept of all examples: the script that prints it, and the commands whose texts it reads.
+KEPT = {"hot.txt": ("hot.awk", ("replay", "window", "multi", "sessions", "check")),
+        "counts.txt": ("counts.awk", ("replay", "window", "sessions"))}
 # The picture that is kept.
 PICTURE = EXAMPLES / "pages" / "hot.svg"
 AWKS = [awk for awk in ("mawk", "gawk") if shutil.which(awk)] or [awk for awk in ("awk",) if shutil.which(awk)]
@@ -44,18 +48,38 @@ def with_sets(commands):
             yield words.parent, text.read_text()
 
 
-def drawn(awk):
-    parts = []
-    for folder, text in with_sets(("replay", "window", "multi", "sessions", "check")):
-        out, status = told_by(awk, "hot.awk", (), text, folder)
-        parts.append(f"== {folder.name}\n{out}")
-        picture, other = told_by(awk, "hot_svg.awk", (), text, folder)
-        if status or other or not xml.fromstring(picture).tag.endswith("svg"):
-            yield f"{folder.name}: {awk} draws no sets"
-        if folder == PICTURE.parent and picture != PICTURE.read_text():
-            yield f"{folder.name}: {awk} draws another picture"
-    if "".join(parts) != (TOOLS / "hot.txt").read_text():
-        yield f"hot.awk: {awk} draws other sets than those of hot.txt"
+def told_of_all(awk, kept):
+    """What a script prints of each example that it serves, and its status."""
+    script, commands = KEPT[kept]
+    for folder, text in with_sets(commands):
+        yield folder, *told_by(awk, script, words_in(folder) if script == "counts.awk" else (), text, folder)
+
+
+def text_of_all(awk, kept):
+    return "".join(f"== {folder.name}\n{out}" for folder, out, _ in told_of_all(awk, kept))
+
+
+def as_kept(awk):
+    """Each script ends with status 0 over each example, and prints what is kept."""
+    for kept in KEPT:
+        for folder, _, status in told_of_all(awk, kept):
+            # The numbers of this one are past those of awk.
+            if status != (2 if (kept, folder.name) == ("counts.txt", "at_the_limit") else 0):
+                yield f"{folder.name}: {awk} ends with status {status} where {kept} is made"
+        if text_of_all(awk, kept) != (TOOLS / kept).read_text():
+            yield f"examples/tools/{kept}: {awk} prints another text; python3 .ci/check_tools.py writes it anew"
+
+
+def picture_of(awk, folder):
+    return told_by(awk, "hot_svg.awk", (), (folder / "expected.txt").read_text(), folder)[0]
+
+
+def pictured(awk):
+    for folder, _ in with_sets(KEPT["hot.txt"][1]):
+        if not xml.fromstring(picture_of(awk, folder)).tag.endswith("svg"):
+            yield f"{folder.name}: {awk} makes no picture"
+    if picture_of(awk, PICTURE.parent) != PICTURE.read_text():
+        yield f"{PICTURE.name}: {awk} makes another picture; python3 .ci/check_tools.py writes it anew"
 
 
 def ends_of_drawing(awk):
@@ -70,18 +94,6 @@ def ends_of_drawing(awk):
     for script in ("hot.awk", "hot_svg.awk"):
         if told_by(awk, script, (), "", TOOLS) != ("", 1):
             yield f"{script}: {awk} draws a text without a set"
-
-
-def counted(awk):
-    parts = []
-    for folder, text in with_sets(("replay", "window", "sessions")):
-        out, status = told_by(awk, "counts.awk", words_in(folder), text, folder)
-        parts.append(f"== {folder.name}\n{out}")
-        # The numbers of this one are past those of awk.
-        if status != (2 if folder.name == "at_the_limit" else 0):
-            yield f"{folder.name}: {awk} counts with status {status}"
-    if "".join(parts) != (TOOLS / "counts.txt").read_text():
-        yield f"counts.awk: {awk} counts other totals than those of counts.txt"
 
 
 def judged(awk):
@@ -219,7 +231,17 @@ def live_runs(awk):
 
 def tried():
     for awk in AWKS:
-        yield from [*drawn(awk), *ends_of_drawing(awk), *counted(awk), *judged(awk), *ends_of_judging(awk), *fields_logs(awk)]
+        yield from [*as_kept(awk), *pictured(awk), *ends_of_drawing(awk), *judged(awk), *ends_of_judging(awk), *fields_logs(awk)]
         yield from live_runs(awk) if PROGRAM.exists() else ()
     if PROGRAM.exists():
-        yield from [*generated(), *installed()]
+        yield from [*generated(), *(installed() if AWKS else ())]
+
+
+def main():
+    for kept in KEPT:
+        (TOOLS / kept).write_text(text_of_all(AWKS[0], kept))
+    PICTURE.write_text(picture_of(AWKS[0], PICTURE.parent))
+
+
+if __name__ == "__main__":
+    main()
