@@ -17,7 +17,6 @@ import subprocess
 import sys
 import tempfile
 import threading
-import time
 
 ROOT = pathlib.Path(__file__).resolve().parent.parent.parent
 PROGRAM = ROOT / "crates" / "topk" / "out" / "topk"
@@ -132,10 +131,11 @@ def interrupted(room, number):
     for name in ("one.csv", "two.csv"):
         (room / name).write_bytes(b"a,1\nb,1\n" * 450_000)
     started = subprocess.Popen([PROGRAM, *words("live")], cwd=room, stdout=subprocess.PIPE, stderr=subprocess.PIPE)
-    time.sleep(0.35)
+    # With its first set the run has begun, and most of the logs are still to come.
+    first = started.stdout.readline()
     started.send_signal(number)
     out, line = started.communicate(timeout=SECONDS)
-    return started.returncode, out, line
+    return started.returncode, first + out, line
 
 
 def without_loopback(room):
