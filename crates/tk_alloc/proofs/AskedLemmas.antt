@@ -7,6 +7,7 @@ use Rattle.std.proofs.lemmas.Result.{IfOk-weaker}
 use Rattle.tk_base.specs.Objects.{is_in}
 use Rattle.tk_base.specs.Pairs.{objects_of}
 use Rattle.tk_base.specs.Settings.{Setup, IsWithinLimits}
+use Rattle.tk_base.proofs.PairsLemmas.{objects_paired}
 use Rattle.tk_rows.specs.declared.reallocation.Reallocation.{Reallocation}
 use Rattle.tk_rows.specs.Factors.{Grid, AreBalanced, factor_at}
 use Rattle.tk_alloc.specs.declared.alloc_fault.AllocFault.{AllocFault}
@@ -21,7 +22,6 @@ use Rattle.tk_alloc.specs.Search.{AreWithin, IsEven, by_node}
 use Rattle.tk_alloc.specs.Terms.{AreTerms, parts_of}
 use Rattle.tk_alloc.proofs.BorderLemmas.{border_size, factor_size}
 use Rattle.tk_alloc.proofs.LimitLemmas.{all_given}
-use Rattle.tk_alloc.proofs.PartLemmas.{objects_put}
 use Rattle.tk_alloc.proofs.RoundLemmas.{bordered, own_part}
 use Rattle.tk_alloc.proofs.WideLemmas.{own_small, value_size}
 
@@ -44,7 +44,7 @@ set_of setup grid present members all weight border epsilon values w b e v = rec
 }
 
 set_objects : (setup : Setup) (grid : Grid) (present members all : List ℕ) (weight : ℕ) (border : ℤ) (values : List (ℕ × ℤ)) → IsSet setup grid present members all weight border values → objects_of values ≡ all
-set_objects setup grid present members all weight border values s = ap objects_of s.values_are ∙ objects_put (λ o. if is_in members o then setup.epsilon else pos 0) all
+set_objects setup grid present members all weight border values s = ap objects_of s.values_are ∙ objects_paired (λ o. if is_in members o then setup.epsilon else pos 0) all
 
 -- a reported border is small
 pub report_border : (setup : Setup) (grid : Grid) (present all : List ℕ) (report : Reported) → IsReady setup grid present all → IsWithinLimits setup → AreBalanced grid → CanTakePart grid present all report → unsigned_abs report.border ≤ 2 ^ 113

@@ -1,5 +1,5 @@
 -- The coordinator's border: its size, and what it is above and below.
-use Rattle.std.proofs.Common.{◌≡◌, ℕ, suc, ◌&&◌, ◌-◌, ◌^◌, ◌<◌, ◌≤◌, ℤ, pos, ◌+ℤ◌, ◌≤ℤ◌, unsigned_abs, List, [], ◌∷◌, length, map, get_or, Contains, Option, Some, None, not, refl, sym, ap, ap₂, ◌∙◌, subst, arith, inl, inr}
+use Rattle.std.proofs.Common.{◌≡◌, ℕ, suc, ◌-◌, ◌^◌, ◌<◌, ◌≤◌, ℤ, pos, ◌+ℤ◌, ◌≤ℤ◌, unsigned_abs, List, [], ◌∷◌, length, map, get_or, Contains, Option, Some, None, not, refl, sym, ap, ◌∙◌, subst, arith, inl, inr}
 use Rattle.std.specs.Prelude.{unwrap_or, is_some, IsSome, ◌==◌}
 use Rattle.std.specs.List.{All, fold}
 use Rattle.std.specs.Int.{int_min, int_max}
@@ -10,13 +10,14 @@ use Rattle.std.proofs.lemmas.List.Elements.{All-cons, All-map, All-contains}
 use Rattle.tk_base.specs.Objects.{objects, is_in}
 use Rattle.tk_base.specs.Pairs.{objects_of, value_at}
 use Rattle.tk_base.specs.Settings.{Setup, IsWithinLimits}
+use Rattle.tk_base.proofs.MemberLemmas.{contained_is_in, is_in_contained}
 use Rattle.tk_border.specs.Levels.{level_at, lowered, raised, least_of, greatest_of, least_member, outside, greatest_outside}
 use Rattle.tk_border.proofs.RisingLemmas.{is_in-filter}
 use Rattle.tk_border.proofs.LevelLemmas.{least_reached, least_some, own_border_inside}
 use Rattle.tk_rows.specs.Factors.{Grid, IsFactor, AreBalanced, factor_at}
+use Rattle.tk_border.proofs.MembershipLemmas.{in_outside}
 use Rattle.tk_alloc.specs.Resolving.{IsReady, own_factors, round_border}
-use Rattle.tk_alloc.proofs.MemberLemmas.{contained_is_in, is_in_contained, outside_is_not_in}
-use Rattle.tk_alloc.proofs.WideLemmas.{of_catalogue, in_catalogue}
+use Rattle.tk_alloc.proofs.WideLemmas.{of_catalogue}
 
 -- ---- the code's reading
 
@@ -106,12 +107,6 @@ mapped_of f xs z (k, within, is) =
     let inside : k < length xs = omega (arith, length-map xs f) in
     (get_or xs k 0, (k, inside, get_or_default xs k (get_or xs k 0) 0 inside), sym (get_or-map f xs k 0 z inside) ∙ is)
 
--- an object of the catalogue that is not in a set is outside it
-pub in_outside : (n : ℕ) (set : List ℕ) (s : ℕ) → 0 < s → s ≤ n → (Contains set s → ⊥) → Contains (outside n set) s
-in_outside n set s some within out =
-    is_in_contained (outside n set) s
-    (is_in-filter (λ o. not (is_in set o)) (objects n) s ∙ ap₂ ◌&&◌ (contained_is_in (objects n) s (in_catalogue n s some within)) (ap not (outside_is_not_in set s out)))
-
 pub of_outside : (n : ℕ) (set : List ℕ) (s : ℕ) → Contains (outside n set) s → Contains (objects n) s × (Contains set s → ⊥)
 of_outside n set s found =
     let both = and_parts (is_in (objects n) s) (not (is_in set s)) (sym (is_in-filter (λ o. not (is_in set o)) (objects n) s) ∙ contained_is_in (outside n set) s found) in
@@ -119,7 +114,8 @@ of_outside n set s found =
 
 -- ---- the border
 
-factors_count : (grid : Grid) → length (own_factors grid) ≡ length grid.rows
+-- a node has as many factors of its own as the table has rows
+pub factors_count : (grid : Grid) → length (own_factors grid) ≡ length grid.rows
 factors_count grid = length-map grid.rows (λ (row : List ℤ). get_or row 0 (pos 0))
 
 pub members_within : (setup : Setup) (grid : Grid) (present all : List ℕ) → IsReady setup grid present all → All (λ o. o ≤ length grid.rows) present

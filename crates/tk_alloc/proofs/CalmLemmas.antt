@@ -1,48 +1,31 @@
 -- Where no outsider is above a member, nothing is broken; and what is outside a round is at most its border.
-use Rattle.std.proofs.Common.{◌≡◌, ℕ, suc, ◌<◌, ◌≤◌, ◌&&◌, ℤ, pos, ◌≤ℤ◌, Bool, true, false, cond, List, [], ◌∷◌, length, map, get_or, Contains, Option, Some, None, refl, sym, ap, ◌∙◌, subst, arith}
-use Rattle.std.specs.Prelude.{filter, nat_lt, int_lt, ◌<ℤ◌, IsSome, unwrap_or}
+use Rattle.std.proofs.Common.{◌≡◌, ℕ, ◌<◌, ◌≤◌, ℤ, pos, ◌≤ℤ◌, Bool, true, false, List, [], ◌∷◌, length, map, get_or, Contains, Option, Some, None, refl, sym, ap, ◌∙◌, subst, arith}
+use Rattle.std.specs.Prelude.{filter, nat_lt, IsSome, unwrap_or}
 use Rattle.std.specs.List.{All}
 use Rattle.std.specs.Ordering.{int_cmp, is_lt}
-use Rattle.std.specs.declared.cmp.Ordering.TheVariants.{Less, Equal, Greater}
-use Rattle.std.proofs.lemmas.Bool.{true≢false, false≢true}
-use Rattle.std.proofs.lemmas.Int.{ints, clamps, by_lt_z}
+use Rattle.std.proofs.lemmas.Bool.{false≢true}
+use Rattle.std.proofs.lemmas.Int.{ints, clamps}
 use Rattle.std.proofs.lemmas.List.{get_or_default, length-map}
 use Rattle.std.proofs.lemmas.List.Elements.{All-map}
 use Rattle.tk_base.specs.Objects.{is_in}
+use Rattle.tk_base.proofs.BoolLemmas.{right_fails}
+use Rattle.tk_base.proofs.CompareLemmas.{ge_is, lt-cmp, above_not}
+use Rattle.tk_base.proofs.ListLemmas.{contained_behind}
+use Rattle.tk_base.proofs.MemberLemmas.{contained_is_in, outside_is_not_in}
 use Rattle.tk_border.specs.Levels.{level_at, least_member, greatest_outside, outside, broken, is_above, border, lesser}
 use Rattle.tk_border.proofs.RisingLemmas.{is_in-filter}
 use Rattle.tk_border.proofs.LevelLemmas.{least_reached, least_some}
-use Rattle.tk_alloc.proofs.MemberLemmas.{contained_is_in, outside_is_not_in}
-use Rattle.tk_alloc.proofs.BorderLemmas.{greatest_covers, greatest_there, mapped_in, in_outside, of_outside}
+use Rattle.tk_border.proofs.MembershipLemmas.{in_outside}
+use Rattle.tk_alloc.proofs.BorderLemmas.{greatest_covers, greatest_there, mapped_in, of_outside}
 use Rattle.tk_alloc.proofs.WideLemmas.{of_catalogue}
 use Rattle.tk_alloc.specs.Strain.{is_strained}
-
-lt_is : (a b : ℤ) → a <ℤ b → int_lt a b ≡ true
-lt_is a b h = grind (arith, ints)
-
-ge_is : (a b : ℤ) → b ≤ℤ a → int_lt a b ≡ false
-ge_is a b h = grind (arith, ints)
-
-cmp_lt : (b c : Bool) → is_lt (cond b Less (cond c Greater Equal)) ≡ b
-cmp_lt true c = refl
-cmp_lt false true = refl
-cmp_lt false false = refl
-
-lt-cmp : (x y : ℤ) → is_lt (int_cmp x y) ≡ int_lt x y
-lt-cmp x y = cmp_lt (int_lt x y) (int_lt y x)
 
 not_above : (x y : ℤ) → y ≤ℤ x → is_lt (int_cmp x y) ≡ false
 not_above x y low = lt-cmp x y ∙ ge_is x y low
 
-above_not : (x y : ℤ) → is_lt (int_cmp x y) ≡ false → y ≤ℤ x
-above_not x y e = by_lt_z x y (λ below. absurd (true≢false (sym (lt_is x y below) ∙ sym (lt-cmp x y) ∙ e))) (λ high. high)
-
-there : (x o : ℕ) (xs : List ℕ) → Contains xs o → Contains (x ∷ xs) o
-there x o xs (k, within, is) = (suc k, omega arith, is)
-
 none_kept : (p : ℕ → Bool) (xs : List ℕ) → ((o : ℕ) → Contains xs o → p o ≡ false) → length (filter p xs) ≡ 0
 none_kept p [] none = refl
-none_kept p (x ∷ xs) none = rw (none x (0, omega arith, refl)) (none_kept p xs (λ o in'. none o (there x o xs in')))
+none_kept p (x ∷ xs) none = rw (none x (0, omega arith, refl)) (none_kept p xs (λ o in'. none o (contained_behind x o xs in')))
 
 all_by : (P : ℕ → Type 0) (xs : List ℕ) → ((o : ℕ) → Contains xs o → P o) → All P xs
 all_by P xs each k d within = each (get_or xs k d) (k, within, get_or_default xs k (get_or xs k d) d within)
@@ -67,16 +50,12 @@ calm_from levels members some each = ap (nat_lt 0) (calm_at levels members (leas
 
 -- ---- the border of a monitor
 
-and_right : (a b : Bool) → a ≡ true → (a && b) ≡ false → b ≡ false
-and_right true b e none = none
-and_right false b e none = absurd (false≢true e)
-
 -- an outsider that is not broken is not above the least member level
 unbroken : (levels : List ℤ) (members : List ℕ) (o : ℕ) → 0 < o → o ≤ length levels → (Contains members o → ⊥) → (Contains (broken levels members) o → ⊥) → is_above (least_member levels members) (level_at levels o) ≡ false
 unbroken levels members o some within out sound =
     let p : ℕ → Bool = λ q. is_above (least_member levels members) (level_at levels q) in
     let all = outside (length levels) members in
-    and_right (is_in all o) (p o) (contained_is_in all o (in_outside (length levels) members o some within out)) (sym (is_in-filter p all o) ∙ outside_is_not_in (filter p all) o sound)
+    right_fails (is_in all o) (p o) (contained_is_in all o (in_outside (length levels) members o some within out)) (sym (is_in-filter p all o) ∙ outside_is_not_in (filter p all) o sound)
 
 below_border : (levels : List ℤ) (members objects : List ℕ) (o : ℕ) (least greatest : Option ℤ) → 0 < length members → least_member levels members ≡ least → greatest_outside levels objects ≡ greatest
     → is_above least (level_at levels o) ≡ false → Contains (outside (length levels) objects) o → level_at levels o ≤ℤ lesser (unwrap_or least (pos 0)) greatest

@@ -14,9 +14,10 @@ use Rattle.tk_base.specs.Ascending.{IsAscending}
 use Rattle.tk_base.specs.Objects.{is_in}
 use Rattle.tk_base.specs.Settings.{Setup, IsWithinLimits}
 use Rattle.tk_base.specs.Sum.{int_sum}
+use Rattle.tk_base.proofs.SumLemmas.{int_sum-cons}
+use Rattle.tk_base.proofs.MemberLemmas.{contained_is_in, is_in_contained}
 use Rattle.tk_rows.specs.declared.reallocation.Reallocation.{Reallocation}
 use Rattle.tk_rows.specs.Factors.{Grid, AreBalanced, IsBalanced, factor_at, row_of}
-use Rattle.tk_rows.proofs.SumLemmas.{int_sum-cons}
 use Rattle.tk_rows.proofs.WritingLemmas.{AreApart}
 use Rattle.tk_alloc.specs.declared.reported.Reported.{Reported}
 use Rattle.tk_alloc.specs.Parts.{Part, leeway, value_of}
@@ -24,7 +25,6 @@ use Rattle.tk_alloc.specs.Resolving.{CanTakePart, IsReady, IsRound, round_border
 use Rattle.tk_alloc.specs.Rounds.{chosen, total}
 use Rattle.tk_alloc.proofs.AscentLemmas.{ascending_range}
 use Rattle.tk_alloc.proofs.LeewayLemmas.{base, split_above}
-use Rattle.tk_alloc.proofs.MemberLemmas.{contained_is_in, is_in_contained}
 use Rattle.tk_alloc.proofs.PickLemmas.{picked_greatest, picked_of}
 use Rattle.tk_alloc.proofs.RoundLemmas.{IsEnded, bordered, member_value, other_value, own_part, present_no_debt}
 

@@ -7,6 +7,7 @@ use Rattle.tk_base.specs.Objects.{is_in}
 use Rattle.tk_base.specs.Pairs.{objects_of}
 use Rattle.tk_base.specs.Settings.{Setup, IsWithinLimits}
 use Rattle.tk_base.proofs.AscendingLemmas.{ascending_positive}
+use Rattle.tk_base.proofs.PairsLemmas.{objects_paired}
 use Rattle.tk_rows.specs.Factors.{Grid, AreBalanced}
 use Rattle.tk_rows.proofs.WritingLemmas.{ascending_are_apart}
 use Rattle.tk_alloc.specs.declared.reported.Reported.{Reported}
@@ -15,7 +16,6 @@ use Rattle.tk_alloc.specs.Resolving.{CanTakePart, IsReady, objects_over, round_b
 use Rattle.tk_alloc.specs.Rounds.{AreReports, chosen, total, totals}
 use Rattle.tk_alloc.proofs.AskedLemmas.{IsSet, set_of}
 use Rattle.tk_alloc.proofs.FullLemmas.{IsCalled}
-use Rattle.tk_alloc.proofs.PartLemmas.{objects_put}
 use Rattle.tk_alloc.proofs.WideLemmas.{reports_count}
 
 -- what the code has read and computed before it deals
@@ -44,14 +44,14 @@ first_over setup reports first limits reported head = over_first reports first (
 pub enough : (setup : Setup) (grid : Grid) (present : List ℕ) (reports : List Reported) (first : Reported) (sums : List (ℕ × ℤ)) → length present ≤ length (objects_over reports) → IsReady setup grid present (objects_over reports)
     → objects_of first.values ≡ objects_over reports → sums ≡ totals reports (objects_of first.values) → setup.k ≤ length sums
 enough setup grid present reports first sums fewer ready over is =
-    let same : objects_of sums ≡ objects_over reports = ap objects_of is ∙ objects_put (total reports) (objects_of first.values) ∙ over in
+    let same : objects_of sums ≡ objects_over reports = ap objects_of is ∙ objects_paired (total reports) (objects_of first.values) ∙ over in
     omega (arith, fewer, ready.count, length-map sums (λ (p : ℕ × ℤ). p.0), ap length same)
 
 gathered_over : (setup : Setup) (grid : Grid) (present : List ℕ) (reports : List Reported) (first : Reported) (sums : List (ℕ × ℤ)) (members : List ℕ) → IsGathered setup grid present reports first sums members → objects_of first.values ≡ objects_over reports
 gathered_over setup grid present reports first sums members g = first_over setup reports first g.limits g.reported g.head
 
 gathered_objects : (setup : Setup) (grid : Grid) (present : List ℕ) (reports : List Reported) (first : Reported) (sums : List (ℕ × ℤ)) (members : List ℕ) → IsGathered setup grid present reports first sums members → objects_of sums ≡ objects_over reports
-gathered_objects setup grid present reports first sums members g = ap objects_of g.sums_are ∙ objects_put (total reports) (objects_of first.values) ∙ gathered_over setup grid present reports first sums members g
+gathered_objects setup grid present reports first sums members g = ap objects_of g.sums_are ∙ objects_paired (total reports) (objects_of first.values) ∙ gathered_over setup grid present reports first sums members g
 
 pub gathered_members : (setup : Setup) (grid : Grid) (present : List ℕ) (reports : List Reported) (first : Reported) (sums : List (ℕ × ℤ)) (members : List ℕ) → IsGathered setup grid present reports first sums members
     → members ≡ chosen setup present reports (objects_over reports)

@@ -7,11 +7,11 @@ use Rattle.std.proofs.lemmas.Bool.{cases_eq}
 use Rattle.std.proofs.lemmas.List.{length-map}
 use Rattle.tk_base.specs.Pairs.{value_at}
 use Rattle.tk_base.specs.Sum.{int_sum}
+use Rattle.tk_base.proofs.SumLemmas.{int_sum-cons}
 use Rattle.tk_rows.specs.declared.mon_change.MonChange.{MonChange}
 use Rattle.tk_rows.specs.declared.reallocation.Reallocation.{Reallocation}
 use Rattle.tk_rows.specs.Factors.{Grid, factor_at}
 use Rattle.tk_rows.specs.Replacing.{factor_in, new_sum, old_sum}
-use Rattle.tk_rows.proofs.SumLemmas.{int_sum-cons}
 use Rattle.tk_share.specs.Shares.{share, shares}
 use Rattle.tk_share.proofs.ShareLemmas.{shares_sum}
 use Rattle.tk_alloc.specs.Parts.{Part, value_of, above, leeway, new_factor, dealt_from, by_monitor, IsReallocation}

@@ -6,13 +6,13 @@ use Rattle.std.proofs.lemmas.List.Elements.{All-contains}
 use Rattle.tk_base.specs.Objects.{objects, is_in}
 use Rattle.tk_base.specs.Pairs.{objects_of}
 use Rattle.tk_base.specs.Settings.{Setup}
+use Rattle.tk_base.proofs.MemberLemmas.{contained_is_in, is_in_contained}
 use Rattle.tk_rows.specs.Factors.{Grid}
 use Rattle.tk_share.proofs.ShareLemmas.{share_grows, share_of_no_debt}
 use Rattle.tk_alloc.specs.declared.reported.Reported.{Reported}
 use Rattle.tk_alloc.specs.Parts.{leeway}
 use Rattle.tk_alloc.specs.Resolving.{round_parts}
 use Rattle.tk_alloc.proofs.LeewayLemmas.{weights_in}
-use Rattle.tk_alloc.proofs.MemberLemmas.{contained_is_in, is_in_contained}
 use Rattle.tk_alloc.proofs.RoundLemmas.{present_no_debt}
 use Rattle.tk_alloc.proofs.ShortLemmas.{one_takes}
 use Rattle.tk_alloc.specs.Rounds.{chosen, total, wide_parts}

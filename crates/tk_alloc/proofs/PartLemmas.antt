@@ -7,7 +7,7 @@ use Rattle.std.proofs.lemmas.Option.{get_or_from_slice_get}
 use Rattle.tk_base.specs.Ascending.{IsAscending}
 use Rattle.tk_base.specs.Pairs.{objects_of}
 use Rattle.tk_base.proofs.AscendingLemmas.{ascending_positive}
-use Rattle.tk_base.proofs.PairsLemmas.{value_at-found}
+use Rattle.tk_base.proofs.PairsLemmas.{value_at-found, objects_paired}
 use Rattle.tk_share.specs.Shares.{share}
 use Rattle.tk_base.specs.Sum.{int_sum}
 use Rattle.tk_rows.specs.Factors.{Grid, factor_at}
@@ -54,11 +54,6 @@ objects_dealt values border weights p [] leeways same = refl
 objects_dealt values border weights p (o ∷ objects) [] same = absurd (omega arith)
 objects_dealt values border weights p (o ∷ objects) (z ∷ leeways) same = ap (λ (xs : List ℕ). o ∷ xs) (objects_dealt values border weights p objects leeways (omega arith))
 
--- objects under which a number was put
-pub objects_put : (f : ℕ → ℤ) (objects : List ℕ) → objects_of (map (λ o. (o, f o)) objects) ≡ objects
-objects_put f [] = refl
-objects_put f (o ∷ objects) = ap (λ (xs : List ℕ). o ∷ xs) (objects_put f objects)
-
 -- a map over one more object
 pub map_more : {X : Type 0} (f : ℕ → X) (objects : List ℕ) (i : ℕ) → i < length objects → map f (take (i + 1) objects) ≡ map f (take i objects) ++ f (get_or objects i 0) ∷ []
 map_more f objects i within = ap (map f) (take_more objects i 0 within) ∙ map-append f (take i objects) (get_or objects i 0 ∷ [])
@@ -82,7 +77,7 @@ put_done g pairs n ys whole e =
     e ∙ ap (map (λ (q : ℕ). (q, g q))) (take_all n (objects_of pairs) (omega (arith, length-map pairs (λ (p : ℕ × ℤ). p.0))))
 
 pub put_ascends : (g : ℕ → ℤ) (pairs : List (ℕ × ℤ)) (n : ℕ) (ys : List (ℕ × ℤ)) → length pairs ≤ n → IsAscending (objects_of pairs) → ys ≡ map (λ q. (q, g q)) (take n (objects_of pairs)) → IsAscending (objects_of ys)
-put_ascends g pairs n ys whole up e = subst IsAscending (sym (ap objects_of (put_done g pairs n ys whole e) ∙ objects_put g (objects_of pairs))) up
+put_ascends g pairs n ys whole up e = subst IsAscending (sym (ap objects_of (put_done g pairs n ys whole e) ∙ objects_paired g (objects_of pairs))) up
 
 -- ---- leeways
 

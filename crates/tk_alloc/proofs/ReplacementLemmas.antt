@@ -7,13 +7,13 @@ use Rattle.std.proofs.lemmas.List.{length-map, get_or-map, get_or_default}
 use Rattle.std.proofs.lemmas.List.Elements.{All-cons, All-map}
 use Rattle.tk_base.specs.Ascending.{IsAscending}
 use Rattle.tk_base.specs.Pairs.{objects_of}
+use Rattle.tk_base.proofs.PairsLemmas.{objects_paired}
 use Rattle.tk_rows.specs.declared.mon_change.MonChange.{MonChange}
 use Rattle.tk_rows.specs.declared.reallocation.Reallocation.{Reallocation}
 use Rattle.tk_rows.specs.Factors.{Grid, IsFactor}
 use Rattle.tk_rows.specs.Replacing.{IsReplacement, factor_in, changes_of, changes_at, monitors_of}
 use Rattle.tk_rows.proofs.WritingLemmas.{AreApart}
 use Rattle.tk_alloc.specs.Parts.{Part, new_factor, dealt_from, by_monitor, IsReallocation}
-use Rattle.tk_alloc.proofs.PartLemmas.{objects_put}
 use Rattle.tk_alloc.proofs.LeewayLemmas.{value_put, own_is, at_is, sums_agree, weights_in}
 
 -- the new factors of these objects at some participants meet a bound
@@ -30,7 +30,7 @@ pub all_bounded : (P : ℤ → Type 0) (grid : Grid) (parts : List Part) (object
 all_bounded P grid parts objects first [] h = λ k d within. absurd (omega arith)
 all_bounded P grid parts objects first (q ∷ ps) h =
     All-cons (λ (x : ℕ × List (ℕ × ℤ)). (objects_of x.1 ≡ objects) × All (λ (r : ℕ × ℤ). P r.1) x.1) (q.node, map (λ o. (o, new_factor grid parts first q o)) objects) (dealt_from grid parts objects (first + 1) ps)
-    (objects_put (new_factor grid parts first q) objects, all_put P (new_factor grid parts first q) objects h.0)
+    (objects_paired (new_factor grid parts first q) objects, all_put P (new_factor grid parts first q) objects h.0)
     (all_bounded P grid parts objects (first + 1) ps h.1)
 
 all_changes : (Q : List (ℕ × ℤ) → Type 0) (at : List MonChange) → All (λ (x : ℕ × List (ℕ × ℤ)). Q x.1) (by_monitor at) → All (λ c. Q c.changes) at
@@ -51,7 +51,7 @@ bounded_own P grid own ms objects members change r h =
     subst (All (λ (q : ℕ × ℤ). P q.1)) (sym (own_is grid own ms objects members change r)) (all_put P (new_factor grid (own ∷ ms) 0 own) objects h)
 
 pub own_objects : (grid : Grid) (own : Part) (ms : List Part) (objects members : List ℕ) (change : Reallocation) → IsReallocation grid (own ∷ ms) objects members change → objects_of change.own ≡ objects
-own_objects grid own ms objects members change r = ap objects_of (own_is grid own ms objects members change r) ∙ objects_put (new_factor grid (own ∷ ms) 0 own) objects
+own_objects grid own ms objects members change r = ap objects_of (own_is grid own ms objects members change r) ∙ objects_paired (new_factor grid (own ∷ ms) 0 own) objects
 
 pub numbers_by : (at : List MonChange) → monitors_of at ≡ map (λ (x : ℕ × List (ℕ × ℤ)). x.0) (by_monitor at)
 numbers_by [] = refl

@@ -13,11 +13,12 @@ use Rattle.tk_base.specs.Pairs.{objects_of}
 use Rattle.tk_base.specs.Settings.{Setup}
 use Rattle.tk_base.specs.Sum.{int_sum}
 use Rattle.tk_base.proofs.PairsLemmas.{value_at-absent}
+use Rattle.tk_base.proofs.SumLemmas.{int_sum-cons}
+use Rattle.tk_base.proofs.MemberLemmas.{contained_is_in, is_in_contained, outside_is_not_in}
 use Rattle.tk_rows.specs.declared.mon_change.MonChange.{MonChange}
 use Rattle.tk_rows.specs.declared.reallocation.Reallocation.{Reallocation}
 use Rattle.tk_rows.specs.Factors.{Grid, factor_at, IsFactor}
 use Rattle.tk_rows.specs.Replacing.{IsReplacement, changes_at, factor_in}
-use Rattle.tk_rows.proofs.SumLemmas.{int_sum-cons}
 use Rattle.tk_rows.proofs.WritingLemmas.{AreApart, ascending_are_apart}
 use Rattle.tk_share.proofs.ShareLemmas.{share_grows, share_of_no_debt}
 use Rattle.tk_alloc.specs.declared.reported.Reported.{Reported}
@@ -28,7 +29,6 @@ use Rattle.tk_alloc.specs.Search.{AreWithin, IsEven, by_node, placed}
 use Rattle.tk_alloc.proofs.BorderLemmas.{border_below, border_covers}
 use Rattle.tk_alloc.proofs.LeewayLemmas.{value_put, sums_agree, weights_in}
 use Rattle.tk_alloc.proofs.LimitLemmas.{length-by_node}
-use Rattle.tk_alloc.proofs.MemberLemmas.{contained_is_in, is_in_contained, outside_is_not_in}
 use Rattle.tk_alloc.proofs.ReplacementLemmas.{AreBounded, ArePlaced, bounded_at, own_objects, monitors_are, own_after, at_after}
 
 -- ---- the participants

@@ -9,6 +9,7 @@ use Rattle.std.proofs.lemmas.List.{length-map, get_or_default}
 use Rattle.tk_base.specs.Objects.{is_in}
 use Rattle.tk_base.specs.Pairs.{objects_of}
 use Rattle.tk_base.specs.Settings.{Setup}
+use Rattle.tk_base.proofs.MemberLemmas.{contained_is_in, is_in_contained, outside_is_not_in}
 use Rattle.tk_border.specs.Levels.{raised}
 use Rattle.tk_rows.specs.Factors.{Grid, factor_at}
 use Rattle.tk_alloc.specs.declared.reported.Reported.{Reported}
@@ -17,7 +18,6 @@ use Rattle.tk_alloc.specs.Parts.{leeway}
 use Rattle.tk_alloc.specs.Resolving.{round_parts, round_border, PassesShortTest}
 use Rattle.tk_alloc.proofs.LeewayLemmas.{value_put}
 use Rattle.tk_alloc.proofs.PartLemmas.{IsRead}
-use Rattle.tk_alloc.proofs.MemberLemmas.{contained_is_in, outside_is_not_in, is_in_contained}
 
 -- the object at a place of a report
 abbrev pub object_at : Reported → ℕ → ℕ

@@ -7,8 +7,8 @@ use Rattle.std.proofs.lemmas.List.Elements.{All-cons, All-head, All-nil, All-tai
 use Rattle.tk_base.specs.Objects.{is_in}
 use Rattle.tk_base.specs.Settings.{Setup, IsWithinLimits}
 use Rattle.tk_base.specs.Sum.{int_sum}
+use Rattle.tk_base.proofs.SumLemmas.{int_sum-cons}
 use Rattle.tk_rows.specs.Factors.{Grid, AreBalanced}
-use Rattle.tk_rows.proofs.SumLemmas.{int_sum-cons}
 use Rattle.tk_share.proofs.ShareLemmas.{share_size}
 use Rattle.tk_alloc.specs.declared.reported.Reported.{Reported}
 use Rattle.tk_alloc.specs.Limit.{AreSized, CanDeal}

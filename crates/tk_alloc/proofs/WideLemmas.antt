@@ -13,10 +13,12 @@ use Rattle.tk_base.specs.Objects.{objects, is_in}
 use Rattle.tk_base.specs.Pairs.{objects_of, value_at}
 use Rattle.tk_base.specs.Settings.{Setup, IsWithinLimits}
 use Rattle.tk_base.specs.Sum.{int_sum}
+use Rattle.tk_base.proofs.PairsLemmas.{objects_paired}
+use Rattle.tk_base.proofs.SumLemmas.{int_sum-cons}
+use Rattle.tk_base.proofs.MemberLemmas.{contained_is_in, outside_is_not_in}
 use Rattle.tk_rows.specs.declared.reallocation.Reallocation.{Reallocation}
 use Rattle.tk_rows.specs.Factors.{Grid, factor_at, row_of, IsFactor, IsBalanced, AreBalanced}
 use Rattle.tk_rows.specs.Replacing.{IsReplacement, factor_in, changes_at}
-use Rattle.tk_rows.proofs.SumLemmas.{int_sum-cons}
 use Rattle.tk_rows.proofs.WritingLemmas.{AreApart, ascending_are_apart}
 use Rattle.tk_share.proofs.ShareLemmas.{share_size, share_grows}
 use Rattle.tk_alloc.specs.declared.reported.Reported.{Reported}
@@ -26,9 +28,7 @@ use Rattle.tk_alloc.specs.Pick.{picked}
 use Rattle.tk_alloc.specs.Rounds.{IsOfSize, AreValues, AreReports, total, totals, chosen, wide_parts, factor_after, KeepsOwn, KeepsLevels, AreSlight}
 use Rattle.tk_alloc.specs.declared.terms.Borders.TheVariants.{Zero}
 use Rattle.tk_alloc.specs.Terms.{AreTerms, parts_of}
-use Rattle.tk_alloc.proofs.PartLemmas.{objects_put}
 use Rattle.tk_alloc.proofs.AscentLemmas.{ascending_range}
-use Rattle.tk_alloc.proofs.MemberLemmas.{contained_is_in, outside_is_not_in}
 use Rattle.tk_alloc.proofs.LeewayLemmas.{value_put, base, split_above, weights_in}
 use Rattle.tk_alloc.proofs.ReplacementLemmas.{AreBounded, ArePlaced, is_replacement, bounded_at, bounded_own, own_after, at_after}
 use Rattle.tk_alloc.proofs.PickLemmas.{picked_greatest, picked_of}
@@ -282,7 +282,7 @@ asked_totals setup grid present reports first sums members values a = a.sums_are
 
 asked_objects : (setup : Setup) (grid : Grid) (present : List ℕ) (reports : List Reported) (first : Reported) (sums : List (ℕ × ℤ)) (members : List ℕ) (values : List (ℕ × ℤ)) → IsAsked setup grid present reports first sums members values
     → objects_of sums ≡ objects setup.objects
-asked_objects setup grid present reports first sums members values a = ap objects_of (asked_totals setup grid present reports first sums members values a) ∙ objects_put (total reports) (objects setup.objects)
+asked_objects setup grid present reports first sums members values a = ap objects_of (asked_totals setup grid present reports first sums members values a) ∙ objects_paired (total reports) (objects setup.objects)
 
 asked_members : (setup : Setup) (grid : Grid) (present : List ℕ) (reports : List Reported) (first : Reported) (sums : List (ℕ × ℤ)) (members : List ℕ) (values : List (ℕ × ℤ)) → IsAsked setup grid present reports first sums members values
     → members ≡ chosen setup present reports (objects setup.objects)
@@ -303,7 +303,7 @@ own_small setup members all limits =
 pub asked_terms : (setup : Setup) (grid : Grid) (present : List ℕ) (reports : List Reported) (first : Reported) (sums : List (ℕ × ℤ)) (members : List ℕ) (values : List (ℕ × ℤ)) (weight : ℕ) → IsAsked setup grid present reports first sums members values → weight ≡ setup.own_weight
     → AreTerms grid (record { own_weight = weight; own_border = pos 0; own_values = values; borders = Zero }) reports
 asked_terms setup grid present reports first sums members values weight a w =
-    let same : objects_of values ≡ objects setup.objects = ap objects_of a.values_are ∙ objects_put (λ o. if is_in members o then setup.epsilon else pos 0) (objects_of sums) ∙ asked_objects setup grid present reports first sums members values a in
+    let same : objects_of values ≡ objects setup.objects = ap objects_of a.values_are ∙ objects_paired (λ o. if is_in members o then setup.epsilon else pos 0) (objects_of sums) ∙ asked_objects setup grid present reports first sums members values a in
     let count = reports_count setup.monitors (objects setup.objects) reports a.reported in
     record {
       own = record { same = refl; small = subst (All (λ (p : ℕ × ℤ). unsigned_abs p.1 ≤ 2 ^ 100)) (sym a.values_are) (own_small setup members (objects_of sums) a.limits) };
@@ -330,7 +330,7 @@ pub asked_is_wide : (setup : Setup) (grid : Grid) (present : List ℕ) (reports 
     → IsReallocation grid (parts_of (record { own_weight = weight; own_border = pos 0; own_values = values; borders = Zero }) reports) (objects_of values) members change
     → IsWide setup grid present reports change
 asked_is_wide setup grid present reports first sums members values weight change a w r =
-    let same : objects_of values ≡ objects setup.objects = ap objects_of a.values_are ∙ objects_put (λ o. if is_in members o then setup.epsilon else pos 0) (objects_of sums) ∙ asked_objects setup grid present reports first sums members values a in
+    let same : objects_of values ≡ objects setup.objects = ap objects_of a.values_are ∙ objects_paired (λ o. if is_in members o then setup.epsilon else pos 0) (objects_of sums) ∙ asked_objects setup grid present reports first sums members values a in
     let ms = map (monitor (pos 0)) reports in
     let one = subst (λ all. IsReallocation grid (record { node = 0; weight = weight; border = pos 0; values = values } ∷ ms) all members change) same r in
     let two = subst (λ m. IsReallocation grid (record { node = 0; weight = weight; border = pos 0; values = values } ∷ ms) (objects setup.objects) m change) (asked_members setup grid present reports first sums members values a) one in
@@ -342,7 +342,3 @@ asked_is_wide setup grid present reports first sums members values weight change
       reported = a.reported;
       is = subst (λ n. IsReallocation grid (record { node = 0; weight = n; border = pos 0; values = (wide_own setup present reports).values } ∷ ms) (objects setup.objects) (chosen setup present reports (objects setup.objects)) change) w three;
     }
-
-pub catalogue_length : (n : ℕ) → length (objects n) ≡ n
-unfolding objects
-catalogue_length n = length-range_with_len 1 n

@@ -1,6 +1,7 @@
 -- Histories: one more entry, fronts, the entry at a place, and laws by one induction.
-use Rattle.std.proofs.Common.{ℕ, suc, zero, ◌<◌, List, [], ◌∷◌, ◌++◌, length, take, get_or, sym, subst, arith, append_assoc, append-nil}
-use Rattle.tk_base.specs.History.{EachFrom}
+use Rattle.std.proofs.Common.{ℕ, suc, zero, ◌<◌, List, [], ◌∷◌, ◌++◌, length, take, get_or, sym, subst, arith, append_assoc, append-nil, ◌≤◌, ap}
+use Rattle.std.proofs.lemmas.List.{length-take}
+use Rattle.tk_base.specs.History.{EachFrom, IsFront}
 
 -- one entry that may come next goes behind
 pub each_push : {A : Type 0} (Allows : List A → A → Type 0) (before xs : List A) (e : A) → EachFrom Allows before xs → Allows (before ++ xs) e → EachFrom Allows before (xs ++ e ∷ [])
@@ -37,3 +38,7 @@ pub each_carries : {A : Type 0} (Allows : List A → A → Type 0) (P : List A �
 each_carries Allows P goes before [] holds each = subst P (sym (append-nil before)) holds
 each_carries Allows P goes before (x ∷ xs) holds each =
     subst P (append_assoc before (x ∷ []) xs) (each_carries Allows P goes (before ++ x ∷ []) xs (goes before x holds each.0) each.1)
+
+-- a front is no longer than what it is a front of
+pub front_size : {X : Type 0} (xs ys : List X) → IsFront xs ys → length xs ≤ length ys
+front_size xs ys front = omega (arith, ap length front.is, length-take (length xs) ys)

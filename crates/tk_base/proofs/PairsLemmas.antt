@@ -67,3 +67,8 @@ value_at-got ps o i p up within got is =
     let here : get_or ps i p ≡ p = get_or_from_slice_get ps i p p got in
     value_at-found ps o i p up within (sym (get_or-map (λ (q : ℕ × ℤ). q.0) ps i p 0 within) ∙ is)
     ∙ ap (λ (q : ℕ × ℤ). Some q.1) here
+
+-- the objects of a list that pairs each with a number
+pub objects_paired : (g : ℕ → ℤ) (xs : List ℕ) → objects_of (map (λ o. (o, g o)) xs) ≡ xs
+objects_paired g [] = refl
+objects_paired g (x ∷ xs) = ap (λ ys. x ∷ ys) (objects_paired g xs)

@@ -2,5 +2,6 @@ pub mod LevelLemmas
 pub mod MembershipLemmas
 pub mod PassedLemmas
 pub mod RisingLemmas
-mod UnionLemmas
+pub mod UnionLemmas
 mod Examples
+pub mod AscendsLemmas

@@ -1,11 +1,13 @@
 -- Ascending lists by recursion, and as what they hold.
-use Rattle.std.proofs.Common.{◌≡◌, ℕ, suc, zero, ◌+◌, ◌<◌, ◌≤◌, Bool, true, false, ◌||◌, ◌&&◌, cond, eqb, ltb, leb, List, [], ◌∷◌, ◌++◌, length, get_or, filter, refl, sym, ap, ap₂, ◌∙◌, arith, inl, inr, eq-eqb, ne_eqb, suc-add}
+use Rattle.std.proofs.Common.{◌≡◌, ℕ, suc, zero, ◌+◌, ◌<◌, ◌≤◌, Bool, true, false, ◌||◌, ◌&&◌, cond, eqb, ltb, leb, List, [], ◌∷◌, ◌++◌, length, get_or, filter, refl, sym, ap, ap₂, ◌∙◌, arith, inl, inr, eq-eqb, ne_eqb, suc-add, map}
 use Rattle.std.specs.List.{range_with_len, All}
 use Rattle.std.proofs.lemmas.Bool.{cases_lt, cases_eq, false≢true, cases_order, or_cases, eqb-true}
 use Rattle.std.proofs.lemmas.Bool.Decides.{nat_tests}
 use Rattle.std.proofs.lemmas.List.Elements.{All-head, All-tail}
+use Rattle.std.proofs.lemmas.List.{map-append}
 use Rattle.tk_base.specs.Ascending.{IsAscending}
 use Rattle.tk_base.specs.Objects.{objects, is_in}
+use Rattle.tk_base.proofs.MemberLemmas.{is_in-head}
 
 -- each number is above the one before it, and the first is above b
 abbrev pub Rises : ℕ → List ℕ → Type 0
@@ -55,9 +57,6 @@ pub is_in-low : (b : ℕ) (xs : List ℕ) (o : ℕ) → Rises b xs → o ≤ b �
 is_in-low b [] o up low = refl
 is_in-low b (x ∷ xs) o up low =
     ap (λ t. t || is_in xs o) (ne_eqb x o (λ e. omega (arith, up.0))) ∙ is_in-low x xs o up.1 (omega (arith, up.0))
-
-is_in-head : (x : ℕ) (xs : List ℕ) → is_in (x ∷ xs) x ≡ true
-is_in-head x xs = ap (λ t. t || is_in xs x) (eq-eqb x x refl)
 
 is_in-past : (x : ℕ) (xs : List ℕ) (o : ℕ) → x < o → is_in (x ∷ xs) o ≡ is_in xs o
 is_in-past x xs o past = ap (λ t. t || is_in xs o) (ne_eqb x o (λ e. omega arith))
@@ -163,3 +162,13 @@ range-append a (suc m) n =
 pub objects_more : (n : ℕ) → objects (n + 1) ≡ objects n ++ (n + 1) ∷ []
 unfolding objects
 objects_more n = range-append 1 n 1 ∙ ap (λ o. range_with_len 1 n ++ o ∷ []) (omega arith)
+
+-- one more number, counted from 1
+pub range_more : (n : ℕ) → range_with_len 1 (n + 1) ≡ range_with_len 1 n ++ (n + 1) ∷ []
+range_more n =
+    let last : 1 + n ≡ n + 1 = omega arith in
+    range-append 1 n 1 ∙ ap (λ (k : ℕ). range_with_len 1 n ++ k ∷ []) last
+
+-- what is listed by number, and one more of it
+pub counted_more : {X : Type 0} (f : ℕ → X) (n : ℕ) → map f (range_with_len 1 (n + 1)) ≡ map f (range_with_len 1 n) ++ f (n + 1) ∷ []
+counted_more f n = ap (map f) (range_more n) ∙ map-append f (range_with_len 1 n) ((n + 1) ∷ [])

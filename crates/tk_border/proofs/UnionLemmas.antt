@@ -2,9 +2,11 @@
 use Rattle.std.proofs.Common.{◌≡◌, ℕ, suc, zero, ◌+◌, ◌-◌, ◌<◌, ◌≤◌, Bool, true, false, ◌||◌, ◌&&◌, cond, List, [], ◌∷◌, ◌++◌, filter, refl, sym, ap, ap₂, ◌∙◌, arith, inl, inr}
 use Rattle.std.specs.List.{range_with_len, All}
 use Rattle.std.proofs.lemmas.Bool.{cases_Bool, or_cases, or_from}
-use Rattle.std.proofs.lemmas.List.Elements.{filter-append}
+use Rattle.std.proofs.lemmas.List.Elements.{filter-append, All-filter}
+use Rattle.std.proofs.Math.Bool.{and-false}
 use Rattle.tk_base.specs.Ascending.{IsAscending}
 use Rattle.tk_base.specs.Objects.{objects, is_in}
+use Rattle.tk_base.proofs.MemberLemmas.{objects_within}
 use Rattle.tk_border.specs.Levels.{resolution, IsPassed}
 use Rattle.tk_border.proofs.RisingLemmas.{Rises, ascends, rises-filter, rises-objects, same_rising, is_in-filter, is_in-objects, is_in-within, is_in-positive, in_catalogue, range-append}
 use Rattle.tk_border.proofs.PassedLemmas.{between}
@@ -18,17 +20,13 @@ either_in_catalogue members failed n o left right low high here = elim (or_cases
   | inr broken ↦ is_in-objects n o ∙ in_catalogue n o (is_in-positive failed o right broken) (is_in-within failed n o high broken)
 ]
 
-and_false : (a : Bool) → (a && false) ≡ false
-and_false true = refl
-and_false false = refl
-
 -- it holds what is in either set
 pub is_in-resolution : (members failed : List ℕ) (n o : ℕ) → Rises 0 members → Rises 0 failed → All (λ q. q ≤ n) members → All (λ q. q ≤ n) failed → is_in (resolution n members failed) o ≡ (is_in members o || is_in failed o)
 is_in-resolution members failed n o left right low high =
     is_in-filter (in_either members failed) (objects n) o
     ∙ elim (cases_Bool (in_either members failed o)) as (λ _. (is_in (objects n) o && in_either members failed o) ≡ in_either members failed o) [
       | inl here ↦ rw (either_in_catalogue members failed n o left right low high here) refl
-      | inr gone ↦ rw gone (and_false (is_in (objects n) o))
+      | inr gone ↦ rw gone (and-false (is_in (objects n) o))
     ]
 
 -- so it is the same for every catalogue that has both sets
@@ -67,3 +65,7 @@ resolution_none members failed = refl
 pub resolution_ascends : (n : ℕ) (members failed : List ℕ) → IsAscending (resolution n members failed)
 resolution_ascends n members failed =
     ascends (resolution n members failed) (rises-filter (in_either members failed) 0 (objects n) (rises-objects n))
+
+-- no object of the resolution set is past the catalogue
+pub resolution_within : (n : ℕ) (members failed : List ℕ) → All (λ o. o ≤ n) (resolution n members failed)
+resolution_within n members failed = All-filter (λ o. is_in members o || is_in failed o) (λ o. o ≤ n) (objects n) (objects_within n)

@@ -13,6 +13,7 @@ use Rattle.tk_frames.specs.Answer.{Answers, HasPayload}
 use Rattle.tk_frames.specs.Spelling.{IsLength, IsSpelling, code_of, framed, payload, spelling}
 use Rattle.tk_frames.specs.Frame.{kind_of}
 use Rattle.tk_frames.proofs.EncodingLemmas.{one_spelling}
+use Rattle.tk_frames.proofs.AnswerLemmas.{length-framed}
 use Rattle.tk_wire.specs.Parse.{HaveSpellings, spellings}
 use Rattle.tk_wire.proofs.ParseLemmas.{parses_are_fronts}
 use Rattle.tk_end.specs.Inbox.{Leaves}
@@ -86,9 +87,6 @@ read_is_next version frame other unread more rest next leaves =
     (sym (append_assoc (spelling version other) rest more) ∙ ap (λ (xs : List ℕ). xs ++ more) (sym leaves.parts) ∙ next.parts)).0
 
 -- ---- neither a part nor anything else stands where a frame does
-
-length-framed : (text : List ℕ) → length (framed text) ≡ length text + 4
-length-framed text = let a = length-append (big_bytes 4 (length text)) text in let b = length-bytes_high_first 4 (length text) in omega (arith, a, b)
 
 -- a payload that stands at the front says its length
 length_told : (text rest : List ℕ) → length text ≤ 2097152 → big_number 4 (framed text ++ rest) ≡ length text

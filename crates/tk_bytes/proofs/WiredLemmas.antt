@@ -1,8 +1,7 @@
 -- What a step of a node leaves of the lines.
 use Rattle.tk_journal.specs.declared.noted.Noted.TheVariants as n
-use Rattle.std.proofs.Common.{◌≡◌, ◌≤◌, ◌<◌, ◌==◌, ℕ, ◌+◌, ◌-◌, Bool, true, false, List, [], ◌∷◌, ◌++◌, length, length-append, map, set, get_or, Some, None, refl, ap, ap₂, sym, ◌∙◌, arith, subst, inl, inr}
-use Rattle.std.specs.Prelude.{if◌then◌else◌, pos, slice_get, Result, Ok, Err, IfErr, OnOk}
-use Rattle.std.specs.List.{cons_option}
+use Rattle.std.proofs.Common.{◌≡◌, ◌≤◌, ◌<◌, ◌==◌, ℕ, ◌+◌, ◌-◌, List, [], ◌∷◌, ◌++◌, length, length-append, map, set, get_or, None, refl, ap, ap₂, sym, ◌∙◌, arith, subst, inl, inr}
+use Rattle.std.specs.Prelude.{pos, slice_get, Result, Ok, Err, IfErr, OnOk}
 use Rattle.std.proofs.lemmas.Bool.{cases_eq, ne_eqb}
 use Rattle.std.proofs.lemmas.List.{append-nil, get_or-map, get_or-set_other, get_or-set_same, length-map, length-set, map-set, set-get_or}
 use Rattle.tk_base.specs.Settings.{Setup}
@@ -23,7 +22,7 @@ use Rattle.tk_wire.specs.SureWire.{SureView}
 use Rattle.tk_end.specs.Link.{LinkView}
 use Rattle.tk_port.specs.Port.{IsPort, PortView}
 use Rattle.tk_port.specs.Turn.{checking}
-use Rattle.tk_port.proofs.SideLemmas.{answered_taken, taken_after}
+use Rattle.tk_port.proofs.SideLemmas.{taken_after}
 use Rattle.tk_port.specs.Side.{taking}
 use Rattle.tk_hub.proofs.DeskLemmas.{heard_after, no_input}
 use Rattle.tk_journal.proofs.Appends.{frames_from-append}
@@ -31,13 +30,14 @@ use Rattle.tk_journal.proofs.WholeLemmas.{turn_is}
 use Rattle.tk_monitor.specs.declared.outcome.Raised.{Raised}
 use Rattle.tk_monitor.specs.declared.outcome.Raised.TheVariants.{Done, Ended}
 use Rattle.tk_trail.specs.Frames.{due_at}
-use Rattle.tk_trail.proofs.ReadingsLemmas.{taken_by-raised}
+use Rattle.tk_trail.proofs.ReadingsLemmas.{taken_by-raised, answer_taken}
 use Rattle.tk_bytes.specs.Way.{AreJoined}
 use Rattle.tk_hub.specs.Desk.{getting}
 use Rattle.tk_hub.specs.Hub.{HubView, IsHub}
 use Rattle.tk_hub.specs.Seats.{link_at}
 use Rattle.tk_world.specs.Nodes.{AtSeat, CanGoDown, CanGoUp, GoesDown, GoesUp, HasSeat, RaisesAt, checked, having_taken, with_input, with_seat}
 use Rattle.tk_world.specs.declared.seat.Seat.{Seat}
+use Rattle.tk_world.proofs.RestLemmas.{not_passed}
 use Rattle.tk_bytes.specs.Line.{ComesDown, ComesUp, IsLine, KeepsOthers}
 use Rattle.tk_bytes.specs.Wired.{AreWired, IsWalked, seat_of, seen_of}
 use Rattle.tk_bytes.specs.declared.line.Line.{Line}
@@ -155,7 +155,7 @@ checked_on port new is kept = record {
   kept = kept;
   rest = is ∙ ap (λ (m : MonitorView). record port { monitor = m }) (sym (ap (λ (p : PortView SureView). p.monitor) is));
   setup = ap (λ (p : PortView SureView). p.monitor.setup) is;
-  taken = ap (λ (p : PortView SureView). taken_by p.monitor.trail) is ∙ answered_taken port.monitor.trail (due_at port.monitor.setup port.monitor.trail);
+  taken = ap (λ (p : PortView SureView). taken_by p.monitor.trail) is ∙ answer_taken port.monitor.trail (due_at port.monitor.setup port.monitor.trail);
 }
 
 pub same_on : (port new : PortView SureView) → new ≡ port → IsPort new → StaysOn port new
@@ -189,16 +189,11 @@ same_seen mon hub lines w port at is =
 pub comes_up : (mon : ℕ) (hub : HubView SureView) (lines : List Walked) (w : Walked) → IsWalked mon hub w → (g : CanGoUp (seen_of hub lines) mon (seat_of w)) → ComesUp mon hub.coordinator w.line.port.monitor g.frame
 comes_up mon hub lines w h g = record { next = ap (slice_get (sent_by w.line.port.monitor.trail)) (sym h.got) ∙ g.next; accepted = g.accepted }
 
--- the frames that others sent stay those that were taken of them
-skip : (b : Bool) (frame : Frame) (rest : List Frame) → b ≡ false → cons_option (if b then Some frame else None) rest ≡ rest
-skip true frame rest none = absurd (cc)
-skip false frame rest none = refl
-
 froms_other : (s : Setup) (j : List Noted) (mon q : ℕ) (frame : Frame) → (q ≡ mon → ⊥) → 0 < mon → mon ≤ s.monitors → refusal_of s j mon frame ≡ None → frames_from q (j ++ turn_of s j (n.Got (record { 0 = mon }) frame)) ≡ frames_from q j
 froms_other s j mon q frame apart some within none =
     let t = turn_is s j (n.Got (record { 0 = mon }) frame) (omega (arith, some), within, none) in
     frames_from-append q j (turn_of s j (n.Got (record { 0 = mon }) frame))
-    ∙ ap (λ (fs : List Frame). frames_from q j ++ fs) (ap (frames_from q) t.is ∙ skip (mon == q) frame (frames_from q t.rest) (ne_eqb mon q (λ same. apart (sym same))) ∙ no_input q t.rest t.none)
+    ∙ ap (λ (fs : List Frame). frames_from q j ++ fs) (ap (frames_from q) t.is ∙ not_passed (mon == q) frame (frames_from q t.rest) (ne_eqb mon q (λ same. apart (sym same))) ∙ no_input q t.rest t.none)
     ∙ append-nil (frames_from q j)
 
 pub up_walked : (mon : ℕ) (hub hub' : HubView SureView) (w : Walked) (line : Line) (frame : Frame) → IsWalked mon hub w → IsLine mon hub' line → line.port.monitor ≡ w.line.port.monitor → refusal_of hub.coordinator.settings hub.coordinator.journal mon frame ≡ None

@@ -20,6 +20,7 @@ use Rattle.tk_journal.proofs.Counting.{AreCounted}
 use Rattle.tk_journal.proofs.Same.{table_by}
 use Rattle.tk_journal.proofs.Rounding.{is_in_range}
 use Rattle.tk_journal.proofs.Sound.{new_values, new_asked}
+use Rattle.tk_journal.proofs.AskedLemmas.{some_if}
 use Rattle.tk_coord.specs.declared.peer.Peer.{Peer}
 use Rattle.tk_coord.specs.declared.round.Round.{Round}
 use Rattle.tk_coord.specs.declared.state.State.{State}
@@ -45,11 +46,6 @@ asked_one s opener mon m =
 counted : (s : Setup) (j : List Noted) → AreRoundsCounted s j → AreCounted s j
 counted s j c = record { last = c.last; asked = c.asked; values = c.values }
 
--- a monitor that told nothing is waited for where it is asked
-chosen_waits : (b : Bool) (asked : List ℕ) → (is_some (if b then Some asked else None) && true) ≡ b
-chosen_waits true asked = refl
-chosen_waits false asked = refl
-
 -- the new round waits for those that it asks
 new_waits : (s : Setup) (j : List Noted) (round : ℕ) (asked : List ℕ) (mons : List ℕ) (mon : ℕ)
     → AreCounted s j → last_round j < round → waits_for round mon (j ++ collects round asked mons) ≡ is_in mons mon
@@ -57,7 +53,7 @@ unfolding waits_for
 new_waits s j round asked mons mon c new =
     ap (λ x. is_some x && not (is_some (values_of round mon (j ++ collects round asked mons)))) (new_asked s j round asked mons mon c new)
     ∙ ap (λ y. is_some (if is_in mons mon then Some asked else None) && not (is_some y)) (new_values s j round asked mons mon c new)
-    ∙ chosen_waits (is_in mons mon) asked
+    ∙ some_if (is_in mons mon) asked
 
 -- what is known of the Collects
 record IsNew (s : Setup) (j : List Noted) (round : ℕ) (asked mons : List ℕ) : Type 0 where

@@ -1,13 +1,11 @@
 -- The Collects that open a round over a journal in which none is open.
-use Rattle.std.proofs.Common.{◌≡◌, ℕ, suc, true, false, not, ◌+◌, ◌≤◌, ◌<◌, ◌==◌, ◌&&◌, List, [], ◌∷◌, ◌++◌, Option, Bool, zero, Some, None, refl, sym, ap, ◌∙◌, subst, arith}
-use Rattle.std.proofs.Math.Bool.{and-false}
+use Rattle.std.proofs.Common.{◌≡◌, ℕ, suc, true, false, not, ◌+◌, ◌≤◌, ◌<◌, ◌==◌, List, [], ◌∷◌, ◌++◌, Option, Bool, zero, Some, None, refl, sym, ap, ◌∙◌, subst, arith}
 use Rattle.std.specs.Prelude.{ℤ, is_some, filter, if◌then◌else◌}
 use Rattle.std.specs.List.{range_with_len}
 use Rattle.std.proofs.lemmas.Bool.{eq-eqb}
 use Rattle.tk_base.specs.Objects.{objects, is_in}
 use Rattle.tk_base.specs.Settings.{Setup}
 use Rattle.tk_base.specs.declared.ids.Mon.{Mon}
-use Rattle.tk_border.proofs.RisingLemmas.{is_in-filter}
 use Rattle.tk_frames.specs.declared.frame.Frame.{Frame}
 use Rattle.tk_frames.specs.declared.frame.Frame.TheVariants as f
 use Rattle.tk_alloc.specs.declared.reported.Reported.{Reported}
@@ -26,6 +24,7 @@ use Rattle.tk_journal.proofs.GrowLemmas.{asks_open}
 use Rattle.tk_journal.proofs.Sound.{new_asked}
 use Rattle.tk_journal.proofs.SoundLemmas.{collects_wide}
 use Rattle.tk_journal.proofs.Turning.{closed_got}
+use Rattle.tk_journal.proofs.FirmTurns.{no_other}
 use Rattle.tk_coord.specs.declared.round.Round.{Round}
 use Rattle.tk_coord.specs.Steps.{with_got, asked_mons, is_opener, IsAsked}
 use Rattle.tk_coord.proofs.RangeLemmas.{one_fails}
@@ -90,11 +89,6 @@ wide_is_asked s now number some closed c new =
 
 -- ---- a full round
 
--- the one that is left out is none of the others
-left_out : (a k mon : ℕ) → is_in (filter (λ m. not (m == mon)) (range_with_len a k)) mon ≡ false
-left_out a k mon =
-    is_in-filter (λ m. not (m == mon)) (range_with_len a k) mon ∙ ap (λ b. is_in (range_with_len a k) mon && not b) (eq-eqb mon mon refl) ∙ and-false (is_in (range_with_len a k) mon)
-
 -- a round that does not ask a monitor is not wide
 opens_full : (s : Setup) (j : List Noted) (round : ℕ) (asked mons : List ℕ) (q : ℕ) (rest : List ℕ) (mon : ℕ) → mons ≡ q ∷ rest
     → IsMonitor s mon → is_in mons mon ≡ false → AreCounted s j → last_round j < round
@@ -123,7 +117,7 @@ full_is_asked s now number asked report more closed c new m answer =
       counted = rounds_counted s now c;
       new = new;
       waiting = refl;
-      wide = sym (opens_full s now number asked (filter (λ mon. not (mon == report.mon.0)) (monitors s)) others.0 others.1 report.mon.0 mons m (left_out 1 s.monitors report.mon.0) c new);
+      wide = sym (opens_full s now number asked (filter (λ mon. not (mon == report.mon.0)) (monitors s)) others.0 others.1 report.mon.0 mons m (no_other 1 s.monitors report.mon.0) c new);
       report = λ r same. let e : report ≡ r = cc in subst (λ (x : Reported). IsMonitor s x.mon.0 × (answered_report x.mon.0 (answer_of x.mon.0 now) ≡ Some x)) e (m, answer);
     }
 

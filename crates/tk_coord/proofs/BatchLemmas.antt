@@ -11,12 +11,12 @@ use Rattle.std.proofs.lemmas.List.{append_assoc}
 use Rattle.tk_base.specs.Settings.{Setup}
 use Rattle.tk_base.specs.Objects.{objects}
 use Rattle.tk_frames.specs.declared.frame.Frame.{Frame}
+use Rattle.tk_border.proofs.RisingLemmas.{counted_more}
 use Rattle.tk_frames.specs.declared.frame.Frame.TheVariants as f
 use Rattle.tk_journal.specs.Legal.{Opening, opened, start}
 use Rattle.tk_journal.specs.declared.noted.Noted.{Noted}
 use Rattle.tk_journal.specs.declared.noted.Noted.TheVariants as n
 use Rattle.tk_coord.specs.Batches.{to_each}
-use Rattle.tk_coord.proofs.RangeLemmas.{counted_more}
 
 -- a frame to one monitor
 abbrev to_one : Frame → ℕ → Noted

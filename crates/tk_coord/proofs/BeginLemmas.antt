@@ -11,15 +11,17 @@ use Rattle.tk_base.specs.Pairs.{objects_of, pairs_of, value_at}
 use Rattle.tk_base.specs.Settings.{Setup, IsWithinLimits}
 use Rattle.tk_base.specs.Sum.{int_sum}
 use Rattle.tk_base.specs.declared.ids.Obj.{Obj}
+use Rattle.tk_base.proofs.PairsLemmas.{objects_paired}
+use Rattle.tk_base.proofs.SumLemmas.{int_sum-cons}
+use Rattle.tk_base.proofs.MemberLemmas.{length-objects}
 use Rattle.tk_frames.specs.Assigns.{Assign, row}
 use Rattle.tk_frames.specs.declared.frame.Frame.TheVariants as f
 use Rattle.tk_rows.specs.Factors.{Grid, AreBalanced, IsBalanced, IsFactor, factor_at}
-use Rattle.tk_rows.proofs.SumLemmas.{int_sum-cons}
+use Rattle.tk_border.proofs.RisingLemmas.{counted_more}
 use Rattle.tk_alloc.specs.Resolving.{MeetsOwn}
 use Rattle.tk_alloc.specs.Rounds.{IsOfSize}
 use Rattle.tk_alloc.proofs.LeewayLemmas.{value_put}
-use Rattle.tk_alloc.proofs.PartLemmas.{objects_put}
-use Rattle.tk_alloc.proofs.WideLemmas.{catalogue_length, in_catalogue, of_catalogue}
+use Rattle.tk_alloc.proofs.WideLemmas.{in_catalogue, of_catalogue}
 use Rattle.tk_journal.specs.Laws.{AreChanges, AreSentShort, IsMonitor, IsSetUp}
 use Rattle.tk_journal.specs.Legal.{Opening, opened, start}
 use Rattle.tk_journal.specs.Readings.{factor, monitors, own, table_at}
@@ -35,7 +37,6 @@ use Rattle.tk_journal.proofs.Tables.{IsObject, row_at, row_is, rows_count, table
 use Rattle.tk_coord.specs.Batches.{to_each}
 use Rattle.tk_coord.specs.Coordinator.{Begins, CanBegin, with_factors}
 use Rattle.tk_coord.proofs.BatchLemmas.{started}
-use Rattle.tk_coord.proofs.RangeLemmas.{counted_more}
 
 -- a monitor with its factors
 abbrev pub Given : Type 0
@@ -65,7 +66,7 @@ factors_more F k list {new} {z} pushed before is =
 
 -- they are in order
 pub factors_ascend : (F : ℕ → ℤ) (k : ℕ) (list : List (Obj × ℤ)) → pairs_of list ≡ factors_by F k → IsAscending (objects k) → IsAscending (objects_of (pairs_of list))
-factors_ascend F k list is up = subst IsAscending (sym (ap objects_of is ∙ objects_put F (objects k))) up
+factors_ascend F k list is up = subst IsAscending (sym (ap objects_of is ∙ objects_paired F (objects k))) up
 
 -- ---- the first Assigns
 
@@ -213,7 +214,7 @@ dealt_short s members table limits count =
     (batch_short (λ (mon : ℕ). mon) (λ mon. f.Assign 1 members (factors_by (factor_at table mon) s.objects)) (monitors s)
     (λ mon in'. (
       (let k = limits.k in omega (arith, k, count)),
-      (let size = length-map {B = ℕ × ℤ} (objects s.objects) (λ o. (o, factor_at table mon o)) in let all = catalogue_length s.objects in let few = limits.objects in omega (arith, size, all, few)),
+      (let size = length-map {B = ℕ × ℤ} (objects s.objects) (λ o. (o, factor_at table mon o)) in let all = length-objects s.objects in let few = limits.objects in omega (arith, size, all, few)),
     )))
 
 -- what monitors are given over a range is what one of them is given

@@ -3,7 +3,7 @@ use Rattle.std.proofs.Common.{◌≡◌, ℕ, suc, true, ◌+◌, ◌-◌, ◌�
 use Rattle.std.specs.Prelude.{IsTrue, unwrap_or, unsigned_abs, ◌^◌, fold, slice_get}
 use Rattle.std.specs.List.{All}
 use Rattle.std.proofs.lemmas.Bool.{cases_eq}
-use Rattle.std.proofs.lemmas.List.{length-set, length-map, get_or-set_same, get_or-set_other, get_or_default, take_more}
+use Rattle.std.proofs.lemmas.List.{length-set, get_or-set_same, get_or-set_other, get_or_default, take_more}
 use Rattle.std.proofs.lemmas.List.Sums.{fold_push, list_all-from_AllPass}
 use Rattle.std.proofs.lemmas.Option.{slice_get_within, get_or_from_slice_get}
 use Rattle.std.proofs.lemmas.List.Elements.{All-head, All-tail}
@@ -13,22 +13,18 @@ use Rattle.tk_base.specs.Pairs.{objects_of, value_at}
 use Rattle.tk_base.specs.Settings.{Setup}
 use Rattle.tk_base.proofs.AscendingLemmas.{ascending_positive}
 use Rattle.tk_base.proofs.PairsLemmas.{value_at-absent}
+use Rattle.tk_base.proofs.MemberLemmas.{contained_is_in}
 use Rattle.tk_border.specs.Levels.{AreSmall, holds, level_at, own_border}
-use Rattle.tk_alloc.proofs.MemberLemmas.{contained_is_in}
 use Rattle.tk_rank.specs.Rank.{RankView}
 use Rattle.tk_rows.specs.Factors.{Grid, AreBalanced, IsFactor, factor_at}
 use Rattle.tk_rows.specs.Replacing.{factor_in}
 use Rattle.tk_rows.specs.declared.reallocation.Reallocation.{Reallocation}
 use Rattle.tk_rows.proofs.WritingLemmas.{AreApart, ascending_are_apart}
 use Rattle.tk_alloc.specs.Resolving.{own_factors, round_border}
-use Rattle.tk_alloc.proofs.BorderLemmas.{own_level, level_size}
+use Rattle.tk_alloc.proofs.BorderLemmas.{own_level, level_size, factors_count}
 use Rattle.tk_coord.specs.Board.{ranks_of, relevelled}
 use Rattle.tk_coord.specs.Steps.{IsReplaced}
 use Rattle.tk_coord.proofs.ElementLemmas.{same_elements}
-
--- a table has as many own factors as rows
-pub own_count : (grid : Grid) → length (own_factors grid) ≡ length grid.rows
-own_count grid = length-map grid.rows (λ (row : List ℤ). get_or row 0 (pos 0))
 
 -- the own factors of a balanced table are small
 pub own_small : (grid : Grid) → AreBalanced grid → AreSmall (own_factors grid)
@@ -78,8 +74,8 @@ pub own_after : (old new : Grid) (r : Reallocation) → IsReplaced old r new →
     → relevelled (own_factors old) r.own ≡ own_factors new
 own_after old new r is up within =
     let levels = own_factors old in
-    let count = own_count old in
-    same_elements (relevelled levels r.own) (own_factors new) (pos 0) (length-relevelled r.own levels ∙ count ∙ sym is.objects ∙ sym (own_count new)) (λ i below.
+    let count = factors_count old in
+    same_elements (relevelled levels r.own) (own_factors new) (pos 0) (length-relevelled r.own levels ∙ count ∙ sym is.objects ∙ sym (factors_count new)) (λ i below.
     let place : suc i - 1 ≡ i = omega arith in
     subst (λ m. get_or (relevelled levels r.own) m (pos 0) ≡ get_or (own_factors new) m (pos 0)) place
     (level_after r.own levels (suc i) (omega arith) (ascending_are_apart (objects_of r.own) up) (all_positive (objects_of r.own) up) (λ k d h. let w = within k d h in omega (arith, w, count))
@@ -113,7 +109,7 @@ small_at own i p small is = subst (λ (q : ℕ × ℤ). IsFactor q.1) (get_or_fr
 pub own_more : (grid : Grid) (items : List ℤ) (i : ℕ) (z : ℤ) → i < length grid.rows → items ≡ take i (own_factors grid) → z ≡ factor_at grid 0 (i + 1) → items ++ z ∷ [] ≡ take (i + 1) (own_factors grid)
 own_more grid items i z below before is =
     let own = own_factors grid in
-    let count = own_count grid in
+    let count = factors_count grid in
     let place : i + 1 - 1 ≡ i = omega arith in
     let here : z ≡ get_or own i (pos 0) = is ∙ sym (own_level grid (i + 1)) ∙ ap (λ m. get_or own m (pos 0)) place in
     ap (λ (l : List ℤ). l ++ z ∷ []) before ∙ ap (λ (x : ℤ). take i own ++ x ∷ []) here ∙ sym (take_more own i (pos 0) (omega (arith, below, count)))

@@ -1,28 +1,23 @@
 -- What ends a turn: when nothing is due.
-use Rattle.std.proofs.Common.{◌≡◌, ℕ, false, true, not, ◌&&◌, ◌||◌, List, [], ◌∷◌, None, refl, ap, ◌∙◌, arith}
-use Rattle.std.specs.Prelude.{is_some, if◌then◌else◌}
-use Rattle.std.specs.List.{list_all}
+use Rattle.std.proofs.Common.{◌≡◌, ℕ, false, not, ◌&&◌, ◌||◌, List, [], ◌∷◌, None, refl, ap, ◌∙◌, arith}
+use Rattle.std.specs.Prelude.{is_some}
 use Rattle.std.proofs.Math.Bool.{and-false}
 use Rattle.tk_base.specs.Settings.{Setup}
 use Rattle.tk_base.specs.declared.ids.Mon.{Mon}
 use Rattle.tk_frames.specs.declared.frame.Frame.{Frame}
 use Rattle.tk_base.specs.History.{last_of}
 use Rattle.tk_journal.specs.Laws.{IsMonitor}
-use Rattle.tk_journal.specs.Readings.{Progress, monitors, answer_of, settled_in, settled_of, is_open, is_calm, in_force, members_at}
-use Rattle.tk_journal.specs.Publishing.{publications, publication_at, differs, is_due, is_last, closing, stops}
+use Rattle.tk_journal.specs.Readings.{answer_of, settled_in, settled_of, is_open, is_calm, in_force, members_at}
+use Rattle.tk_journal.specs.Publishing.{publications, differs, is_due, is_last, closing}
 use Rattle.tk_journal.specs.declared.noted.Noted.{Noted}
 use Rattle.tk_journal.specs.declared.noted.Noted.TheVariants as n
-use Rattle.tk_journal.proofs.Same.{AreSame, calm_same, force_same, maps_same}
+use Rattle.tk_journal.proofs.Same.{AreSame, calm_same, force_same}
 use Rattle.tk_journal.proofs.Published.{none_more}
+use Rattle.tk_journal.proofs.StandLemmas.{last_same, closing_none, not_calm_due}
 use Rattle.tk_coord.specs.Steps.{with_got}
 use Rattle.tk_coord.proofs.RangeLemmas.{one_fails}
 
 -- ---- where it is not calm
-
--- an open round is no calm
-pub uncalm_open : (s : Setup) (j : List Noted) → is_open s j ≡ true → is_calm s j ≡ false
-unfolding is_calm
-uncalm_open s j opened' = ap (λ o. not o && list_all (λ mon. is_some (settled_in (answer_of mon j))) (monitors s)) opened'
 
 -- a monitor whose answer is no Settled is no calm
 pub uncalm_unsettled : (s : Setup) (j : List Noted) (q : ℕ) → IsMonitor s q → settled_of q j ≡ None → is_calm s j ≡ false
@@ -31,29 +26,11 @@ uncalm_unsettled s j q m none =
     ap (λ b. not (is_open s j) && b) (one_fails (λ mon. is_some (settled_in (answer_of mon j))) 1 s.monitors q m.from_one (let w = m.within in omega (arith, w)) (ap is_some none))
     ∙ and-false (not (is_open s j))
 
--- without calm nothing is due
-undue_uncalm : (s : Setup) (j : List Noted) → is_calm s j ≡ false → is_due s j ≡ false
-undue_uncalm s j not_calm = ap (λ c. c && (differs (in_force s j) (members_at j) (last_of (publications j)) || is_last s j)) not_calm
-
--- nothing due, nothing at the end
-undue_closing : (s : Setup) (j : List Noted) → is_due s j ≡ false → closing s j ≡ []
-unfolding closing
-undue_closing s j not_due = ap (λ d. if d then n.Published (publication_at s j) ∷ (if is_last s j then stops s else []) else []) not_due
-
 -- without calm a turn ends with nothing
 pub uncalm_closing : (s : Setup) (j : List Noted) → is_calm s j ≡ false → closing s j ≡ []
-uncalm_closing s j not_calm = undue_closing s j (undue_uncalm s j not_calm)
-
--- while a round is open
-pub open_closing : (s : Setup) (j : List Noted) → is_open s j ≡ true → closing s j ≡ []
-open_closing s j opened' = uncalm_closing s j (uncalm_open s j opened')
+uncalm_closing s j not_calm = closing_none s j (not_calm_due s j not_calm)
 
 -- ---- where two journals agree
-
--- the current answers are from the ends of all parts in both or in neither
-last_same : (s : Setup) (a b : List Noted) → AreSame s a b → is_last s b ≡ is_last s a
-last_same s a b e =
-    ap (λ (ps : List Progress). list_all (λ progress. progress.last) ps) (maps_same (λ mon. settled_of mon b) (λ mon. settled_of mon a) (monitors s) (λ mon. ap settled_in (e.answer mon)))
 
 -- the same is due where the same was published
 due_same : (s : Setup) (a b : List Noted) → AreSame s a b → publications b ≡ publications a → is_due s b ≡ is_due s a
@@ -67,4 +44,4 @@ due_same s a b e published =
 -- a frame that changes no reading brings nothing at the end of its turn, where nothing was due before it
 pub closing_unchanged : (s : Setup) (j : List Noted) (mon : Mon) (frame : Frame) → AreSame s j (with_got j mon frame) → is_due s j ≡ false → closing s (with_got j mon frame) ≡ []
 closing_unchanged s j mon frame e not_due =
-    undue_closing s (with_got j mon frame) (due_same s j (with_got j mon frame) e (none_more j (n.Got mon frame ∷ []) refl) ∙ not_due)
+    closing_none s (with_got j mon frame) (due_same s j (with_got j mon frame) e (none_more j (n.Got mon frame ∷ []) refl) ∙ not_due)

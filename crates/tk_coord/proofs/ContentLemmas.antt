@@ -1,27 +1,22 @@
 -- The tests of the content of Reports and Values.
 use Rattle.std.proofs.Common.{◌≡◌, ℕ, ◌<◌, ◌≤◌, ◌+◌, ◌==◌, eq-eqb, ℤ, Bool, true, false, ◌&&◌, ◌||◌, List, [], ◌∷◌, length, get_or, map, take, refl, sym, ap, ap₂, ◌∙◌, subst, inl, inr}
-use Rattle.std.proofs.Math.Bool.{and-false}
 use Rattle.std.specs.List.{list_all, All}
-use Rattle.std.proofs.lemmas.Bool.{false≢true, false_from_ne_true, or_cases, or_left, or_right, and_parts, eqb-true, cases_Bool}
+use Rattle.std.proofs.lemmas.Bool.{false≢true, false_from_ne_true, or_cases, or_left, or_right, and_parts, eqb-true}
 use Rattle.std.proofs.lemmas.List.{map_more}
 use Rattle.tk_base.specs.Ascending.{IsAscending}
 use Rattle.tk_base.specs.Objects.{objects, is_in}
 use Rattle.tk_base.proofs.EqualLemmas.{numbers_tell}
+use Rattle.tk_base.proofs.BoolLemmas.{bool_same}
 use Rattle.tk_border.specs.Levels.{holds, least_of, lowered, resolution}
 use Rattle.tk_border.proofs.LevelLemmas.{least_of-push}
 use Rattle.tk_border.proofs.MembershipLemmas.{held_in, holds_from}
-use Rattle.tk_border.proofs.RisingLemmas.{Rises, rises, rises-filter, rises-objects, same_rising, is_in-filter, is_in-objects, is_in-within, is_in-positive, in_catalogue}
+use Rattle.tk_border.proofs.RisingLemmas.{Rises, rises, rises-filter, rises-objects, same_rising, is_in-objects, is_in-within, is_in-positive, in_catalogue}
+use Rattle.tk_border.proofs.UnionLemmas.{is_in-resolution}
 use Rattle.tk_journal.specs.Refusal.{are_same}
 
 -- two lists that differ are told apart
 pub not_same : (xs ys : List ℕ) → (xs ≡ ys → ⊥) → are_same xs ys ≡ false
 not_same xs ys apart = false_from_ne_true (are_same xs ys) (λ same. apart ((numbers_tell xs ys).0 same))
-
--- two tests that pass together are one
-pub bool_same : (a b : Bool) → (a ≡ true → b ≡ true) → (b ≡ true → a ≡ true) → a ≡ b
-bool_same true b there back = sym (there refl)
-bool_same false true there back = back refl
-bool_same false false there back = refl
 
 -- the least of one element more
 pub least_next : (f : ℕ → ℤ) (xs : List ℕ) (i : ℕ) → i < length xs → least_of (map f (take (i + 1) xs)) ≡ lowered (least_of (map f (take i xs))) (f (get_or xs i 0))
@@ -36,16 +31,6 @@ either_in_catalogue members failed n o left right low high here = elim (or_cases
   | inl member ↦ is_in-objects n o ∙ in_catalogue n o (is_in-positive members o left member) (is_in-within members n o low member)
   | inr broken ↦ is_in-objects n o ∙ in_catalogue n o (is_in-positive failed o right broken) (is_in-within failed n o high broken)
 ]
-
--- the resolution set holds the members and the failed objects
-in_resolution : (members failed : List ℕ) (n o : ℕ) → Rises 0 members → Rises 0 failed → All (λ q. q ≤ n) members → All (λ q. q ≤ n) failed
-    → is_in (resolution n members failed) o ≡ (is_in members o || is_in failed o)
-in_resolution members failed n o left right low high =
-    is_in-filter (λ q. is_in members q || is_in failed q) (objects n) o
-    ∙ elim (cases_Bool (is_in members o || is_in failed o)) as (λ _. (is_in (objects n) o && (is_in members o || is_in failed o)) ≡ (is_in members o || is_in failed o)) [
-      | inl here ↦ rw (either_in_catalogue members failed n o left right low high here) refl
-      | inr gone ↦ rw gone (and-false (is_in (objects n) o))
-    ]
 
 -- a test that all of a list pass, one of them passes
 passed_in : (p : ℕ → Bool) (xs : List ℕ) → list_all p xs ≡ true → (o : ℕ) → is_in xs o ≡ true → p o ≡ true
@@ -62,7 +47,7 @@ pub over_both : (n : ℕ) (members failed named : List ℕ) → IsAscending memb
     → (list_all (λ o. is_in members o || is_in failed o) named && (holds named members && holds named failed)) ≡ are_same named (resolution n members failed)
 over_both n members failed named left right up low high =
     let either : ℕ → Bool = λ o. is_in members o || is_in failed o in
-    let in' : (o : ℕ) → is_in (resolution n members failed) o ≡ either o = λ o. in_resolution members failed n o (rises members left) (rises failed right) low high in
+    let in' : (o : ℕ) → is_in (resolution n members failed) o ≡ either o = λ o. is_in-resolution members failed n o (rises members left) (rises failed right) low high in
     bool_same (list_all either named && (holds named members && holds named failed)) (are_same named (resolution n members failed))
     (λ all.
     let one = and_parts (list_all either named) (holds named members && holds named failed) all in

@@ -7,6 +7,8 @@ use Rattle.std.proofs.lemmas.Int.{ints}
 use Rattle.tk_base.specs.Objects.{is_in}
 use Rattle.tk_base.specs.Pairs.{objects_of}
 use Rattle.tk_base.specs.Settings.{Setup}
+use Rattle.tk_base.proofs.BoolLemmas.{bool_same}
+use Rattle.tk_base.proofs.MemberLemmas.{contained_is_in, is_in_contained}
 use Rattle.tk_border.proofs.RisingLemmas.{is_in-filter}
 use Rattle.tk_rows.specs.Factors.{Grid, IsFactor}
 use Rattle.tk_rows.specs.Replacing.{IsReplacement}
@@ -18,13 +20,11 @@ use Rattle.tk_alloc.specs.Rounds.{IsWideRound, chosen}
 use Rattle.tk_alloc.specs.declared.alloc_fault.AllocFault.{AllocFault}
 use Rattle.tk_alloc.specs.declared.alloc_fault.AllocFault.TheVariants as fault
 use Rattle.tk_alloc.specs.declared.reported.Reported.{Reported}
-use Rattle.tk_alloc.proofs.MemberLemmas.{contained_is_in, is_in_contained}
 use Rattle.tk_journal.specs.Deciding.{Dealt, full_decides, is_within_limit, passes_short_test, short_decides, wide_decides}
 use Rattle.tk_journal.proofs.Ending.{passed}
 use Rattle.tk_journal.proofs.Standing.{all_holds}
 use Rattle.tk_coord.specs.Board.{BoardView}
 use Rattle.tk_coord.specs.Dealing.{IsDealt, IsDecided, dealt_in}
-use Rattle.tk_coord.proofs.ContentLemmas.{bool_same}
 
 -- ---- tests that all of a list pass
 

@@ -11,12 +11,12 @@ use Rattle.std.proofs.lemmas.List.Elements.{All-head, All-tail, All-map, All-wea
 use Rattle.tk_base.specs.Settings.{Setup, IsWithinLimits}
 use Rattle.tk_base.specs.Sum.{int_sum}
 use Rattle.tk_base.specs.declared.ids.Mon.{Mon}
+use Rattle.tk_base.proofs.SumLemmas.{int_sum-cons}
 use Rattle.tk_border.specs.Levels.{AreMembers}
 use Rattle.tk_rows.specs.Factors.{Grid, AreBalanced, factor_at}
 use Rattle.tk_rows.specs.Replacing.{IsReplacement, monitors_of, changes_of, factor_in}
 use Rattle.tk_rows.specs.declared.mon_change.MonChange.{MonChange}
 use Rattle.tk_rows.specs.declared.reallocation.Reallocation.{Reallocation}
-use Rattle.tk_rows.proofs.SumLemmas.{int_sum-cons}
 use Rattle.tk_rows.proofs.WritingLemmas.{AreApart, ascending_are_apart}
 use Rattle.tk_frames.specs.declared.frame.Frame.{Frame}
 use Rattle.tk_frames.specs.declared.frame.Frame.TheVariants as f

@@ -76,8 +76,8 @@ pub values_demanded : (s : Setup) (j : List Noted) (mon : Mon) (round seq : ℕ)
 unfolding demanded kind_of
 values_demanded s j mon round seq border values more is = ap (λ b. values_demand s (with_values j mon round seq border values) (if b then Note else End)) is
 
--- they are the turn of no full round
-values_alone : (s : Setup) (b : Bool) → is_lone_full s (if b then Note else End) ≡ false
+-- a Note or an End alone is no full turn
+pub values_alone : (s : Setup) (b : Bool) → is_lone_full s (if b then Note else End) ≡ false
 values_alone s true = refl
 values_alone s false = refl
 

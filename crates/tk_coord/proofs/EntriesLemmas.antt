@@ -7,13 +7,13 @@ use Rattle.std.proofs.lemmas.List.Elements.{filter-append}
 use Rattle.tk_base.specs.declared.ids.Mon.{Mon}
 use Rattle.tk_frames.specs.declared.frame.Frame.TheVariants as f
 use Rattle.tk_rows.specs.declared.mon_change.MonChange.{MonChange}
+use Rattle.tk_border.proofs.RisingLemmas.{range_more}
 use Rattle.tk_alloc.specs.Parts.{by_monitor}
 use Rattle.tk_journal.specs.Turns.{collects}
 use Rattle.tk_journal.specs.declared.noted.Noted.{Noted}
 use Rattle.tk_journal.specs.declared.noted.Noted.TheVariants as n
 use Rattle.tk_coord.specs.Dealing.{assigns_by, is_but, mons_but}
 use Rattle.tk_coord.specs.declared.peer.Peer.{Peer}
-use Rattle.tk_coord.proofs.RangeLemmas.{range_more}
 
 -- ---- Collects
 

@@ -21,6 +21,7 @@ use Rattle.tk_journal.specs.declared.noted.Noted.{Noted}
 use Rattle.tk_journal.proofs.Counting.{AreCounted}
 use Rattle.tk_journal.proofs.Batches.{named_answer}
 use Rattle.tk_journal.proofs.Orderly.{Row, assigns_got}
+use Rattle.tk_journal.proofs.LastLemmas.{open_nothing}
 use Rattle.tk_coord.specs.Dealing.{IsAssigned, OpensFull, OpensWide}
 use Rattle.tk_coord.specs.State.{ArePeers, Stands}
 use Rattle.tk_coord.specs.Steps.{Follows, IsAsked, IsReply, with_got}
@@ -30,7 +31,7 @@ use Rattle.tk_coord.specs.declared.phase.Phase.{Phase}
 use Rattle.tk_coord.specs.declared.step.Outcome.{Outcome}
 use Rattle.tk_coord.specs.declared.step.Reply.TheVariants as reply
 use Rattle.tk_coord.proofs.AskedLemmas.{CanAsk, asked_open, full_is_asked, wide_is_asked}
-use Rattle.tk_coord.proofs.ClosingLemmas.{open_closing, uncalm_closing, uncalm_unsettled}
+use Rattle.tk_coord.proofs.ClosingLemmas.{uncalm_closing, uncalm_unsettled}
 use Rattle.tk_coord.proofs.DealtLemmas.{assigns_by_peers, decided_nodes, demanded_assigned, room_by_peers}
 use Rattle.tk_coord.proofs.StandLemmas.{IsBetween, IsTaken, frame_between, nothing_stops, said, turned_stands}
 
@@ -128,7 +129,7 @@ asked_follows : (s : Setup) (j : List Noted) (mon : Mon) (frame : Frame) (round 
     → All (IsEntryOf s.monitors s.objects) outcome.entries.items → outcome.phase ≡ phase → IsBetween s j mon frame phase → phase.stopped ≡ false → Follows s j mon frame outcome
 asked_follows s j mon frame round opener phase outcome t counted asked reply sends range holds between going =
     let now = with_got j mon frame in
-    follows_whole s j mon frame outcome t sends (open_closing s (said s j mon frame) (asked_open s now (demanded s j mon.0 frame) round opener counted asked))
+    follows_whole s j mon frame outcome t sends (open_nothing s (said s j mon frame) (asked_open s now (demanded s j mon.0 frame) round opener counted asked))
     (subst (λ r. IsReply s now (demanded s j mon.0 frame) r) (sym reply) asked) range
     (subst (IsBetween s j mon frame) (sym holds) between) (ap (λ (x : Phase). x.stopped) holds ∙ going)
 

@@ -6,6 +6,7 @@ use Rattle.std.proofs.lemmas.Bool.{ne_eqb, cases_eq}
 use Rattle.std.proofs.lemmas.Option.{slice_get_within, slice_get-get_or}
 use Rattle.tk_base.specs.Settings.{Setup}
 use Rattle.tk_base.specs.declared.ids.Mon.{Mon}
+use Rattle.tk_base.proofs.ListLemmas.{none_in_range, any_in_range}
 use Rattle.tk_frames.specs.declared.frame.Frame.{Frame}
 use Rattle.tk_frames.specs.declared.frame.Frame.TheVariants as f
 use Rattle.tk_alloc.specs.declared.reported.Reported.{Reported}
@@ -14,14 +15,12 @@ use Rattle.tk_journal.specs.Laws.{IsMonitor}
 use Rattle.tk_journal.specs.Refusal.{refusal_of, is_report, waits_at}
 use Rattle.tk_journal.specs.declared.noted.Noted.{Noted}
 use Rattle.tk_journal.proofs.ProgressLemmas.{settled_progress}
-use Rattle.tk_journal.proofs.Turning.{any_range}
 use Rattle.tk_coord.specs.declared.peer.Peer.{Peer}
 use Rattle.tk_coord.specs.declared.round.Round.{Round}
 use Rattle.tk_coord.specs.State.{kind_in, peer_at, ArePeers, IsRound}
 use Rattle.tk_coord.specs.Closing.{settled_as, settled_by}
 use Rattle.tk_coord.specs.Refusals.{is_report_in}
 use Rattle.tk_coord.specs.Steps.{with_got}
-use Rattle.tk_coord.proofs.RangeLemmas.{none_of_range}
 use Rattle.tk_coord.proofs.TellLemmas.{values_done, values_other, waits_kept}
 
 -- ---- who is still waited for after the Values of a monitor
@@ -49,7 +48,7 @@ unfolding is_open
 none_waits s j peers mon round seq border values kept m none others =
     let frame = f.Values round seq border values in
     let now = with_got j mon frame in
-    none_of_range (λ q. waits_for (last_round now) q now) 1 s.monitors (λ q low high. elim (cases_eq q mon.0) [
+    none_in_range (λ q. waits_for (last_round now) q now) 1 s.monitors (λ q low high. elim (cases_eq q mon.0) [
       | inl same ↦ ap (λ p. waits_for (last_round now) p now) same ∙ values_done s j mon round seq border values none
       | inr other ↦
           let from = m.from_one in
@@ -69,7 +68,7 @@ one_waits s j peers mon round seq border values i l kept m other there waits =
     let count = kept.count in
     let from = m.from_one in
     let apart : suc i ≢ mon.0 = λ e. other (omega (arith, e, from)) in
-    any_range (λ q. waits_for (last_round now) q now) 1 s.monitors (suc i) (omega arith) (omega (arith, place, count))
+    any_in_range (λ q. waits_for (last_round now) q now) 1 s.monitors (suc i) (omega arith) (omega (arith, place, count))
     (waits_other (suc i) j mon frame apart ∙ sym (ap (λ (x : Peer). x.waits) (kept.each i l there)) ∙ waits)
 
 -- ---- the kind of an answer

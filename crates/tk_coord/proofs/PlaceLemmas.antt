@@ -1,5 +1,5 @@
 -- An index of a journal, and one more entry.
-use Rattle.std.proofs.Common.{◌≡◌, ℕ, suc, ◌+◌, ◌-◌, ◌<◌, ◌≤◌, List, [], ◌∷◌, ◌++◌, length, get_or, Option, Some, None, refl, sym, ap, ◌∙◌, subst, arith, inl, inr, cond, eq-eqb, ne_eqb, set, take, drop}
+use Rattle.std.proofs.Common.{◌≡◌, ℕ, suc, ◌+◌, ◌-◌, ◌<◌, ◌≤◌, List, [], ◌∷◌, ◌++◌, length, get_or, Option, Some, None, sym, ap, ◌∙◌, subst, arith, inl, inr, cond, eq-eqb, ne_eqb, set, take, drop}
 use Rattle.std.specs.Prelude.{slice_get, slice_index}
 use Rattle.std.specs.List.{filter_map}
 use Rattle.std.proofs.lemmas.Bool.{cases_lt}
@@ -11,19 +11,12 @@ use Rattle.tk_journal.specs.declared.noted.Noted.{Noted}
 use Rattle.std.specs.Global.{Vec}
 use Rattle.std.specs.Prelude.{vec_len, vec_capacity}
 use Rattle.tk_base.specs.declared.ids.Mon.{Mon}
+use Rattle.tk_base.proofs.ListLemmas.{one_none, one_some}
 use Rattle.tk_frames.specs.declared.frame.Frame.{Frame}
 use Rattle.tk_journal.specs.declared.noted.Noted.TheVariants as n
 use Rattle.tk_journal.specs.Links.{sent_to}
 use Rattle.tk_coord.specs.Journal.{IsIndex, AreIndexed, HasRoom}
 use Rattle.tk_coord.proofs.ElementLemmas.{read_set, slice_get-front, slice_get-left, slice_get-seam}
-
--- an entry that reads as nothing is a list of none
-pub one_none : {A X : Type 0} (read : A → Option X) (e : A) → read e ≡ None → filter_map read (e ∷ []) ≡ []
-one_none {A} {X} read e is = rw is refl
-
--- an entry that reads as something is a list of one
-pub one_some : {A X : Type 0} (read : A → Option X) (e : A) (x : X) → read e ≡ Some x → filter_map read (e ∷ []) ≡ x ∷ []
-one_some read e x is = rw is refl
 
 -- an entry that reads as nothing leaves the index as it is
 pub index_skip : {X : Type 0} (read : Noted → Option X) (journal : List Noted) (places : List ℕ) (e : Noted) → read e ≡ None → IsIndex read journal places → IsIndex read (journal ++ e ∷ []) places

@@ -23,7 +23,7 @@ use Rattle.tk_journal.proofs.Pieces.{got_members}
 use Rattle.tk_journal.proofs.Firm.{open_force}
 use Rattle.tk_journal.proofs.Published.{none_more}
 use Rattle.tk_journal.proofs.Same.{AreSame, open_same}
-use Rattle.tk_journal.proofs.StandLemmas.{nothing_stays_due}
+use Rattle.tk_journal.proofs.StandLemmas.{nothing_stays_due, open_not_calm}
 use Rattle.tk_journal.proofs.Tuning.{force_monitors}
 use Rattle.tk_coord.specs.declared.peer.Peer.{Peer}
 use Rattle.tk_coord.specs.declared.phase.Phase.{Phase}
@@ -34,7 +34,8 @@ use Rattle.tk_coord.specs.Coordinator.{IsJournal}
 use Rattle.tk_coord.specs.State.{ArePeers, Stands, peer_at}
 use Rattle.tk_coord.specs.Steps.{Follows, with_got}
 use Rattle.tk_journal.proofs.SoundLemmas.{all_of_range}
-use Rattle.tk_coord.proofs.ClosingLemmas.{closing_unchanged, open_closing, uncalm_closing, uncalm_open, uncalm_unsettled}
+use Rattle.tk_journal.proofs.LastLemmas.{open_nothing}
+use Rattle.tk_coord.proofs.ClosingLemmas.{closing_unchanged, uncalm_closing, uncalm_unsettled}
 use Rattle.tk_coord.proofs.DemandLemmas.{report_demands_none, settled_demands}
 use Rattle.tk_coord.proofs.FollowLemmas.{calm_follows, quiet_follows}
 use Rattle.tk_coord.proofs.PeerReadings.{peer_place, says_as}
@@ -80,7 +81,7 @@ noted_report_follows s j mon seq border failed values outcome h m none fresh ope
     let frame = f.Report seq border failed values in
     let same = open_stays s j mon frame (λ r q. refl) in
     quiet_follows s j mon frame outcome (taken_at s j mon frame h m none) same (report_demands_none s j mon.0 seq border failed values false fresh (λ _. opened))
-    (open_closing s (with_got j mon frame) (same ∙ opened))
+    (open_nothing s (with_got j mon frame) (same ∙ opened))
 
 -- what the others say is as before
 others_say : (j : List Noted) (mon : Mon) (frame : Frame) (q : ℕ) → q ≢ mon.0 → settled_of q (with_got j mon frame) ≡ settled_by (Some (peer_at j q))
@@ -90,7 +91,7 @@ others_say j mon frame q other = ap settled_in (answer_other q j mon frame (ne_e
 stirred_by : (s : Setup) (j : List Noted) (peers : List Peer) (mon : Mon) (seq : ℕ) (last : Bool) (places : List ℕ) → ArePeers s j peers → IsMonitor s mon.0
     → (is_open s j ≡ true) ⊎ ((i : ℕ) × (l : Peer) × (i ≢ mon.0 - 1) × (slice_get peers i ≡ Some l) × (settled_by (Some l) ≡ None)) → is_calm s (with_got j mon (f.Settled seq last places)) ≡ false
 stirred_by s j peers mon seq last places are m (inl opened) =
-    let frame = f.Settled seq last places in uncalm_open s (with_got j mon frame) (open_stays s j mon frame (λ r q. refl) ∙ opened)
+    let frame = f.Settled seq last places in open_not_calm s (with_got j mon frame) (open_stays s j mon frame (λ r q. refl) ∙ opened)
 stirred_by s j peers mon seq last places are m (inr other) =
     let frame = f.Settled seq last places in
     let i = other.0 in

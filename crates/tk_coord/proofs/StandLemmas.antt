@@ -1,5 +1,5 @@
 -- What holds until the next turn, over a turn: k and epsilon by the frame and what it demands, Stop by what ends it.
-use Rattle.std.proofs.Common.{◌≡◌, ℕ, false, ◌<◌, ◌||◌, List, [], ◌∷◌, ◌++◌, None, sym, ap, ◌∙◌, subst, arith}
+use Rattle.std.proofs.Common.{◌≡◌, false, ◌||◌, List, [], ◌∷◌, ◌++◌, None, sym, ap, ◌∙◌, subst}
 use Rattle.std.proofs.lemmas.List.{append_assoc}
 use Rattle.tk_base.specs.History.{last_of}
 use Rattle.tk_base.specs.Settings.{Setup, IsWithinLimits}
@@ -8,15 +8,14 @@ use Rattle.tk_frames.specs.declared.frame.Frame.{Frame}
 use Rattle.tk_journal.specs.Laws.{IsMonitor}
 use Rattle.tk_journal.specs.Legal.{turn_of}
 use Rattle.tk_journal.specs.Publishing.{closing}
-use Rattle.tk_journal.specs.Readings.{in_force, is_open, is_stopped, last_round, tuned_to, tunings}
+use Rattle.tk_journal.specs.Readings.{in_force, is_open, is_stopped, tuned_to, tunings}
 use Rattle.tk_journal.specs.Refusal.{refusal_of}
-use Rattle.tk_journal.specs.Turns.{collects, demanded, is_wide}
+use Rattle.tk_journal.specs.Turns.{demanded}
 use Rattle.tk_journal.specs.declared.noted.Noted.{Noted}
 use Rattle.tk_journal.specs.declared.noted.Noted.TheVariants as n
 use Rattle.tk_journal.proofs.Appends.{is_stopped-append}
-use Rattle.tk_journal.proofs.Batches.{collects_round}
 use Rattle.tk_journal.proofs.Ending.{sent_force, sent_tunings}
-use Rattle.tk_journal.proofs.Firm.{IsFirm, got_tuned, got_tunings, open_force}
+use Rattle.tk_journal.proofs.Firm.{IsFirm, got_tuned, got_tunings, open_force, collects_force}
 use Rattle.tk_journal.proofs.GrowLemmas.{Grows, grows}
 use Rattle.tk_journal.proofs.GrowLemmas.Grows.{Asks, Nothing, ToAll, ToOne}
 use Rattle.tk_journal.proofs.LawLemmas.{one_less}
@@ -24,7 +23,7 @@ use Rattle.tk_journal.proofs.Orderly.{IsOrderly}
 use Rattle.tk_journal.proofs.Pieces.{got_stopped}
 use Rattle.tk_journal.proofs.Published.{demanded_wanted, no_stop}
 use Rattle.tk_journal.proofs.Same.{AreSame, force_same, same_closing}
-use Rattle.tk_journal.proofs.Tuning.{AreTuned, EachTuning, IsOpened, collects_tunings, force_closed, force_past}
+use Rattle.tk_journal.proofs.Tuning.{AreTuned, collects_tunings, force_closed}
 use Rattle.tk_coord.specs.State.{Stands, next_settings}
 use Rattle.tk_coord.specs.Steps.{with_got}
 use Rattle.tk_coord.specs.declared.phase.Phase.{Phase}
@@ -71,17 +70,6 @@ unfolding is_stopped
 nothing_stops s j none = ap is_stopped none
 
 -- ---- k and epsilon over what a frame demands
-
--- those in force stay where Collects open a round
-collects_force : (s : Setup) (j : List Noted) (round : ℕ) (all : List ℕ) (q : ℕ) (mons : List ℕ) → is_open s j ≡ false → AreTuned s j → last_round j < round
-    → in_force s (j ++ collects round all (q ∷ mons)) ≡ in_force s j
-collects_force s j round all q mons closed t new =
-    let after = j ++ collects round all (q ∷ mons) in
-    let list = collects_tunings s j round all (q ∷ mons) t in
-    force_past s after (last_round j) (is_wide s j) (subst (λ ts. EachTuning (IsOpened s (last_round j) (is_wide s j)) ts) (sym list) t)
-    (let l = collects_round j round all q mons in omega (arith, l, new))
-    ∙ ap (λ ts. tuned_to s (last_of ts)) list
-    ∙ sym (force_closed s j closed t)
 
 -- two journals have the same k and epsilon in force, and the same retunes
 record AreTunedSo (s : Setup) (a b : List Noted) : Type 0 where

@@ -27,6 +27,7 @@ use Rattle.tk_journal.proofs.Counting.{got_count}
 use Rattle.tk_journal.proofs.Accepted.{accepted_kind, accepted_values, awaited_waits, report_stays}
 use Rattle.tk_journal.proofs.Firm.{got_tunings}
 use Rattle.tk_journal.proofs.Orderly.{IsOrderly}
+use Rattle.tk_journal.proofs.FirmTurns.{no_choice}
 use Rattle.tk_coord.specs.declared.step.Statement.{Statement}
 use Rattle.tk_coord.specs.declared.step.Statement.TheVariants as stated
 use Rattle.tk_coord.specs.State.{kind_in, peer_at}
@@ -40,15 +41,10 @@ pub values_other : (r q : ℕ) (j : List Noted) (mon : Mon) (frame : Frame) → 
 values_other r q j mon frame apart =
     got_values r q j mon frame ∙ ap (λ (b : Bool). later (values_of r q j) (if b then values_for r q frame else None)) apart
 
--- nothing, whoever it is of
-either_none : (b : Bool) (x : Option Reported) → x ≡ None → (if b then x else None) ≡ None
-either_none true x none = none
-either_none false x none = refl
-
 -- a frame that has no Values for a round adds none
 values_plain : (r q : ℕ) (j : List Noted) (mon : Mon) (frame : Frame) → values_for r q frame ≡ None → values_of r q (with_got j mon frame) ≡ values_of r q j
 values_plain r q j mon frame none =
-    got_values r q j mon frame ∙ ap (later (values_of r q j)) (either_none (mon.0 == q) (values_for r q frame) none)
+    got_values r q j mon frame ∙ ap (later (values_of r q j)) (no_choice (mon.0 == q) (values_for r q frame) none)
 
 -- the last round waits as before where no Values came
 pub waits_kept : (q : ℕ) (j : List Noted) (mon : Mon) (frame : Frame) → values_of (last_round j) q (with_got j mon frame) ≡ values_of (last_round j) q j

@@ -18,12 +18,12 @@ use Rattle.tk_journal.specs.declared.turn.Turn.{Turn}
 use Rattle.tk_journal.specs.declared.turn.TurnKind.{TurnKind}
 use Rattle.tk_journal.specs.declared.turn.TurnKind.TheVariants.{Tune}
 use Rattle.tk_journal.proofs.KindLemmas.{none_opened, turns_go}
+use Rattle.tk_journal.proofs.StandLemmas.{open_not_calm}
 use Rattle.tk_coord.specs.Coordinator.{Begins}
 use Rattle.tk_coord.specs.Keeping.{has_settled, is_settled_in}
 use Rattle.tk_coord.specs.State.{ArePeers, kind_in, peer_at}
 use Rattle.tk_coord.specs.Steps.{IsCounted}
 use Rattle.tk_coord.specs.declared.peer.Peer.{Peer}
-use Rattle.tk_coord.proofs.ClosingLemmas.{uncalm_open}
 
 -- at the start there is no turn
 pub begun_turns : (s : Setup) (members : List ℕ) (table : Grid) (j : List Noted) → Begins s members table j → [] ≡ turns_of s j
@@ -86,4 +86,4 @@ calm_by_peers s j peers closed are =
 
 -- where a round is open it is not
 pub uncalm_by_round : (s : Setup) (j : List Noted) (waiting : Bool) → waiting ≡ is_open s j → waiting ≡ true → false ≡ is_calm s j
-uncalm_by_round s j waiting kept waits = sym (uncalm_open s j (sym kept ∙ waits))
+uncalm_by_round s j waiting kept waits = sym (open_not_calm s j (sym kept ∙ waits))

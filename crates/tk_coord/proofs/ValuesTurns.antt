@@ -29,6 +29,7 @@ use Rattle.tk_journal.proofs.Sound.{round_got}
 use Rattle.tk_journal.proofs.Tables.{rows_count, table_size}
 use Rattle.tk_journal.proofs.Tuning.{force_closed, force_monitors, force_objects, wide_by}
 use Rattle.tk_journal.proofs.Turning.{values_ending, values_open}
+use Rattle.tk_journal.proofs.LastLemmas.{open_nothing}
 use Rattle.tk_coord.specs.Coordinator.{IsJournal}
 use Rattle.tk_coord.specs.Dealing.{CanEndFull, CanEndWide, Ends, IsAssigned, closed}
 use Rattle.tk_coord.specs.Grounds.{IsGrounded}
@@ -40,7 +41,6 @@ use Rattle.tk_coord.specs.declared.outcomes.Grounds.{Grounds}
 use Rattle.tk_coord.specs.declared.step.Outcome.{Outcome}
 use Rattle.tk_coord.specs.declared.step.Reply.TheVariants as reply
 use Rattle.tk_coord.proofs.AskedLemmas.{can_ask_again}
-use Rattle.tk_coord.proofs.ClosingLemmas.{open_closing}
 use Rattle.tk_coord.proofs.DealtLemmas.{full_deals, wide_deals}
 use Rattle.tk_coord.proofs.FollowLemmas.{IsAsLarge, assigned_follows, quiet_follows, wide_follows}
 use Rattle.tk_coord.proofs.GroundLemmas.{AreOf, force_large, holds_over, over_fields, taken_at}
@@ -60,7 +60,7 @@ pub more_follows : (s : Setup) (j : List Noted) (mon : Mon) (number seq : ℕ) (
 more_follows s j mon number seq border values outcome journal range none opened empty silent stands =
     let frame = f.Values number seq border values in
     quiet_follows s j mon frame outcome (taken_at s j mon frame journal range none) (opened ∙ sym (values_open s j mon number seq border values range none))
-    (values_demanded s j mon number seq border values true opened) (open_closing s (with_got j mon frame) opened) empty silent stands
+    (values_demanded s j mon number seq border values true opened) (open_nothing s (with_got j mon frame) opened) empty silent stands
 
 -- ---- the reports at the end of a round
 

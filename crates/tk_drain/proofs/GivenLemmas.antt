@@ -4,6 +4,7 @@ use Rattle.std.proofs.Common.{◌≡◌, ℕ, ℤ, pos, true, List, Contains, Op
 use Rattle.std.specs.Prelude.{unwrap_or}
 use Rattle.std.proofs.lemmas.Bool.{true≢false}
 use Rattle.tk_base.specs.Pairs.{objects_of}
+use Rattle.tk_base.proofs.PairsLemmas.{objects_paired}
 use Rattle.tk_alloc.specs.Parts.{value_of}
 use Rattle.tk_alloc.proofs.LeewayLemmas.{value_put}
 use Rattle.tk_trail.specs.Setup.{MonitorSetup}
@@ -19,7 +20,6 @@ use Rattle.tk_story.specs.Links.{IsJoined}
 use Rattle.tk_trail.specs.Still.{is_present}
 use Rattle.tk_story.proofs.JoinLemmas.{under_the_last}
 use Rattle.tk_trail.proofs.PairLemmas.{answer_no_values, report_no_values, settled_no_values}
-use Rattle.tk_drain.proofs.PresentLemmas.{objects_asked}
 use Rattle.tk_drain.proofs.StrainedLemmas.{sent_there}
 use Rattle.tk_trail.proofs.SendsLemmas.{Sends}
 use Rattle.tk_trail.proofs.SendsLemmas.Sends.{Answered, Gathered as Given, Reported as Told, Ended}
@@ -47,6 +47,6 @@ values_of_present o j mon setup trail round border values h in' present q of =
     let x = s.before in
     let now = s.now present in
     let said = values_said setup x round (assigns_sent mon j) border values (sent_there o j mon setup trail frame h s) in
-    let asked : Contains said.asked q = subst (λ xs. Contains xs q) (ap objects_of said.is ∙ objects_asked (value_of_object setup x) said.asked) of in
+    let asked : Contains said.asked q = subst (λ xs. Contains xs q) (ap objects_of said.is ∙ objects_paired (value_of_object setup x) said.asked) of in
     let read : value_of values q ≡ value_of_object setup x q = ap (λ vs. value_of vs q) said.is ∙ ap (λ (v : Option ℤ). unwrap_or v (pos 0)) (value_put (value_of_object setup x) said.asked q asked) in
     sym (value-same setup x trail (record { places = now.places; assigns = now.assigns }) q) ∙ sym read

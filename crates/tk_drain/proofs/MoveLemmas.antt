@@ -2,7 +2,8 @@
 use Rattle.std.proofs.Common.{◌≡◌, ℕ, suc, zero, ◌+◌, ◌*◌, ◌<◌, ◌≤◌, ◌&&◌, ◌||◌, Bool, true, false, List, [], ◌∷◌, refl, sym, ap, ◌∙◌, subst, arith, inl, inr}
 use Rattle.std.specs.Prelude.{if◌then◌else◌, ◌⊎◌}
 use Rattle.std.specs.List.{range_with_len, list_all, list_any}
-use Rattle.std.proofs.lemmas.Bool.{cases_Bool, cases_eq, true≢false, false≢true, and_parts, and_from, or_right, or_left}
+use Rattle.std.proofs.lemmas.Bool.{cases_Bool, cases_eq, true≢false, false≢true, and_parts, and_from}
+use Rattle.tk_base.proofs.ListLemmas.{any_in_range}
 use Rattle.tk_drain.specs.Energy.{Falls, Local, local_energy, shared_energy}
 use Rattle.tk_drain.specs.Moves.{Checks, Ends, Goes, Lessens, Lone, LoneOpens, Opens, OpensNext, Plain, Readings, Short, Takes, Turns, all_present, any_strained, left_of, rounds_left, shared_of}
 use Rattle.tk_drain.specs.Settling.{Lowers}
@@ -64,13 +65,6 @@ all_at p a (suc k) at low high h =
       | inr ne ↦ all_at p (a + 1) k at (omega (arith, low, ne)) (omega (arith, high)) both.1
     ]
 
-any_at : (p : ℕ → Bool) (a k at : ℕ) → a ≤ at → at < a + k → p at ≡ true → list_any p (range_with_len a k) ≡ true
-any_at p a zero at low high h = absurd (omega (arith, low, high))
-any_at p a (suc k) at low high h = elim (cases_eq a at) [
-  | inl e ↦ or_left (p a) (list_any p (range_with_len (a + 1) k)) (subst (λ q. p q ≡ true) (sym e) h)
-  | inr ne ↦ or_right (p a) (list_any p (range_with_len (a + 1) k)) (any_at p (a + 1) k at (omega (arith, low, ne)) (omega (arith, high)) h)
-]
-
 all_same : (p q : ℕ → Bool) (xs : List ℕ) → ((j : ℕ) → p j ≡ q j) → list_all p xs ≡ list_all q xs
 all_same p q [] each = refl
 all_same p q (x ∷ xs) each = ap (λ b. b && list_all p xs) (each x) ∙ ap (λ b. q x && b) (all_same p q xs each)
@@ -89,7 +83,7 @@ all_of m r each = all_in (λ j. (r.local j).present) (range_with_len 1 m) each
 -- the monitor that reports is strained where all are present
 reports : (m at : ℕ) (r : Readings) → 1 ≤ at → at ≤ m → ((r.local at).present ≡ true → (r.local at).strained ≡ true) → all_present m r ≡ true → any_strained m r ≡ true
 reports m at r low high report all =
-    any_at (λ j. (r.local j).strained) 1 m at low (omega (arith, high)) (report (all_at (λ j. (r.local j).present) 1 m at low (omega (arith, high)) all))
+    any_in_range (λ j. (r.local j).strained) 1 m at low (omega (arith, high)) (report (all_at (λ j. (r.local j).present) 1 m at low (omega (arith, high)) all))
 
 -- ---- rounds left
 

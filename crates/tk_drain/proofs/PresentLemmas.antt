@@ -1,15 +1,16 @@
 -- A Report under the last number, of a monitor that is present, speaks of its present levels.
 use Rattle.tk_frames.specs.declared.frame.Frame.TheVariants as f
-use Rattle.std.proofs.Common.{◌≡◌, ℕ, ◌&&◌, ◌||◌, ℤ, ◌+ℤ◌, Bool, true, false, not, List, [], ◌∷◌, length, map, Contains, Some, refl, sym, ap, ◌∙◌, subst}
+use Rattle.std.proofs.Common.{◌≡◌, ℕ, ◌&&◌, ◌||◌, ℤ, ◌+ℤ◌, Bool, true, false, not, List, length, map, Contains, Some, refl, sym, ap, ◌∙◌, subst}
 use Rattle.std.specs.Prelude.{if◌then◌else◌}
 use Rattle.std.proofs.lemmas.Bool.{false≢true, and_parts, or_right}
 use Rattle.tk_base.specs.Objects.{objects, is_in}
 use Rattle.tk_base.specs.Pairs.{objects_of}
+use Rattle.tk_base.proofs.PairsLemmas.{objects_paired}
+use Rattle.tk_base.proofs.MemberLemmas.{contained_is_in, is_in_contained}
 use Rattle.tk_border.specs.Levels.{broken, border, is_above, least_member, level_at, outside, resolution}
 use Rattle.tk_border.proofs.RisingLemmas.{is_in-filter}
 use Rattle.tk_frames.specs.Assigns.{Assign, row, members_of}
 use Rattle.tk_frames.specs.declared.frame.Frame.{Frame}
-use Rattle.tk_alloc.proofs.MemberLemmas.{contained_is_in, is_in_contained}
 use Rattle.tk_trail.specs.Setup.{MonitorSetup}
 use Rattle.tk_trail.specs.Frames.{report_at, settled_at, resolution_at, border_over, values_over}
 use Rattle.tk_trail.specs.Readings.{assigns_of, value_of_object, level_of, levels_of, broken_at, is_broken, members_at, sent_by}
@@ -44,11 +45,6 @@ report_is_at setup x frame (Gathered round asked last e) is = absurd (false≢tr
 report_is_at setup x frame (Reported unowed free broken e) is = e
 report_is_at setup x frame (Ended unowed free calm ends told e) is = absurd (false≢true (sym (settled_not setup x) ∙ ap is_a_report (sym e) ∙ is))
 
--- the objects of values are those that were asked for
-pub objects_asked : (g : ℕ → ℤ) (xs : List ℕ) → objects_of (map (λ o. (o, g o)) xs) ≡ xs
-objects_asked g [] = refl
-objects_asked g (x ∷ xs) = ap (λ ys. x ∷ ys) (objects_asked g xs)
-
 record Says (setup : MonitorSetup) (x : List Entry) (border' : ℤ) (values : List (ℕ × ℤ)) : Type 0 where
   border : border' ≡ border_over setup x (resolution_at setup x)
   objects : objects_of values ≡ resolution_at setup x
@@ -57,7 +53,7 @@ says : (setup : MonitorSetup) (x : List Entry) (seq : ℕ) (border' : ℤ) (fail
 unfolding report_at
 says setup x seq border' failed values e =
     let same : values ≡ values_over setup x (resolution_at setup x) = cc in
-    record { border = cc; objects = ap objects_of same ∙ objects_asked (value_of_object setup x) (resolution_at setup x) }
+    record { border = cc; objects = ap objects_of same ∙ objects_paired (value_of_object setup x) (resolution_at setup x) }
 
 -- what is broken is in the resolution set
 broken_resolved : (levels : List ℤ) (members : List ℕ) (o : ℕ) → Contains (broken levels members) o → Contains (resolution (length levels) members (broken levels members)) o

@@ -12,12 +12,13 @@ use Rattle.tk_journal.specs.Deciding.{Decided, is_within_limit}
 use Rattle.tk_journal.specs.Readings.{assigns_sent, is_open, monitors}
 use Rattle.tk_journal.specs.Refusal.{refusal_of}
 use Rattle.tk_journal.specs.Turns.{assigns, collects, demanded, fails_at, is_lone_full, kind_of, passes_at, reported, rounds, short_at, streak, wide_collects}
-use Rattle.tk_journal.specs.declared.turn.TurnKind.TheVariants.{Stale, Note, Short, Wide, Full, End}
+use Rattle.tk_journal.specs.declared.turn.TurnKind.TheVariants.{Stale, Note, Short, Wide, Full}
 use Rattle.tk_journal.specs.declared.noted.Noted.{Noted}
 use Rattle.tk_journal.proofs.Counting.{collects_count, got_count, named_count}
 use Rattle.tk_journal.proofs.Orderly.{Row, others_of}
 use Rattle.tk_journal.proofs.Turning.{fresh_seq}
 use Rattle.tk_journal.proofs.GrowLemmas.{with_got}
+use Rattle.tk_coord.proofs.DemandLemmas.{values_alone}
 use Rattle.tk_story.specs.Story.{StoryView}
 use Rattle.tk_drain.proofs.TurnReads.{Turning, same_mid, turned}
 use Rattle.tk_drain.proofs.TurnFalls.{nothing_mid}
@@ -36,17 +37,13 @@ settled_not : (s : Setup) (late : Bool) → is_lone_full s (if late then Stale e
 settled_not s true = refl
 settled_not s false = refl
 
-values_not : (s : Setup) (opened : Bool) → is_lone_full s (if opened then Note else End) ≡ false
-values_not s true = refl
-values_not s false = refl
-
 pub not_lone : (s : Setup) (j : List Noted) (from : Mon) (frame : Frame) → refusal_of s j from.0 frame ≡ None → fails_at s j from.0 frame ≡ false → is_lone_full s (kind_of s j from.0 frame) ≡ false
 unfolding kind_of
 not_lone s j from (f.Report seq border failed values) none fails =
     lone_by s (nat_lt seq (assigns_sent from.0 j)) (is_open s j) (passes_at s j (reported from.0 border values)) (is_within_limit (short_at s j (reported from.0 border values))) (nat_lt (streak s j) 8) (seq == assigns_sent from.0 j)
     (λ late. fresh_seq s j from seq border failed values none late) fails
 not_lone s j from (f.Settled seq last places) none fails = settled_not s (nat_lt seq (assigns_sent from.0 j))
-not_lone s j from (f.Values round seq border values) none fails = values_not s (is_open s (with_got j from (f.Values round seq border values)))
+not_lone s j from (f.Values round seq border values) none fails = values_alone s (is_open s (with_got j from (f.Values round seq border values)))
 not_lone s j from (f.Hello run version mon) none fails = refl
 not_lone s j from (f.Collect round asked) none fails = refl
 not_lone s j from (f.Assign seq members changes) none fails = refl

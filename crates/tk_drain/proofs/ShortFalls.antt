@@ -1,18 +1,16 @@
 -- A short round fits its record: where its Report speaks of the present levels nothing is strained at its reporter behind it.
 use Rattle.tk_frames.specs.declared.frame.Frame.TheVariants as f
-use Rattle.std.proofs.Common.{◌≡◌, ℕ, ◌+◌, ◌≤◌, ◌&&◌, ◌==◌, ℤ, pos, ◌+ℤ◌, ◌≤ℤ◌, true, false, not, List, [], ◌∷◌, ◌++◌, length, map, Contains, Option, None, refl, sym, ap, ◌∙◌, subst, arith, append-nil, inl, inr}
-use Rattle.std.specs.Prelude.{filter, int_le, unwrap_or, if◌then◌else◌}
+use Rattle.std.proofs.Common.{◌≡◌, ℕ, ◌+◌, ◌≤◌, ◌&&◌, ◌==◌, ℤ, pos, ◌+ℤ◌, true, false, not, List, [], ◌∷◌, ◌++◌, length, map, Contains, Option, None, refl, sym, ap, ◌∙◌, subst, arith, append-nil, inl, inr}
+use Rattle.std.specs.Prelude.{filter, unwrap_or, if◌then◌else◌}
 use Rattle.std.proofs.lemmas.Bool.{and_right, cases_eq, eq-eqb, ne_eqb, le-ltb}
-use Rattle.std.proofs.lemmas.Int.{ints}
 use Rattle.tk_base.specs.Pairs.{objects_of}
 use Rattle.tk_base.specs.Settings.{Setup}
 use Rattle.tk_base.specs.declared.ids.Mon.{Mon}
+use Rattle.tk_base.proofs.PairsLemmas.{objects_paired}
 use Rattle.tk_frames.specs.Assigns.{Assign}
 use Rattle.tk_frames.specs.declared.frame.Frame.{Frame}
-use Rattle.tk_alloc.specs.declared.reported.Reported.{Reported}
 use Rattle.tk_alloc.specs.Parts.{value_of}
 use Rattle.tk_alloc.proofs.LeewayLemmas.{value_put}
-use Rattle.tk_journal.specs.Deciding.{short_decides}
 use Rattle.tk_journal.specs.Laws.{IsMonitor}
 use Rattle.tk_journal.specs.Legal.{Opening, start}
 use Rattle.tk_journal.specs.Links.{frames_to}
@@ -31,7 +29,7 @@ use Rattle.tk_journal.proofs.Same.{open_same}
 use Rattle.tk_journal.proofs.SoundLemmas.{legal_firm}
 use Rattle.tk_journal.proofs.Standing.{object_of}
 use Rattle.tk_journal.proofs.Tables.{rows_count, table_size}
-use Rattle.tk_journal.proofs.Tuning.{force_limits}
+use Rattle.tk_journal.proofs.Tuning.{force_limits, wide_by}
 use Rattle.tk_journal.proofs.Turning.{closed_got}
 use Rattle.tk_trail.specs.Setup.{MonitorSetup}
 use Rattle.tk_trail.specs.Frames.{resolution_at}
@@ -51,22 +49,20 @@ use Rattle.tk_journal.proofs.SentLemmas.{flag}
 use Rattle.tk_story.proofs.JoinLemmas.{under_the_last}
 use Rattle.tk_journal.proofs.LevelledLemmas.{short_levelled, short_sent, count_levels}
 use Rattle.tk_alloc.proofs.MendLemmas.{short_mends}
-use Rattle.tk_drain.proofs.PresentLemmas.{objects_asked, speaks_of_present}
+use Rattle.tk_drain.proofs.PresentLemmas.{speaks_of_present}
 use Rattle.tk_story.specs.Story.{IsStory, StoryView, setup_of, trail_of}
 use Rattle.tk_trail.proofs.SaysLemmas.{law_report}
 use Rattle.tk_story.proofs.QuietLemmas.{joined}
 use Rattle.tk_world.specs.Events.{is_monitor}
 use Rattle.tk_drain.specs.Reads.{levels_then, reading, readings}
 use Rattle.tk_drain.proofs.ReadLemmas.{local_own}
-use Rattle.tk_drain.proofs.TurnReads.{Turning, batch_length, field_by, goes_by, mid, same_mid, stops_count, strained_by, turned, turns_by, wide_by, wide_got, wide_same}
+use Rattle.tk_drain.proofs.TurnReads.{Turning, batch_length, field_by, goes_by, mid, same_mid, stops_count, strained_by, turned, turns_by, wide_got, wide_same}
 use Rattle.tk_drain.proofs.TurnFalls.{next_sent, report_strains}
 use Rattle.tk_drain.proofs.AssignFalls.{assigned_once, renewed_by}
 use Rattle.tk_journal.proofs.Ending.{passed}
+use Rattle.tk_journal.proofs.LeftLemmas.{short_is}
 
 -- ---- the short test
-
-at_most : (a b : ℤ) → int_le a b ≡ true → a ≤ℤ b
-at_most a b e = omega (arith, ints, e)
 
 -- ---- the values of a Report under the last number are the present ones
 
@@ -79,7 +75,7 @@ report_values o j mon setup trail border failed values h in' present q of =
     let x = s.before in
     let now = s.now present in
     let said = law_report setup x s.after (assigns_sent mon j) border failed values (subst (IsLegalTrail setup) s.is h.ways) in
-    let asked : Contains (resolution_at setup x) q = subst (λ xs. Contains xs q) (ap objects_of said.values_is ∙ objects_asked (value_of_object setup x) (resolution_at setup x)) of in
+    let asked : Contains (resolution_at setup x) q = subst (λ xs. Contains xs q) (ap objects_of said.values_is ∙ objects_paired (value_of_object setup x) (resolution_at setup x)) of in
     let read : value_of values q ≡ value_of_object setup x q = ap (λ vs. value_of vs q) said.values_is ∙ ap (λ (v : Option ℤ). unwrap_or v (pos 0)) (value_put (value_of_object setup x) (resolution_at setup x) q asked) in
     sym (value-same setup x trail (record { places = now.places; assigns = now.assigns }) q) ∙ sym read
 
@@ -116,10 +112,6 @@ short_now s from border failed values h m none in' test present =
     }
 
 -- ---- what it changes
-
-short_is : (s : Setup) (j : List Noted) (report : Reported) → assigns j (short_at s j report) ≡ sends j (members_at j) (short_sent s j report ∷ [])
-unfolding short_decides
-short_is s j report = refl
 
 -- how many Assigns each is sent
 abbrev pub to_one : ℕ → ℕ → ℕ

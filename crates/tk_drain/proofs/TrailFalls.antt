@@ -7,6 +7,7 @@ use Rattle.std.proofs.lemmas.Bool.{false≢true, lt-ltb, or_left, or_right}
 use Rattle.std.proofs.lemmas.List.{length-append}
 use Rattle.std.proofs.lemmas.List.Folds.{list_any-append}
 use Rattle.std.proofs.lemmas.List.Elements.{filter_map-append}
+use Rattle.std.proofs.Math.Bool.{or-false}
 use Rattle.tk_base.specs.Objects.{objects}
 use Rattle.tk_frames.specs.Assigns.{Assign, assign_in}
 use Rattle.tk_frames.specs.declared.frame.Frame.{Frame}
@@ -39,10 +40,6 @@ use Rattle.tk_world.proofs.StepLemmas.{next_is, mapped_some, guarded, monitor_is
 use Rattle.tk_drain.specs.Reads.{levels_then, local_of, readings}
 use Rattle.tk_drain.proofs.ReadLemmas.{front_length, local_own, others_same, own_now}
 
-or_false : (a : Bool) → (a || false) ≡ a
-or_false true = refl
-or_false false = refl
-
 -- ---- what an entry leaves of a trail's readings
 
 still_with : (trail : List Entry) (e : Entry) (t' : List Entry) → since_assign t' ≡ since_assign trail ++ e ∷ [] → is_raise e ≡ false → is_still t' ≡ is_still trail
@@ -50,7 +47,7 @@ still_with trail e t' since none =
     ap (λ (xs : List Entry). not (list_any is_raise xs)) since
     ∙ ap not (list_any-append is_raise (since_assign trail) (e ∷ []))
     ∙ ap (λ b. not (list_any is_raise (since_assign trail) || (b || false))) none
-    ∙ ap not (or_false (list_any is_raise (since_assign trail)))
+    ∙ ap not (or-false (list_any is_raise (since_assign trail)))
 
 present_with : (sent : ℕ) (trail t' : List Entry) → seq_of t' ≡ seq_of trail → is_still t' ≡ is_still trail → is_present sent t' ≡ is_present sent trail
 present_with sent trail t' seq still = ap (λ n. nat_lt n sent || is_still t') seq ∙ ap (λ b. nat_lt (seq_of trail) sent || b) still

@@ -1,14 +1,14 @@
 -- Turns that send no Assign fit their records.
 use Rattle.tk_frames.specs.declared.frame.Frame.TheVariants as f
-use Rattle.std.proofs.Common.{◌≡◌, ℕ, suc, zero, ◌+◌, ◌≤◌, ◌<◌, ◌||◌, ◌==◌, ℤ, true, false, not, List, [], ◌∷◌, ◌++◌, length, Contains, refl, sym, ap, ◌∙◌, subst, arith, append-nil, inl, inr}
-use Rattle.std.specs.Prelude.{filter, nat_lt, nat_le, if◌then◌else◌}
+use Rattle.std.proofs.Common.{◌≡◌, ℕ, suc, zero, ◌+◌, ◌≤◌, ◌<◌, ◌==◌, ℤ, true, false, not, List, [], ◌∷◌, ◌++◌, length, Contains, refl, sym, ap, ◌∙◌, subst, arith, append-nil, inl, inr}
+use Rattle.std.specs.Prelude.{filter, if◌then◌else◌}
 use Rattle.std.specs.List.{range_with_len}
-use Rattle.std.proofs.lemmas.Bool.{and_parts, eq-eqb, true≢false, false_from_ne_true, ltb-true, leb-true}
-use Rattle.tk_base.specs.Objects.{objects, is_in}
+use Rattle.std.proofs.lemmas.Bool.{eq-eqb, true≢false, false_from_ne_true}
+use Rattle.std.proofs.lemmas.List.{map-id}
+use Rattle.tk_base.specs.Objects.{objects}
 use Rattle.tk_base.specs.Pairs.{objects_of}
-use Rattle.tk_base.specs.Settings.{Setup}
 use Rattle.tk_base.specs.declared.ids.Mon.{Mon}
-use Rattle.tk_border.proofs.RisingLemmas.{Rises, is_in-filter, is_in-objects, rises-filter}
+use Rattle.tk_border.proofs.RisingLemmas.{Rises, rises-filter}
 use Rattle.tk_frames.specs.declared.frame.Frame.{Frame}
 use Rattle.tk_journal.specs.Laws.{IsMonitor}
 use Rattle.tk_journal.specs.Legal.{start}
@@ -26,13 +26,14 @@ use Rattle.tk_drain.specs.Moves.{Plain, Opens, OpensNext, LoneOpens}
 use Rattle.tk_journal.specs.Shapes.{IsFreshReport, IsLastValues}
 use Rattle.tk_trail.specs.Still.{is_present}
 use Rattle.tk_journal.proofs.GatheredLemmas.{in_back}
-use Rattle.tk_journal.proofs.GrowLemmas.{asks_open, range_rises, with_got}
+use Rattle.tk_journal.proofs.GrowLemmas.{asks_open, range_rises, with_got, other_monitor}
+use Rattle.tk_journal.proofs.StandLemmas.{calm_closed}
 use Rattle.tk_drain.proofs.StrainedLemmas.{reported_is_strained}
 use Rattle.tk_story.specs.Story.{StoryView, setup_of, trail_of}
 use Rattle.tk_story.proofs.QuietLemmas.{joined}
 use Rattle.tk_drain.specs.Reads.{local_of, readings}
 use Rattle.tk_drain.proofs.ReadLemmas.{local_own}
-use Rattle.tk_drain.proofs.TurnReads.{KeepsAssigns, Turning, calm_closed, goes_by, map_id, mid, once_most, present_kept, same_mid, stops_count, strained_kept, streak_turned, turned, turns_by, wide_got, wide_same}
+use Rattle.tk_drain.proofs.TurnReads.{KeepsAssigns, Turning, goes_by, mid, once_most, present_kept, same_mid, stops_count, strained_kept, streak_turned, turned, turns_by, wide_got, wide_same}
 
 -- ---- a fresh Report of a monitor that is present
 
@@ -95,7 +96,7 @@ asked_by s from frame t round asked q mons m up new e =
     let is : mid s from frame ≡ now ++ collects round asked (q ∷ mons) = ap (λ xs. now ++ xs) e in
     let all = q ∷ mons in
     record {
-      few = λ p _. let z = ap (λ xs. length (frames_to p xs)) e in let w = once_most p (λ (x : ℕ). x) (λ _. f.Collect round asked) all all (map_id all) up in omega (arith, z, w);
+      few = λ p _. let z = ap (λ xs. length (frames_to p xs)) e in let w = once_most p (λ (x : ℕ). x) (λ _. f.Collect round asked) all all (map-id all) up in omega (arith, z, w);
       keeps = record {
         assigns = λ mon. same.assigns mon ∙ ap (assigns_to mon) is ∙ plain_assigns mon now (λ (x : ℕ). x) (λ _. f.Collect round asked) all (λ _. refl) ∙ got_assigns mon s.journal from frame;
         members = same.members ∙ ap members_at is ∙ plain_members now (λ (x : ℕ). x) (λ _. f.Collect round asked) all (λ _. refl) ∙ got_members s.journal from frame;
@@ -169,21 +170,6 @@ end_over_fits s from frame t v full e =
     }
 
 -- ---- a full round
-
-in_catalogue : (m q : ℕ) → is_in (objects m) q ≡ true → (1 ≤ q) × (q ≤ m)
-in_catalogue m q in' = let both = and_parts (nat_lt 0 q) (nat_le q m) (sym (is_in-objects m q) ∙ in') in (ltb-true 0 q both.0, leb-true q m both.1)
-
-own_head : (q : ℕ) (mons : List ℕ) → is_in (q ∷ mons) q ≡ true
-own_head q mons = ap (λ b. b || is_in mons q) (eq-eqb q q refl)
-
-other_monitor : (s : Setup) (k mon : ℕ) → s.monitors ≡ suc (suc k) → IsMonitor s (others_of k mon).0
-unfolding objects
-other_monitor s k mon two =
-    let o = others_of k mon in
-    let here : is_in (filter (λ m. not (m == mon)) (range_with_len 1 (suc (suc k)))) o.0 ≡ true = ap (λ xs. is_in xs o.0) o.2 ∙ own_head o.0 o.1 in
-    let both = and_parts (is_in (range_with_len 1 (suc (suc k))) o.0) (not (o.0 == mon)) (sym (is_in-filter (λ m. not (m == mon)) (range_with_len 1 (suc (suc k))) o.0) ∙ here) in
-    let range = in_catalogue (suc (suc k)) o.0 both.0 in
-    record { from_one = range.0; within = (let w = range.1 in omega (arith, w, two)) }
 
 others_asked : (s : StoryView) (from : Mon) (frame : Frame) → Turning s from frame → (k round : ℕ) (asked : List ℕ) → s.settings.monitors ≡ suc k → (s.settings.monitors == 1) ≡ false → last_round (with_got s.journal from frame) < round
     → demanded s.settings s.journal from.0 frame ≡ collects round asked (filter (λ mon. not (mon == from.0)) (monitors s.settings)) → Asked s from frame

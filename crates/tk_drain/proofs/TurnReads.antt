@@ -1,15 +1,16 @@
 -- What every turn of a taken frame changes of what is read.
 use Rattle.tk_frames.specs.declared.frame.Frame.TheVariants as f
 use Rattle.tk_journal.specs.declared.noted.Noted.TheVariants as n
-use Rattle.std.proofs.Common.{◌≡◌, ℕ, suc, zero, ◌+◌, ◌-◌, ◌*◌, ◌≤◌, ◌<◌, ◌&&◌, ◌||◌, ◌==◌, ◌+ℤ◌, Bool, true, false, not, List, [], ◌∷◌, ◌++◌, length, map, Option, Some, None, refl, sym, ap, ◌∙◌, subst, arith, append_assoc, append-nil, inl, inr}
+use Rattle.std.proofs.Common.{◌≡◌, ℕ, suc, ◌+◌, ◌-◌, ◌*◌, ◌≤◌, ◌&&◌, ◌||◌, ◌==◌, ◌+ℤ◌, Bool, true, false, not, List, [], ◌∷◌, ◌++◌, length, map, Some, None, refl, sym, ap, ◌∙◌, subst, arith, append_assoc, append-nil, inl, inr}
 use Rattle.std.specs.Prelude.{nat_lt, is_some, if◌then◌else◌, ◌⊎◌}
 use Rattle.std.specs.List.{cons_option, list_all, list_any, range_with_len}
-use Rattle.std.proofs.lemmas.Bool.{and_parts, cases_Bool, eq-eqb, ne_eqb, false≢true, true≢false, lt-ltb, ltb-true, or_left, or_right, not-true}
-use Rattle.std.proofs.lemmas.List.{length-append}
+use Rattle.std.proofs.lemmas.Bool.{and_parts, cases_Bool, eq-eqb, ne_eqb, false≢true, true≢false, lt-ltb, ltb-true, or_left, or_right}
+use Rattle.std.proofs.lemmas.List.{length-append, map-id}
 use Rattle.std.proofs.lemmas.List.Folds.{list_any-append}
 use Rattle.tk_base.specs.Objects.{objects, is_in}
 use Rattle.tk_base.specs.Settings.{Setup}
 use Rattle.tk_base.specs.declared.ids.Mon.{Mon}
+use Rattle.tk_base.proofs.ListLemmas.{none_in_range}
 use Rattle.tk_border.proofs.RisingLemmas.{Rises}
 use Rattle.tk_frames.specs.Assigns.{Assign, row}
 use Rattle.tk_frames.specs.declared.frame.Frame.{Frame}
@@ -17,7 +18,7 @@ use Rattle.tk_journal.specs.Laws.{IsMonitor}
 use Rattle.tk_journal.specs.Legal.{IsAccepted, start, turn_of}
 use Rattle.tk_journal.specs.Links.{frames_from, frames_to, got_from}
 use Rattle.tk_journal.specs.Publishing.{closing, is_due, is_last, publication_at, stops}
-use Rattle.tk_journal.specs.Readings.{Progress, answer_of, asked_of, assigns_sent, assigns_to, factor, is_calm, is_open, is_stop, is_stopped, last_round, members_at, monitors, settled_in, settled_of}
+use Rattle.tk_journal.specs.Readings.{Progress, answer_of, assigns_sent, assigns_to, factor, is_calm, is_open, is_stop, is_stopped, members_at, monitors, settled_in}
 use Rattle.tk_journal.specs.Refusal.{refusal_of}
 use Rattle.tk_journal.specs.Turns.{demanded, fails_at, is_wide, streak}
 use Rattle.tk_journal.specs.declared.noted.Noted.{Noted}
@@ -26,7 +27,7 @@ use Rattle.tk_journal.proofs.Accepted.{accepted_kind}
 use Rattle.tk_journal.proofs.Appends.{assigns_to-append, frames_from-append, frames_to-append}
 use Rattle.tk_journal.proofs.Orderly.{IsOrderly}
 use Rattle.tk_journal.proofs.Pieces.{batch, got_asked, got_round}
-use Rattle.tk_journal.proofs.Same.{AreSame, all_same, same_closing}
+use Rattle.tk_journal.proofs.Same.{AreSame, same_closing}
 use Rattle.tk_trail.specs.Setup.{MonitorSetup}
 use Rattle.tk_trail.specs.Readings.{sent_by, taken_by, value_of_object, seq_of}
 use Rattle.tk_trail.specs.declared.entry.Entry.{Entry}
@@ -42,8 +43,11 @@ use Rattle.tk_journal.proofs.StreakLemmas.{streak_got}
 use Rattle.tk_world.specs.Events.{is_monitor, with_turn}
 use Rattle.tk_story.specs.Story.{IsStory, StoryView, setup_of, trail_of}
 use Rattle.tk_story.proofs.QuietLemmas.{joined}
-use Rattle.tk_world.proofs.StepLemmas.{NextIs, no_input, monitor_is}
+use Rattle.tk_world.proofs.StepLemmas.{NextIs, monitor_is}
 use Rattle.tk_journal.proofs.WholeLemmas.{turn_is}
+use Rattle.tk_journal.proofs.HeardLemmas.{no_input}
+use Rattle.tk_journal.proofs.StandLemmas.{calm_closed}
+use Rattle.tk_journal.proofs.Tuning.{wide_by}
 use Rattle.tk_drain.specs.Reads.{levels_then, local_of, nobody, reading, readings}
 use Rattle.tk_drain.proofs.ReadLemmas.{local_own}
 use Rattle.tk_world.proofs.EnabledLemmas.{there_is}
@@ -106,10 +110,6 @@ pub batch_length : {A : Type 0} (mon : ℕ) (to : A → ℕ) (frame : A → Fram
 batch_length mon to frame [] = refl
 batch_length mon to frame (d ∷ rows) = let a = one_length (to d == mon) (frame d) (frames_to mon (batch to frame rows)) in let b = batch_length mon to frame rows in omega (arith, a, b)
 
-pub map_id : (xs : List ℕ) → map (λ (x : ℕ). x) xs ≡ xs
-map_id [] = refl
-map_id (x ∷ xs) = ap (λ ys. x ∷ ys) (map_id xs)
-
 pub once_most : {A : Type 0} (mon : ℕ) (to : A → ℕ) (frame : A → Frame) (rows : List A) (mons : List ℕ) → map to rows ≡ mons → Rises 0 mons → length (frames_to mon (batch to frame rows)) ≤ 1
 once_most mon to frame rows mons are up =
     let a = batch_length mon to frame rows in
@@ -131,7 +131,7 @@ record Closes (mon : ℕ) (xs : List Noted) (count : ℕ) : Type 0 where
   one : count ≡ 0 ⊎ (count ≡ 1 × (list_any is_stop xs ≡ true))
 
 closes_by : (s : Setup) (k mon : ℕ) → s.monitors ≡ suc k → (due last : Bool) (p : Publication) → Closes mon (if due then n.Published p ∷ (if last then stops s else []) else []) (flag (due && last))
-closes_by s k mon some true true p = record { few = once_most mon (λ (m : ℕ). m) (λ _. f.Stop) (monitors s) (monitors s) (map_id (monitors s)) (range_rises s.monitors); one = inr (refl, stop_first s k some) }
+closes_by s k mon some true true p = record { few = once_most mon (λ (m : ℕ). m) (λ _. f.Stop) (monitors s) (monitors s) (map-id (monitors s)) (range_rises s.monitors); one = inr (refl, stop_first s k some) }
 closes_by s k mon some true false p = record { few = omega arith; one = inl refl }
 closes_by s k mon some false last p = record { few = omega arith; one = inl refl }
 
@@ -229,14 +229,6 @@ turns_by s from frame t sent few =
 
 -- ---- the streak, and calm turns
 
-pub none_any : (p : ℕ → Bool) (a k : ℕ) → ((mon : ℕ) → a ≤ mon → mon < a + k → p mon ≡ false) → list_any p (range_with_len a k) ≡ false
-none_any p a zero each = refl
-none_any p a (suc k) each = ap (λ b. b || list_any p (range_with_len (a + 1) k)) (each a (omega arith) (omega arith)) ∙ none_any p (a + 1) k (λ mon low high. each mon (omega (arith, low)) (omega (arith, high)))
-
-pub calm_closed : (s : Setup) (j : List Noted) → is_calm s j ≡ true → is_open s j ≡ false
-unfolding is_calm
-calm_closed s j is = not-true (is_open s j) (and_parts (not (is_open s j)) (list_all (λ mon. is_some (settled_of mon j)) (monitors s)) is).0
-
 pub calm_settled : (s : Setup) (j : List Noted) (mon : ℕ) → IsMonitor s mon → is_calm s j ≡ true → (p : Progress) × (settled_in (answer_of mon j) ≡ Some p)
 unfolding is_calm
 calm_settled s j mon m is =
@@ -246,7 +238,7 @@ calm_settled s j mon m is =
 -- where a story's journal is calm and all are present nobody is strained
 pub calm_sound : (s : StoryView) → IsStory s → is_calm s.settings s.journal ≡ true → all_present s.settings.monitors (readings s) ≡ true → any_strained s.settings.monitors (readings s) ≡ false
 calm_sound s h calm all =
-    none_any (λ q. (local_of s q).strained) 1 s.settings.monitors (λ mon low high.
+    none_in_range (λ q. (local_of s q).strained) 1 s.settings.monitors (λ mon low high.
     let m : IsMonitor s.settings mon = record { from_one = low; within = omega (arith, high) } in
     let own = local_own s mon m in
     let p = calm_settled s.settings s.journal mon m calm in
@@ -297,12 +289,6 @@ present_kept s from frame keeps q =
     field_by (is_monitor s q) (reading (setup_of s q) (trail_of s q) q s.journal) (reading (setup_of s q) (trail_of s q) q j') (λ l. l.present) (λ _. ap (λ c. is_present c (trail_of s q)) (sent_by_assigns q s.journal j' (keeps.assigns q)))
 
 -- ---- wide
-
-pub wide_by : (s : Setup) (a b : List Noted) → last_round b ≡ last_round a → ((round mon : ℕ) → asked_of round mon b ≡ asked_of round mon a) → is_wide s b ≡ is_wide s a
-unfolding is_wide
-wide_by s a b round asked =
-    ap (λ r. list_all (λ mon. is_some (asked_of r mon b)) (monitors s)) round
-    ∙ all_same (λ mon. is_some (asked_of (last_round a) mon b)) (λ mon. is_some (asked_of (last_round a) mon a)) (monitors s) (λ mon. ap (λ (x : Option (List ℕ)). is_some x) (asked (last_round a) mon))
 
 pub wide_same : (s : Setup) (a b : List Noted) → AreSame s a b → is_wide s b ≡ is_wide s a
 wide_same s a b e = wide_by s a b e.round e.asked

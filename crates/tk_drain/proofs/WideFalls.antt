@@ -11,6 +11,7 @@ use Rattle.tk_base.specs.Objects.{objects}
 use Rattle.tk_base.specs.Pairs.{objects_of}
 use Rattle.tk_base.specs.Settings.{Setup}
 use Rattle.tk_base.specs.declared.ids.Mon.{Mon}
+use Rattle.tk_base.proofs.ListLemmas.{none_in_range}
 use Rattle.tk_frames.specs.declared.frame.Frame.{Frame}
 use Rattle.tk_rows.specs.Factors.{IsFactor}
 use Rattle.tk_alloc.specs.declared.reported.Reported.{Reported}
@@ -55,7 +56,7 @@ use Rattle.tk_story.specs.Story.{StoryView, setup_of, trail_of}
 use Rattle.tk_story.proofs.QuietLemmas.{joined}
 use Rattle.tk_drain.specs.Reads.{levels_then, local_of, readings}
 use Rattle.tk_drain.proofs.ReadLemmas.{local_own}
-use Rattle.tk_drain.proofs.TurnReads.{Turning, goes_by, got_more, mid, none_any, same_mid, stops_count, strained_by, turned, turns_by}
+use Rattle.tk_drain.proofs.TurnReads.{Turning, goes_by, got_more, mid, same_mid, stops_count, strained_by, turned, turns_by}
 use Rattle.tk_drain.proofs.AssignFalls.{ending_of, sent_all, values_pass}
 use Rattle.tk_world.proofs.EnabledLemmas.{there_is}
 use Rattle.tk_drain.proofs.MoveLemmas.{all_at}
@@ -248,7 +249,7 @@ end_wide_fits s from frame t v wide e =
       opened = v.opened;
       closed = a.closed;
       renewed = a.renewed;
-      mended = λ _ all. none_any (λ q. (local_of (turned s from frame) q).strained) 1 st.monitors (λ mon low high.
+      mended = λ _ all. none_in_range (λ q. (local_of (turned s from frame) q).strained) 1 st.monitors (λ mon low high.
           let k = mon - 1 in
           let back : 1 + (mon - 1) ≡ mon = omega (arith, low) in
           let m : IsMonitor st mon = record { from_one = low; within = omega (arith, high) } in

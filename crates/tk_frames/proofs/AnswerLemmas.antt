@@ -22,7 +22,8 @@ use Rattle.tk_frames.proofs.FrameLemmas.{fields_take, fields_again}
 
 -- ---- kinds
 
-kind_at-code : (kind : Kind) → kind_at (code_of kind) ≡ Some kind
+-- the code of a kind tells the kind
+pub kind_at-code : (kind : Kind) → kind_at (code_of kind) ≡ Some kind
 unfolding kind_at
 kind_at-code k.Hello = refl
 kind_at-code k.Report = refl
@@ -90,7 +91,8 @@ behind_fits code behind bytes fits has =
     let text : IsBytes (code ∷ behind) = rest_fits (big_bytes 4 (length (code ∷ behind))) (code ∷ behind) (front_fits (framed (code ∷ behind)) has.rest all) in
     λ i. text (suc i)
 
-length-framed : (text : List ℕ) → length (framed text) ≡ length text + 4
+-- a length in front of a text takes 4 bytes
+pub length-framed : (text : List ℕ) → length (framed text) ≡ length text + 4
 length-framed text = omega (arith, length-append (big_bytes 4 (length text)) text, length-bytes_high_first 4 (length text))
 
 -- ---- each answer stands there

@@ -1,8 +1,9 @@
 -- Items that are each above the one before ascend.
-use Rattle.std.proofs.Common.{◌≡◌, ℕ, ℤ, zero, suc, ◌+◌, ◌<◌, List, [], ◌∷◌, length, map, get_or, Some, None, cond, refl, sym, ap, subst, arith, nat_lt, eqb}
+use Rattle.std.proofs.Common.{◌≡◌, ℕ, ℤ, zero, suc, ◌+◌, ◌<◌, List, [], ◌∷◌, length, map, get_or, Some, None, cond, sym, ap, subst, arith, nat_lt, eqb}
 use Rattle.std.proofs.lemmas.Bool.{leb-false}
 use Rattle.tk_base.specs.Pairs.{objects_of}
 use Rattle.std.specs.Prelude.{nat_le}
+use Rattle.std.proofs.lemmas.List.{map-id}
 use Rattle.tk_base.specs.Ascending.{IsAscending}
 use Rattle.tk_frames.specs.Spelling.{EachInTurn, object_itself, pair_object}
 use Rattle.tk_frames.specs.Reading.{Found, ◌>>=◌, items_at, number_at, signed_at, object_at, object_if, pair_at}
@@ -49,14 +50,10 @@ pair_above version before bytes p rest e =
     let is : a.0.0 ≡ p.0 = ap (λ q. q.0.0) (some_is ((a.0.0, b.0.0), b.0.1) (p, rest) b.2) in
     subst (λ (x : ℕ). before < x) is (object_above version before bytes a.0.0 a.0.1 a.1)
 
-map_itself : (xs : List ℕ) → map (λ (o : ℕ). o) xs ≡ xs
-map_itself [] = refl
-map_itself (x ∷ xs) = ap (λ (ys : List ℕ). x ∷ ys) (map_itself xs)
-
 -- objects that were read ascend
 pub objects_ascend : (version count : ℕ) (bytes : List ℕ) (xs rest : List ℕ) → items_at object_itself (object_at version) 0 count bytes ≡ Some (xs, rest) → IsAscending xs
 objects_ascend version count bytes xs rest e =
-    subst IsAscending (map_itself xs) (ascend_from object_itself 0 xs (read_in_turn object_itself (object_at version) (object_above version) 0 count bytes (xs, rest) e))
+    subst IsAscending (map-id xs) (ascend_from object_itself 0 xs (read_in_turn object_itself (object_at version) (object_above version) 0 count bytes (xs, rest) e))
 
 -- and so do the objects of pairs
 pub pairs_ascend : (version count : ℕ) (bytes : List ℕ) (ps : List (ℕ × ℤ)) (rest : List ℕ) → items_at pair_object (pair_at version) 0 count bytes ≡ Some (ps, rest) → IsAscending (objects_of ps)
@@ -65,7 +62,7 @@ pairs_ascend version count bytes ps rest e =
 
 -- objects that ascend are each above the one before
 pub objects_in_turn : (xs : List ℕ) → IsAscending xs → EachInTurn object_itself (λ b x. b < x) 0 xs
-objects_in_turn xs up = in_turn_from object_itself 0 xs (subst (λ ys. (k : ℕ) → k < length ys → get_or (0 ∷ ys) k 0 < get_or ys k 0) (sym (map_itself xs)) up)
+objects_in_turn xs up = in_turn_from object_itself 0 xs (subst (λ ys. (k : ℕ) → k < length ys → get_or (0 ∷ ys) k 0 < get_or ys k 0) (sym (map-id xs)) up)
 
 -- and so are those of pairs
 pub pairs_in_turn : (ps : List (ℕ × ℤ)) → IsAscending (objects_of ps) → EachInTurn pair_object (λ b p. b < p.0) 0 ps

@@ -12,3 +12,4 @@ pub mod Loop
 pub mod SizeLemmas
 pub mod Steps
 pub mod WritingLemmas
+pub mod AssignsLemmas

@@ -7,6 +7,7 @@ use Rattle.std.proofs.lemmas.Bool.{ltb-true, ltb-false}
 use Rattle.std.proofs.lemmas.Option.{slice_get-get_or, slice_get_past, cond_some}
 use Rattle.std.proofs.lemmas.List.Folds.{find_at, find-set, find_past, find-append}
 use Rattle.std.proofs.lemmas.Slice.Eq.{bytes_eq-Decides}
+use Rattle.tk_base.proofs.ListLemmas.{bytes_same}
 use Rattle.tk_input.specs.Tallies.{Count, count_of, faults_of, longest_of, Notes}
 
 -- a place that is found is the first that passes
@@ -41,9 +42,6 @@ passing p y x rest false is later found = later found
 pub find_passes : {X : Type 0} (p : X → Bool) (xs : List X) (x : X) → find p xs ≡ Some x → p x ≡ true
 find_passes p [] x e = absurd (cc)
 find_passes p (y ∷ ys) x e = passing p y x (find p ys) (p y) refl (find_passes p ys x) e
-
-bytes_same : (xs ys : List ℕ) → bytes_eq xs ys ≡ true → xs ≡ ys
-bytes_same xs ys = (bytes_eq-Decides xs ys).0
 
 bytes_refl : (xs : List ℕ) → bytes_eq xs xs ≡ true
 bytes_refl xs = (bytes_eq-Decides xs xs).1 refl

@@ -8,6 +8,7 @@ use Rattle.std.proofs.lemmas.List.FromFn.{get_or-map-range_with_len, length-map-
 use Rattle.std.proofs.lemmas.List.Sums.{fails_before_first, sum_by-cons}
 use Rattle.tk_base.specs.Objects.{objects}
 use Rattle.tk_base.specs.declared.ids.Mon.{Mon}
+use Rattle.tk_base.proofs.OptionLemmas.{unmapped, split_map}
 use Rattle.tk_input.specs.Judged.{Assigned, feeders_of, first_at, first_gap, first_crowded, first_great, great_in, great_object, last_monitor, logs_by_monitor, too_great}
 use Rattle.tk_input.specs.Logs.{AreLogs, AreParts, IsObject, LogSet, updates_of, weight_for, weight_of}
 use Rattle.tk_input.specs.Rows.{size_at}
@@ -20,10 +21,6 @@ pub position_fails : {X : Type 0} (p : X → Bool) (xs : List X) (k : ℕ) (d : 
 position_fails p xs k d none within =
     let past : length xs ≤ position_or_len p xs = ltb-false (position_or_len p xs) (length xs) (refused (ltb (position_or_len p xs) (length xs)) (position_or_len p xs) none) in
     fails_before_first p xs k d (omega arith)
-
-unmapped : {X Y : Type 0} (f : X → Y) (o : Option X) → option_map f o ≡ None → o ≡ None
-unmapped f None e = refl
-unmapped f (Some x) e = absurd (cc)
 
 find-range_fails : (p : ℕ → Bool) (a n k : ℕ) → find p (range_with_len a n) ≡ None → k < n → p (a + k) ≡ false
 find-range_fails p a zero k none within = absurd (omega arith)
@@ -69,10 +66,6 @@ passed_or_stopped s (Some i) e stopped = absurd (stopped i refl e)
 some_mapped : {X Y : Type 0} (f : X → Y) (o : Option X) → is_some o ≡ true → option_map f o ≡ None → ⊥
 some_mapped f None is e = absurd (cc)
 some_mapped f (Some x) is e = absurd (cc)
-
-split_map : (o : Option ℕ) (i : ℕ) → option_map (λ k. k + 1) o ≡ Some i → (k : ℕ) × (o ≡ Some k) × (i ≡ k + 1)
-split_map None i e = absurd (cc)
-split_map (Some k) i e = (k, refl, cc)
 
 -- where no monitor has an object that is too great
 none_great : (s : LogSet) → great_in s ≡ None → first_great s ≡ None

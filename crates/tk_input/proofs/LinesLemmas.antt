@@ -1,18 +1,15 @@
 -- The parts of a text, and its lines.
-use Rattle.std.proofs.Common.{◌≡◌, ℕ, suc, ◌+◌, ◌-◌, ◌<◌, ◌≤◌, Bool, true, false, not, cond, List, [], ◌∷◌, length, take, drop, Some, None, refl, sym, subst, ap, ◌∙◌, arith}
+use Rattle.std.proofs.Common.{◌≡◌, ℕ, suc, ◌+◌, ◌-◌, ◌<◌, ◌≤◌, Bool, true, false, not, cond, List, [], ◌∷◌, length, take, drop, Some, None, refl, sym, subst, ap, ◌∙◌, arith, Option, Bor}
 use Rattle.std.specs.Prelude.{◌==◌, nat_lt, position}
 use Rattle.std.specs.List.{onto_first, position_or_len, slice_split}
 use Rattle.std.specs.Str.Lines.{lines, lines_of_parts, strip_carriage_return}
+use Rattle.std.specs.Option.{option_map_or}
 use Rattle.std.proofs.lemmas.Bool.{ltb-false, ne_eqb}
 use Rattle.std.proofs.lemmas.List.Splits.{length-slice_split, slice_split_first}
-use Rattle.std.proofs.lemmas.List.{length-drop}
-use Rattle.std.proofs.Math.Seq.{drop-length, take-length}
+use Rattle.std.proofs.Math.Seq.{drop-length}
+use Rattle.tk_base.proofs.ListLemmas.{rest_is}
 use Rattle.tk_input.specs.Order.{event_in, words}
 use Rattle.tk_input.proofs.CountLemmas.{position_found}
-
--- all that follows
-pub rest_is : (xs : List ℕ) (n : ℕ) → take (length xs - n) (drop n xs) ≡ drop n xs
-rest_is xs n = ap (λ (k : ℕ). take k (drop n xs)) (sym (length-drop n xs)) ∙ take-length (drop n xs)
 
 -- a text that is parted at its first such byte
 pub split_found : (p : ℕ → Bool) (xs : List ℕ) (i : ℕ) → position p xs ≡ Some i → slice_split p xs ≡ take i xs ∷ slice_split p (take (length xs - (i + 1)) (drop (i + 1) xs))
@@ -71,3 +68,7 @@ pub four_words : (line first second third verb mon feeder : List ℕ) → words 
 four_words line first second third verb mon feeder one two three =
     ap (λ (parts : List (List ℕ)). event_in parts) (one ∙ ap (λ (parts : List (List ℕ)). verb ∷ parts) (two ∙ ap (λ (parts : List (List ℕ)). mon ∷ parts) three))
     ∙ too_many_words verb mon feeder third
+
+-- a word and those of what is left of its line
+abbrev pub after : (verb : List ℕ) → Option (Bor (List ℕ)) → List (List ℕ)
+after verb rest = verb ∷ option_map_or (λ r. words r.now) rest []

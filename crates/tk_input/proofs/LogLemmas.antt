@@ -1,6 +1,7 @@
 -- One more change of a log.
-use Rattle.std.proofs.Common.{◌≡◌, ℕ, ℤ, List, [], ◌∷◌, ◌++◌, length, Some, None, Result, Ok, Err, sym, ap, subst, ◌∙◌, arith}
+use Rattle.std.proofs.Common.{◌≡◌, ℕ, ℤ, List, [], ◌∷◌, ◌++◌, length, Some, None, Result, Ok, Err, sym, ap, subst, ◌∙◌, arith, Option, Bor}
 use Rattle.csv.specs.Records.{field_at}
+use Rattle.std.specs.Prelude.{option_map}
 use Rattle.tk_input.specs.Log.{IsFault, both_fields, change_added, next_change}
 use Rattle.tk_input.specs.Records.{and_then, through}
 use Rattle.tk_input.specs.declared.part.PartFault.{PartFault}
@@ -40,7 +41,8 @@ fault_ends r (UnknownName n) further is = ap (and_then further) is
 fault_ends r (BadNumber n) further is = ap (and_then further) is
 fault_ends r NoMemory further is = tt
 
-meant_is : {A : Type 0} (r : Result A PartFault) (e : PartFault) → r ≡ Err e → IsFault e r
+-- a result that is a fault has that fault
+pub meant_is : {A : Type 0} (r : Result A PartFault) (e : PartFault) → r ≡ Err e → IsFault e r
 meant_is r TooMany is = is
 meant_is r (BadRow n) is = is
 meant_is r (UnknownName n) is = is
@@ -54,3 +56,7 @@ log_fault names all before n fields rest rows e same is so_many fault =
     let here : IsFault e (next_change names (length before) fields) = subst (λ (k : ℕ). IsFault e (next_change names k fields)) so_many (meant_is (next_change names n fields) e fault) in
     subst (λ (r : Result (List (ℕ × ℤ)) PartFault). IsFault e r) same
     (rw is (fault_ends (change_added names before fields) e (λ after. through (change_added names) after rest) (fault_ends (next_change names (length before) fields) e (λ change. Ok (before ++ change ∷ [])) here)))
+
+-- the bytes that are lent, if any
+abbrev pub bytes_of : Option (Bor (List ℕ)) → Option (List ℕ)
+bytes_of o = option_map (λ s. s.now) o

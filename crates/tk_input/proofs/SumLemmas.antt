@@ -1,24 +1,15 @@
 -- Sums of the changes of one object, and their sizes.
 use Rattle.std.proofs.Common.{◌≡◌, ℕ, suc, zero, ◌+◌, ◌*◌, ◌<◌, ◌≤◌, ◌^◌, ℤ, pos, ◌+ℤ◌, unsigned_abs, List, [], ◌∷◌, ◌++◌, length, map, take, get_or, Bool, true, false, cond, refl, sym, ap, ◌∙◌, subst, arith, append-nil}
-use Rattle.std.specs.Prelude.{◌==◌, filter, fold, sum_by, zip}
+use Rattle.std.specs.Prelude.{◌==◌, filter, sum_by, zip}
 use Rattle.std.proofs.lemmas.Int.{ints}
 use Rattle.std.proofs.lemmas.List.{take_more, length-take, get_or-take}
 use Rattle.std.proofs.lemmas.List.Elements.{filter_more}
 use Rattle.std.proofs.lemmas.List.Sums.{fold_push, sum_by-cons, sum_by_more, sum_by_more_le, sum_by-take-le}
 use Rattle.tk_base.specs.Sum.{int_sum}
 use Rattle.std.proofs.lemmas.Slice.Zip.{get_or-zip, length-zip}
+use Rattle.tk_base.proofs.SumLemmas.{int_sum-cons}
 use Rattle.tk_input.specs.Logs.{sum_for, total, weight_for, weight_of, value_of}
 use Rattle.tk_input.specs.Rows.{size_at}
-
-fold-shift : (a : ℤ) (xs : List ℤ) → fold ◌+ℤ◌ a xs ≡ a +ℤ int_sum xs
-fold-shift a [] = omega (arith, ints)
-fold-shift a (x ∷ xs) =
-    let left = fold-shift (a +ℤ x) xs in
-    let right = fold-shift (pos 0 +ℤ x) xs in
-    omega (arith, ints, left, right)
-
-pub int_sum-cons : (x : ℤ) (xs : List ℤ) → int_sum (x ∷ xs) ≡ x +ℤ int_sum xs
-int_sum-cons x xs = let h = fold-shift (pos 0 +ℤ x) xs in omega (arith, ints, h)
 
 pub int_sum-push : (xs : List ℤ) (x : ℤ) → int_sum (xs ++ x ∷ []) ≡ int_sum xs +ℤ x
 int_sum-push xs x = fold_push ◌+ℤ◌ (pos 0) xs x

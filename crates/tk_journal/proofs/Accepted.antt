@@ -5,6 +5,7 @@ use Rattle.std.specs.Option.{option_map}
 use Rattle.std.proofs.lemmas.Bool.{ltb-true, ltb-false, eqb-true, true≢false, not-false, ne_eqb}
 use Rattle.tk_base.specs.Settings.{Setup}
 use Rattle.tk_base.specs.declared.ids.Mon.{Mon}
+use Rattle.tk_base.proofs.OptionLemmas.{if_none}
 use Rattle.tk_frames.specs.declared.frame.Frame.{Frame}
 use Rattle.tk_frames.specs.declared.frame.Frame.TheVariants as f
 use Rattle.tk_journal.specs.Readings.{assigns_sent, answer_of, is_answer, last_round, asked_of, values_for, waits_for, is_stopped}
@@ -14,11 +15,6 @@ use Rattle.tk_journal.specs.declared.noted.Noted.TheVariants as n
 use Rattle.tk_journal.specs.declared.refusal.CoordRefusal.{CoordRefusal}
 use Rattle.tk_journal.specs.declared.refusal.CoordRefusal.TheVariants.{AfterStop, AheadOfSequence, NotAsked, BehindSequence, AfterReport}
 use Rattle.tk_journal.proofs.Pieces.{got_answer}
-
--- a choice that gives nothing did not take its first way
-pub if_none : {X : Type 0} (b : Bool) (x : X) (r : Option X) → (if b then Some x else r) ≡ None → (b ≡ false) × (r ≡ None)
-if_none true x r none = cc
-if_none false x r none = (refl, none)
 
 -- it comes before Stop, and passes the tests of its kind
 pub accepted_kind : (s : Setup) (j : List Noted) (mon : ℕ) (frame : Frame) → refusal_of s j mon frame ≡ None

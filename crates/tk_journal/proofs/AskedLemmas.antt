@@ -6,9 +6,11 @@ use Rattle.std.proofs.Common.{◌≡◌, ℕ, suc, ◌+◌, ◌<◌, ◌==◌, �
 use Rattle.std.specs.Prelude.{ℤ, is_some, if◌then◌else◌}
 use Rattle.std.specs.List.{range_with_len, enumerate_from, cons_option}
 use Rattle.std.proofs.lemmas.Bool.{cases_Bool, true≢false, eqb-true, eq-eqb}
+use Rattle.std.proofs.Math.Bool.{and-false}
 use Rattle.tk_base.specs.Objects.{objects, is_in}
 use Rattle.tk_base.specs.Settings.{Setup}
 use Rattle.tk_base.specs.declared.ids.Mon.{Mon}
+use Rattle.tk_base.proofs.OptionLemmas.{if_none}
 use Rattle.tk_border.proofs.RisingLemmas.{Rises, is_in-low}
 use Rattle.tk_frames.specs.declared.frame.Frame.{Frame}
 use Rattle.tk_alloc.specs.declared.reported.Reported.{Reported}
@@ -21,7 +23,7 @@ use Rattle.tk_journal.specs.Refusal.{refusal_of, retune_refusal_of, shown_by, kn
 use Rattle.tk_journal.specs.Turns.{collects, demanded, rounds, wide_collects}
 use Rattle.tk_journal.specs.declared.noted.Noted.{Noted}
 use Rattle.tk_journal.specs.declared.publication.Publication.{Publication}
-use Rattle.tk_journal.proofs.Accepted.{accepted_kind, accepted_values, awaited_waits, if_none}
+use Rattle.tk_journal.proofs.Accepted.{accepted_kind, accepted_values, awaited_waits}
 use Rattle.tk_journal.proofs.Appends.{later, frames_from-append, frames_to-append, asked_of-append, values_of-append}
 use Rattle.tk_journal.proofs.Pieces.{batch, batch_from, batch_values, got_round, got_asked, got_values}
 use Rattle.tk_journal.proofs.Batches.{named, collects_round}
@@ -39,7 +41,6 @@ use Rattle.tk_journal.proofs.GrowLemmas.{Grows, grows, with_got, range_rises}
 use Rattle.tk_journal.proofs.GrowLemmas.Grows.{Nothing, ToOne, ToAll, Asks}
 use Rattle.tk_journal.proofs.GatheredLemmas.{quiet_closing}
 use Rattle.tk_frames.proofs.CarriedLemmas.{tally-append}
-use Rattle.tk_journal.proofs.Tuning.{and_none}
 
 abbrev one : Bool → ℕ
 one b = if b then 1 else 0
@@ -143,7 +144,7 @@ got_own s mon before from round seq border values own none h =
     let came : values_of R mon now ≡ later (values_of R mon before) (Some v) =
     got_values R mon before from frame ∙ ap (λ b. later (values_of R mon before) (if b then values_for R mon frame else None)) own ∙ ap (λ b. later (values_of R mon before) (if b then Some v else None)) (eq-eqb round R waits.last) in
     let over : (is_some (asked_of (last_round now) mon now) && not (is_some (values_of (last_round now) mon now))) ≡ false =
-    ap (λ q. is_some (asked_of q mon now) && not (is_some (values_of q mon now))) (got_round before from frame) ∙ ap (λ x. is_some (asked_of R mon now) && not (is_some x)) came ∙ and_none (is_some (asked_of R mon now)) in
+    ap (λ q. is_some (asked_of q mon now) && not (is_some (values_of q mon now))) (got_round before from frame) ∙ ap (λ x. is_some (asked_of R mon now) && not (is_some x)) came ∙ and-false (is_some (asked_of R mon now)) in
     let to = collects-append mon before (n.Got from frame ∷ []) in
     let from' = values-append mon before (n.Got from frame ∷ []) in
     let one' = came_own mon from frame own refl in
@@ -188,7 +189,8 @@ sent_asked mon now members rows h =
     let e = ap one waits in
     omega (arith, h, a, b, c, d, e)
 
-some_if : (b : Bool) (asked : List ℕ) → (is_some (if b then Some asked else None) && true) ≡ b
+-- a choice between something and nothing is what was tested
+pub some_if : (b : Bool) (asked : List ℕ) → (is_some (if b then Some asked else None) && true) ≡ b
 some_if true asked = refl
 some_if false asked = refl
 

@@ -11,18 +11,18 @@ use Rattle.tk_base.specs.Objects.{objects, is_in}
 use Rattle.tk_base.specs.Ascending.{IsAscending}
 use Rattle.tk_base.specs.Pairs.{objects_of}
 use Rattle.tk_base.proofs.EqualLemmas.{numbers_tell}
+use Rattle.tk_base.proofs.OptionLemmas.{if_none}
+use Rattle.tk_base.proofs.MemberLemmas.{contained_is_in, is_in_contained}
 use Rattle.tk_border.specs.Levels.{resolution}
-use Rattle.tk_border.proofs.RisingLemmas.{rises, ascends, is_in-filter, is_in-objects, is_in-positive, rises-filter, rises-objects}
+use Rattle.tk_border.proofs.RisingLemmas.{rises, is_in-filter, is_in-objects, is_in-positive}
 use Rattle.tk_rows.specs.Factors.{factor_at}
 use Rattle.tk_alloc.specs.Parts.{value_of}
 use Rattle.tk_alloc.specs.Resolving.{CanTakePart}
 use Rattle.tk_alloc.proofs.BorderLemmas.{least_covers, mapped_in}
-use Rattle.tk_alloc.proofs.MemberLemmas.{contained_is_in, is_in_contained}
 use Rattle.tk_journal.specs.Turns.{reported}
 use Rattle.tk_journal.specs.Refusal.{Known, level_in, least_in, are_outsiders, are_same, too_great, not_broken, or_else, refusal_of_border, refusal_of_report, refusal_of_values}
 use Rattle.tk_journal.specs.declared.refusal.CoordRefusal.{CoordRefusal}
 use Rattle.tk_journal.specs.declared.refusal.CoordRefusal.TheVariants.{WrongObjects, TooGreatValue, BadBorder}
-use Rattle.tk_journal.proofs.Accepted.{if_none}
 
 -- ---- small steps
 
@@ -125,9 +125,6 @@ in_resolution n members failed o in' =
     let both = and_parts (ltb 0 o) (leb o n) (sym (is_in-objects n o) ∙ range.0) in
     (ltb-true 0 o both.0, leb-true o n both.1)
 
-pub resolution_within : (n : ℕ) (members failed : List ℕ) → All (λ o. o ≤ n) (resolution n members failed)
-resolution_within n members failed = all_by (λ o. o ≤ n) (resolution n members failed) (λ o in'. (in_resolution n members failed o in').1)
-
 pub resolution_positive : (n : ℕ) (members failed : List ℕ) → All (λ o. 0 < o) (resolution n members failed)
 resolution_positive n members failed = all_by (λ o. 0 < o) (resolution n members failed) (λ o in'. (in_resolution n members failed o in').0)
 
@@ -142,7 +139,3 @@ resolution_holds n members failed up within =
     (is_in-filter (λ q. is_in members q || is_in failed q) (objects n) t
     ∙ ap (λ b. b && (is_in members t || is_in failed t)) (is_in-objects n t ∙ ap (λ b. b && leb t n) (lt-ltb 0 t low) ∙ le-leb t n high)
     ∙ ap (λ b. b || is_in failed t) member))
-
-pub resolution_ascends : (n : ℕ) (members failed : List ℕ) → IsAscending (resolution n members failed)
-resolution_ascends n members failed =
-    ascends (resolution n members failed) (rises-filter (λ q. is_in members q || is_in failed q) 0 (objects n) (rises-objects n))

@@ -6,20 +6,21 @@ use Rattle.std.proofs.lemmas.Bool.{eq-eqb, ne_eqb, cases_eq}
 use Rattle.std.proofs.lemmas.Int.{ints}
 use Rattle.std.proofs.lemmas.List.{append-nil, length-map, get_or-map}
 use Rattle.std.proofs.lemmas.List.FromFn.{length-range_with_len, get_or-range_with_len}
-use Rattle.std.proofs.lemmas.List.Sums.{fold-append, sum_by-cons}
+use Rattle.std.proofs.lemmas.List.Sums.{sum_by-cons}
 use Rattle.tk_base.specs.Settings.{Setup}
 use Rattle.tk_base.specs.Objects.{is_in}
 use Rattle.tk_base.specs.Pairs.{value_at}
 use Rattle.tk_base.specs.Sum.{int_sum}
+use Rattle.tk_base.proofs.PairsLemmas.{objects_paired}
+use Rattle.tk_base.proofs.SumLemmas.{int_sum-cons}
+use Rattle.tk_base.proofs.MemberLemmas.{outside_is_not_in}
 use Rattle.tk_rows.specs.Factors.{Grid, factor_at}
-use Rattle.tk_rows.proofs.SumLemmas.{int_sum-cons}
 use Rattle.tk_frames.specs.Assigns.{Assign, row}
+use Rattle.tk_frames.proofs.AssignsLemmas.{row-push}
 use Rattle.tk_alloc.specs.declared.reported.Reported.{Reported}
 use Rattle.tk_alloc.specs.Parts.{Part, monitor, new_factor}
 use Rattle.tk_alloc.proofs.LeewayLemmas.{value_put, sum_is_kept, weights_in}
 use Rattle.tk_alloc.proofs.BorderLemmas.{named_is}
-use Rattle.tk_alloc.proofs.MemberLemmas.{outside_is_not_in}
-use Rattle.tk_alloc.proofs.PartLemmas.{objects_put}
 use Rattle.tk_journal.specs.Laws.{IsMonitor}
 use Rattle.tk_journal.specs.Readings.{monitors, assigns_to, assigns_sent, factor, own, table_at}
 use Rattle.tk_journal.specs.declared.noted.Noted.{Noted}
@@ -29,9 +30,6 @@ use Rattle.tk_journal.proofs.Naming.{no_row}
 use Rattle.tk_journal.proofs.Orderly.{Row, sends}
 use Rattle.tk_journal.proofs.Tables.{IsObject, own_is, factor_is}
 use Rattle.tk_journal.proofs.LawLemmas.{sum_zero}
-
-pub row-push : (assigns : List Assign) (assign : Assign) (o : ℕ) → row (assigns ++ assign ∷ []) o ≡ unwrap_or (value_at assign.changes o) (row assigns o)
-row-push assigns assign o = fold-append (λ factor (a : Assign). unwrap_or (value_at a.changes o) factor) (pos 0) assigns (assign ∷ [])
 
 -- ---- one monitor
 
@@ -112,7 +110,7 @@ none_value (Some z) is = cc
 
 pub not_dealt : (F : ℕ → ℤ) (objects : List ℕ) (o : ℕ) → (Contains objects o → ⊥) → value_at (map (λ q. (q, F q)) objects) o ≡ None
 not_dealt F objects o out =
-    none_value (value_at (map (λ q. (q, F q)) objects) o) (named_is (map (λ q. (q, F q)) objects) o ∙ ap (λ xs. is_in xs o) (objects_put F objects) ∙ outside_is_not_in objects o out)
+    none_value (value_at (map (λ q. (q, F q)) objects) o) (named_is (map (λ q. (q, F q)) objects) o ∙ ap (λ xs. is_in xs o) (objects_paired F objects) ∙ outside_is_not_in objects o out)
 
 pub others_stay : (grid : Grid) (parts : List Part) (objects : List ℕ) (first : ℕ) (ps : List Part) (o : ℕ) (old : ℕ → ℤ) → (Contains objects o → ⊥)
     → map (λ (d : Row). unwrap_or (value_at d.1 o) (old d.0)) (dealt_rows grid parts objects first ps) ≡ map old (map (λ (q : Part). q.node) ps)

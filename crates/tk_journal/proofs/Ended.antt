@@ -5,9 +5,11 @@ use Rattle.std.specs.List.{list_any, range_with_len, enumerate_from}
 use Rattle.std.proofs.lemmas.Bool.{true≢false}
 use Rattle.std.proofs.lemmas.List.{append-nil, append_assoc}
 use Rattle.std.proofs.lemmas.List.Elements.{filter_map-append}
+use Rattle.std.proofs.Math.Bool.{or-true}
 use Rattle.tk_base.specs.Settings.{Setup, is_k}
 use Rattle.tk_base.specs.Objects.{objects}
 use Rattle.tk_base.specs.declared.ids.Mon.{Mon}
+use Rattle.tk_base.proofs.OptionLemmas.{if_none}
 use Rattle.tk_frames.specs.declared.frame.Frame.{Frame}
 use Rattle.tk_frames.specs.declared.frame.Frame.TheVariants as f
 use Rattle.tk_journal.specs.Laws.{HasEnded, AreNotLast}
@@ -22,7 +24,7 @@ use Rattle.tk_journal.specs.declared.publication.Publication.{Publication}
 use Rattle.tk_journal.specs.declared.refusal.RetuneRefusal.TheVariants as retune
 use Rattle.tk_journal.proofs.Appends.{is_stopped-append}
 use Rattle.tk_journal.proofs.Pieces.{got_stopped}
-use Rattle.tk_journal.proofs.Accepted.{accepted_kind, if_none}
+use Rattle.tk_journal.proofs.Accepted.{accepted_kind}
 use Rattle.tk_journal.proofs.Published.{AreWanted, as_sent, no_stop, batch_wanted, collects_are_wanted, demanded_wanted, sent_none, none_more}
 use Rattle.tk_journal.proofs.LegalLemmas.{legal_carries}
 
@@ -42,17 +44,13 @@ goes_on s j k same still was e = record {
   ended = λ is. absurd (true≢false (sym is ∙ still));
 }
 
-pub or_any : (b : Bool) → (b || true) ≡ true
-or_any true = refl
-or_any false = refl
-
 -- with a monitor there is a Stop
 stopped_by : (s : Setup) (k : ℕ) (j : List Noted) (p : Publication) → s.monitors ≡ suc k → is_stopped (j ++ n.Published p ∷ stops s) ≡ true
 unfolding is_stopped
 stopped_by s k j p some =
     is_stopped-append j (n.Published p ∷ stops s)
     ∙ ap (λ m. list_any is_stop j || list_any is_stop (n.Published p ∷ map (λ mon. n.Sent (record { 0 = mon }) f.Stop) (range_with_len 1 m))) some
-    ∙ or_any (list_any is_stop j)
+    ∙ or-true (list_any is_stop j)
 
 -- the end of a turn: nothing, a publication, or the last one with its Stops
 closes_as : (s : Setup) (k : ℕ) (j : List Noted) (due last : Bool) (p : Publication) → s.monitors ≡ suc k → p.last ≡ last → is_stopped j ≡ false → EndsWell s j

@@ -11,6 +11,9 @@ use Rattle.tk_base.specs.Objects.{objects, is_in}
 use Rattle.tk_base.specs.Ascending.{IsAscending}
 use Rattle.tk_base.specs.Pairs.{objects_of}
 use Rattle.tk_base.specs.Settings.{Setup, IsWithinLimits}
+use Rattle.tk_base.proofs.CompareLemmas.{at_most}
+use Rattle.tk_base.proofs.PairsLemmas.{objects_paired}
+use Rattle.tk_base.proofs.MemberLemmas.{contained_is_in, is_in_contained, outside_is_not_in, length-objects, objects_within}
 use Rattle.tk_rows.specs.Factors.{Grid, IsFactor}
 use Rattle.tk_border.proofs.RisingLemmas.{ascends, rises-objects, is_in-filter}
 use Rattle.tk_share.proofs.ShareLemmas.{share_grows, share_of_no_debt}
@@ -20,15 +23,13 @@ use Rattle.tk_alloc.specs.Rounds.{chosen, totals, total, wide_parts}
 use Rattle.tk_alloc.specs.Resolving.{IsReady, CanTakePart, PassesShortTest, round_parts, objects_over}
 use Rattle.tk_alloc.proofs.LeewayLemmas.{weights_in}
 use Rattle.tk_alloc.proofs.BorderLemmas.{border_covers}
-use Rattle.tk_alloc.proofs.MemberLemmas.{contained_is_in, is_in_contained, outside_is_not_in}
 use Rattle.tk_alloc.proofs.PickLemmas.{picked_of}
 use Rattle.tk_alloc.proofs.PickedLemmas.{length-picked, picked_ascends}
-use Rattle.tk_alloc.proofs.PartLemmas.{objects_put}
 use Rattle.tk_alloc.proofs.RoundLemmas.{own_part, bordered, member_value, other_value, present_no_debt}
 use Rattle.tk_alloc.proofs.ShortLemmas.{one_takes}
 use Rattle.tk_alloc.proofs.FullLemmas.{IsCalled, full_ranked, full_no_debt}
 use Rattle.tk_alloc.specs.Limit.{CanWiden}
-use Rattle.tk_alloc.proofs.WideLemmas.{wide_own, wide_value, wide_order_kept, slight_own, slight_at, leeway_size, of_catalogue, in_catalogue, catalogue_length}
+use Rattle.tk_alloc.proofs.WideLemmas.{wide_own, wide_value, wide_order_kept, slight_own, slight_at, leeway_size, in_catalogue}
 use Rattle.tk_journal.specs.Laws.{IsMonitor, AreSentShort}
 use Rattle.tk_journal.specs.Readings.{assigns_sent, members_at, table_at, tunings, first_round, in_force}
 use Rattle.tk_journal.specs.Deciding.{is_within_limit, short_decides, full_decides, wide_decides, passes_short_test}
@@ -112,7 +113,7 @@ within_of : (n : ℕ) (members all : List ℕ) → ((t : ℕ) → Contains membe
 within_of n members all among within = all_by (λ o. o ≤ n) members (λ t in'. All-contains (λ o. o ≤ n) all t within (among t in'))
 
 totals_objects : (reports : List Reported) (all : List ℕ) → objects_of (totals reports all) ≡ all
-totals_objects reports all = objects_put (total reports) all
+totals_objects reports all = objects_paired (total reports) all
 
 chosen_ascends : (setup : Setup) (present : List ℕ) (reports : List Reported) (all : List ℕ) → IsAscending all → IsAscending (chosen setup present reports all)
 chosen_ascends setup present reports all up = picked_ascends present (totals reports all) setup.k (subst IsAscending (sym (totals_objects reports all)) up)
@@ -174,9 +175,6 @@ pub record IsWideAt (s : Setup) (j : List Noted) (reports : List Reported) : Typ
 pub wide_ascends : (n : ℕ) → IsAscending (objects n)
 wide_ascends n = ascends (objects n) (rises-objects n)
 
-pub all_within : (n : ℕ) → All (λ o. o ≤ n) (objects n)
-all_within n = all_by (λ o. o ≤ n) (objects n) (λ o in'. (of_catalogue n o in').1)
-
 pub wide_standing : (s : Setup) (j : List Noted) (reports : List Reported) → IsWithinLimits s → IsWideAt s j reports → IsStanding s (j ++ assigns j (wide_at s j reports))
 unfolding wide_decides
 wide_standing s j reports limits c =
@@ -202,9 +200,9 @@ wide_standing s j reports limits c =
     (named_after j members rows (rows_some grid parts all b reports there))
     (sent_force s j members rows)
     (record {
-      count = chosen_count setup present reports all (wide_ascends setup.objects) c.called.limits.some_member (let l = catalogue_length setup.objects in let m = c.called.limits.members in omega (arith, l, m));
+      count = chosen_count setup present reports all (wide_ascends setup.objects) c.called.limits.some_member (let l = length-objects setup.objects in let m = c.called.limits.members in omega (arith, l, m));
       ascends = chosen_ascends setup present reports all (wide_ascends setup.objects);
-      within = within_of s.objects members all among (subst (λ q. All (λ o. o ≤ q) all) size (all_within setup.objects));
+      within = within_of s.objects members all among (subst (λ q. All (λ o. o ≤ q) all) size (objects_within setup.objects));
     })
     (record {
       new = λ o r in'. own_dealt s j members all first b reports o r refl there order in';
@@ -231,9 +229,6 @@ pub record IsShortAt (s : Setup) (j : List Noted) (report : Reported) : Type 0 w
   pub ready : IsReady (in_force s j) (table_at s j) (members_at j) (objects_of report.values)
   pub takes : CanTakePart (table_at s j) (members_at j) (objects_of report.values) report
   pub range : IsMonitor s report.mon.0
-
-at_most : (a b : ℤ) → int_le a b ≡ true → a ≤ℤ b
-at_most a b e = omega (arith, ints, e)
 
 pub passed : (setup : Setup) (grid : Grid) (present : List ℕ) (report : Reported) → passes_short_test setup grid present report ≡ true → PassesShortTest setup grid present report
 unfolding passes_short_test
@@ -304,7 +299,7 @@ wide_short s j reports c =
     let all = objects setup.objects in
     let members = chosen setup (members_at j) reports all in
     let parts = wide_parts setup members reports in
-    let size = catalogue_length setup.objects in
+    let size = length-objects setup.objects in
     let most = c.called.limits.objects in
     let within = c.called.limits.members in
     let count = chosen_count setup (members_at j) reports all (wide_ascends setup.objects) c.called.limits.some_member (omega (arith, size, within)) in

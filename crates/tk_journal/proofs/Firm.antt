@@ -85,8 +85,8 @@ firm_got s j from frame range none same o h = record {
 
 -- ---- Collects
 
--- the readings over Collects of a new round, where none was open
-collects_force : (s : Setup) (j : List Noted) (round : ℕ) (all : List ℕ) (q : ℕ) (mons : List ℕ) → is_open s j ≡ false → AreTuned s j → last_round j < round → in_force s (j ++ collects round all (q ∷ mons)) ≡ in_force s j
+-- asking for values leaves the settings in force
+pub collects_force : (s : Setup) (j : List Noted) (round : ℕ) (all : List ℕ) (q : ℕ) (mons : List ℕ) → is_open s j ≡ false → AreTuned s j → last_round j < round → in_force s (j ++ collects round all (q ∷ mons)) ≡ in_force s j
 collects_force s j round all q mons closed t new =
     let after = j ++ collects round all (q ∷ mons) in
     let list = collects_tunings s j round all (q ∷ mons) t in

@@ -6,6 +6,7 @@ use Rattle.std.proofs.lemmas.Bool.{eqb-true, eq-eqb, ltb-false, true≢false}
 use Rattle.std.proofs.lemmas.List.{append-nil}
 use Rattle.std.proofs.lemmas.List.Elements.{All-cons, All-nil}
 use Rattle.std.proofs.lemmas.List.FromFn.{length-range_with_len, get_or-range_with_len}
+use Rattle.std.proofs.Math.Bool.{and-false}
 use Rattle.tk_base.specs.Ascending.{IsAscending}
 use Rattle.tk_base.specs.Objects.{is_in}
 use Rattle.tk_base.specs.Pairs.{objects_of}
@@ -25,6 +26,7 @@ use Rattle.tk_journal.specs.declared.turn.TurnKind.TheVariants.{Note, End}
 use Rattle.tk_journal.specs.Turns.{reported, passes_at, short_at, full_at, wide_at, streak, kind_of, rounds, collects, wide_collects, assigns, full_end, wide_end, is_wide, report_demands, values_demand, demanded}
 use Rattle.tk_journal.specs.Refusal.{refusal_of, shown_by, known_by, refusal_of_report}
 use Rattle.tk_base.specs.History.{last_of}
+use Rattle.tk_border.proofs.UnionLemmas.{resolution_within, resolution_ascends}
 use Rattle.tk_journal.specs.declared.noted.Noted.{Noted}
 use Rattle.tk_journal.specs.declared.noted.Noted.TheVariants as n
 use Rattle.tk_journal.proofs.Appends.{later}
@@ -35,8 +37,8 @@ use Rattle.tk_journal.proofs.Tables.{AreSized, table_size}
 use Rattle.tk_journal.proofs.Reports.{Gives, if_gives}
 use Rattle.tk_journal.proofs.Accepted.{accepted_kind, accepted_answer}
 use Rattle.tk_journal.proofs.Counting.{AreCounted}
-use Rattle.tk_journal.proofs.Content.{all_by, report_takes_part, IsResolving, resolution_within, resolution_positive, resolution_holds, resolution_ascends}
-use Rattle.tk_journal.proofs.Tuning.{force_limits, wide_by, force_closed, force_full, and_none}
+use Rattle.tk_journal.proofs.Content.{all_by, report_takes_part, IsResolving, resolution_positive, resolution_holds}
+use Rattle.tk_journal.proofs.Tuning.{force_limits, wide_by, force_closed, force_full}
 use Rattle.tk_journal.proofs.Standing.{IsStanding, AreAgreed, standing_agreed, all_holds}
 use Rattle.tk_journal.proofs.Ending.{IsFullAt, full_standing, wide_standing, short_standing, full_short, wide_short, short_short}
 use Rattle.tk_journal.proofs.Sizes.{short-append, objects_few}
@@ -123,10 +125,10 @@ range_contains a k mon low high =
     let place : mon - a < k = omega (arith, low, high) in
     (mon - a, (let l = length-range_with_len a k in omega (arith, place, l)), get_or-range_with_len a k (mon - a) mon place ∙ (let e : a + (mon - a) ≡ mon = omega (arith, low) in e))
 
--- the one that reports is none of the others
-no_other : (a k mon : ℕ) → is_in (filter (λ m. not (m == mon)) (range_with_len a k)) mon ≡ false
+-- a monitor is not among the others
+pub no_other : (a k mon : ℕ) → is_in (filter (λ m. not (m == mon)) (range_with_len a k)) mon ≡ false
 no_other a k mon =
-    is_in-filter (λ m. not (m == mon)) (range_with_len a k) mon ∙ ap (λ b. is_in (range_with_len a k) mon && not b) (eq-eqb mon mon refl) ∙ and_none (is_in (range_with_len a k) mon)
+    is_in-filter (λ m. not (m == mon)) (range_with_len a k) mon ∙ ap (λ b. is_in (range_with_len a k) mon && not b) (eq-eqb mon mon refl) ∙ and-false (is_in (range_with_len a k) mon)
 
 -- a round that did not ask someone is not wide
 unasked : (s : Setup) (j : List Noted) (round : ℕ) (asked : List ℕ) (q : ℕ) (mons : List ℕ) (mon : ℕ) → IsMonitor s mon → AreCounted s j → last_round j < round → is_in (q ∷ mons) mon ≡ false
@@ -202,7 +204,8 @@ turn_full_as s before from seq border failed values (suc k) true limits is p = a
 turn_full_as s before from seq border failed values zero false limits is p = absurd (true≢false (sym (eq-eqb s.monitors 1 p.order.some) ∙ is))
 turn_full_as s before from seq border failed values (suc k) false limits is p = several s before from seq border failed values k limits.objects p.order.some p
 
-no_choice : (b : Bool) (x : Option Reported) → x ≡ None → (if b then x else None) ≡ None
+-- a choice between nothing and nothing
+pub no_choice : (b : Bool) (x : Option Reported) → x ≡ None → (if b then x else None) ≡ None
 no_choice true x none = none
 no_choice false x none = refl
 

@@ -1,6 +1,6 @@
 -- How a journal grows in the turn of a taken frame: nothing more, an Assign to one, an Assign to each, or the Collects of a new round.
 use Rattle.tk_journal.specs.declared.noted.Noted.TheVariants as n
-use Rattle.std.proofs.Common.{◌≡◌, ℕ, suc, zero, ◌+◌, ◌≤◌, ◌<◌, ◌&&◌, ◌||◌, ◌==◌, ℤ, true, false, not, List, [], ◌∷◌, ◌++◌, map, drop, Some, None, refl, sym, ap, ◌∙◌, subst, arith, append-nil}
+use Rattle.std.proofs.Common.{◌≡◌, ℕ, suc, zero, ◌+◌, ◌≤◌, ◌<◌, ◌&&◌, ◌==◌, ℤ, true, false, not, List, [], ◌∷◌, ◌++◌, map, drop, Some, None, refl, sym, ap, ◌∙◌, subst, arith, append-nil}
 use Rattle.std.specs.Prelude.{filter, is_some, nat_lt, nat_le, if◌then◌else◌}
 use Rattle.std.specs.List.{range_with_len}
 use Rattle.std.proofs.lemmas.Bool.{true≢false, eq-eqb, eqb-true, and_parts, ltb-true, leb-true}
@@ -8,6 +8,8 @@ use Rattle.tk_base.specs.Objects.{objects, is_in}
 use Rattle.tk_base.specs.Pairs.{objects_of}
 use Rattle.tk_base.specs.Settings.{Setup}
 use Rattle.tk_base.specs.declared.ids.Mon.{Mon}
+use Rattle.tk_base.proofs.ListLemmas.{any_in_range}
+use Rattle.tk_base.proofs.MemberLemmas.{is_in-head}
 use Rattle.tk_border.proofs.RisingLemmas.{Rises, is_in-filter, is_in-objects, rises-filter, rises-objects}
 use Rattle.tk_frames.specs.declared.frame.Frame.{Frame}
 use Rattle.tk_alloc.specs.declared.reported.Reported.{Reported}
@@ -25,7 +27,7 @@ use Rattle.tk_journal.proofs.Counting.{AreCounted}
 use Rattle.tk_journal.proofs.Orderly.{IsOrderly, IsEnding, Row, sends, assigns_got, full_nodes, wide_nodes, orderly_got, others_of}
 use Rattle.tk_journal.proofs.Sound.{new_asked, new_values}
 use Rattle.tk_journal.proofs.SoundLemmas.{waiting}
-use Rattle.tk_journal.proofs.Turning.{any_range, closed_got, values_ending}
+use Rattle.tk_journal.proofs.Turning.{closed_got, values_ending}
 use Rattle.tk_journal.specs.Shapes.{IsFreshReport, IsLastValues, Shape}
 use Rattle.tk_journal.specs.Shapes.Shape.{Plain, Short, Wide, Full, LoneEnd, LoneWide, EndFull, EndOver, EndWide}
 use Rattle.tk_journal.proofs.ShapeLemmas.{shape}
@@ -50,28 +52,26 @@ pub data Grows (s : Setup) (before : List Noted) (from : Mon) (frame : Frame) (a
 
 -- ---- a round that is asked for is open
 
-own_head : (q : ℕ) (mons : List ℕ) → is_in (q ∷ mons) q ≡ true
-own_head q mons = ap (λ b. b || is_in mons q) (eq-eqb q q refl)
-
 pub asks_open : (s : Setup) (j : List Noted) (round : ℕ) (asked : List ℕ) (q : ℕ) (mons : List ℕ) → IsMonitor s q → AreCounted s j → last_round j < round → is_open s (j ++ collects round asked (q ∷ mons)) ≡ true
 unfolding is_open waits_for
 asks_open s j round asked q mons m c new =
     let after = j ++ collects round asked (q ∷ mons) in
     let last : last_round after ≡ round = collects_round j round asked q mons in
-    any_range (λ mon. is_some (asked_of (last_round after) mon after) && not (is_some (values_of (last_round after) mon after))) 1 s.monitors q m.from_one (let w = m.within in omega (arith, w))
+    any_in_range (λ mon. is_some (asked_of (last_round after) mon after) && not (is_some (values_of (last_round after) mon after))) 1 s.monitors q m.from_one (let w = m.within in omega (arith, w))
     (waiting (asked_of (last_round after) q after) (values_of (last_round after) q after) asked
-    (ap (λ r. asked_of r q after) last ∙ new_asked s j round asked (q ∷ mons) q c new ∙ ap (λ b. if b then Some asked else None) (own_head q mons))
+    (ap (λ r. asked_of r q after) last ∙ new_asked s j round asked (q ∷ mons) q c new ∙ ap (λ b. if b then Some asked else None) (is_in-head q mons))
     (ap (λ r. values_of r q after) last ∙ new_values s j round asked (q ∷ mons) q c new))
 
--- the first of the others is a monitor
-in_catalogue : (m q : ℕ) → is_in (objects m) q ≡ true → (1 ≤ q) × (q ≤ m)
+-- what the catalogue has lies between 1 and its size
+pub in_catalogue : (m q : ℕ) → is_in (objects m) q ≡ true → (1 ≤ q) × (q ≤ m)
 in_catalogue m q in' = let both = and_parts (nat_lt 0 q) (nat_le q m) (sym (is_in-objects m q) ∙ in') in (ltb-true 0 q both.0, leb-true q m both.1)
 
-other_monitor : (s : Setup) (k mon : ℕ) → s.monitors ≡ suc (suc k) → IsMonitor s (others_of k mon).0
+-- the first of the others is a monitor
+pub other_monitor : (s : Setup) (k mon : ℕ) → s.monitors ≡ suc (suc k) → IsMonitor s (others_of k mon).0
 unfolding objects
 other_monitor s k mon two =
     let o = others_of k mon in
-    let here : is_in (filter (λ m. not (m == mon)) (range_with_len 1 (suc (suc k)))) o.0 ≡ true = ap (λ xs. is_in xs o.0) o.2 ∙ own_head o.0 o.1 in
+    let here : is_in (filter (λ m. not (m == mon)) (range_with_len 1 (suc (suc k)))) o.0 ≡ true = ap (λ xs. is_in xs o.0) o.2 ∙ is_in-head o.0 o.1 in
     let both = and_parts (is_in (range_with_len 1 (suc (suc k))) o.0) (not (o.0 == mon)) (sym (is_in-filter (λ m. not (m == mon)) (range_with_len 1 (suc (suc k))) o.0) ∙ here) in
     let range = in_catalogue (suc (suc k)) o.0 both.0 in
     record { from_one = range.0; within = (let w = range.1 in omega (arith, w, two)) }

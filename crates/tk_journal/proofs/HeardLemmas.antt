@@ -15,7 +15,7 @@ use Rattle.tk_frames.specs.Assigns.{assign_in}
 use Rattle.tk_frames.specs.declared.frame.Frame.{Frame}
 use Rattle.tk_frames.specs.Carried.{seq_in}
 use Rattle.tk_journal.specs.Laws.{IsMonitor, IsSetUp}
-use Rattle.tk_journal.specs.Legal.{Opening, IsLegal, opened}
+use Rattle.tk_journal.specs.Legal.{Opening, IsLegal, opened, inputs_of}
 use Rattle.tk_journal.specs.Links.{Passed, frames_from, link_of}
 use Rattle.tk_journal.specs.Links.Passed.{Up, Down}
 use Rattle.tk_journal.specs.Walks.{walk}
@@ -70,17 +70,20 @@ walked front answer (Down frame ∷ link) g is = elim (walked (front ++ Down fra
   | inr later ↦ inr later
 ]
 
-up_one : (own : Bool) (frame : Frame) (link : List Passed) (frames : List Frame) → ups link ≡ frames → ups (cons_option (if own then Some (Up frame) else None) link) ≡ cons_option (if own then Some frame else None) frames
+-- a frame that goes up is one more of those
+pub up_one : (own : Bool) (frame : Frame) (link : List Passed) (frames : List Frame) → ups link ≡ frames → ups (cons_option (if own then Some (Up frame) else None) link) ≡ cons_option (if own then Some frame else None) frames
 unfolding ups up_in
 up_one true frame link frames e = ap (λ xs. frame ∷ xs) e
 up_one false frame link frames e = e
 
-down_one : (own : Bool) (frame : Frame) (link : List Passed) → ups (cons_option (if own then Some (Down frame) else None) link) ≡ ups link
+-- a frame that goes down adds nothing to those that went up
+pub down_one : (own : Bool) (frame : Frame) (link : List Passed) → ups (cons_option (if own then Some (Down frame) else None) link) ≡ ups link
 unfolding ups up_in
 down_one true frame link = refl
 down_one false frame link = refl
 
-ups_are : (mon : ℕ) (j : List Noted) → ups (link_of mon j) ≡ frames_from mon j
+-- what went up on a link is what the journal has from the monitor
+pub ups_are : (mon : ℕ) (j : List Noted) → ups (link_of mon j) ≡ frames_from mon j
 unfolding ups
 ups_are mon [] = refl
 ups_are mon (n.Got from frame ∷ j) = up_one (from.0 == mon) frame (link_of mon j) (frames_from mon j) (ups_are mon j)
@@ -251,3 +254,11 @@ heard_before o j mon number set legal m low is =
     let k = one_less s.monitors set.limits.some_monitor in
     (legal_carries o (IsHearing s) (by_parts s (IsHearing s) (hearing_parts s k.0 k.1))
     (record { awaiting = first_awaiting o k.0 k.1 set; heard = λ q r number' low' is'. absurd (let e = first_sent o q set r in omega (arith, e, is', low')) }) j legal).heard mon m number low is
+
+-- a journal without inputs has no frame of any monitor
+pub no_input : (mon : ℕ) (xs : List Noted) → inputs_of xs ≡ [] → frames_from mon xs ≡ []
+no_input mon [] none = refl
+no_input mon (n.Got from frame ∷ xs) none = absurd (cc)
+no_input mon (n.Sent to frame ∷ xs) none = no_input mon xs none
+no_input mon (n.Published p ∷ xs) none = no_input mon xs none
+no_input mon (n.Tuned k epsilon ∷ xs) none = absurd (cc)

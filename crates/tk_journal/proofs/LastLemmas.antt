@@ -10,6 +10,7 @@ use Rattle.tk_base.specs.Settings.{Setup}
 use Rattle.tk_base.specs.declared.ids.Mon.{Mon}
 use Rattle.tk_frames.specs.declared.frame.Frame.{Frame}
 use Rattle.tk_base.specs.History.{last_of}
+use Rattle.tk_base.proofs.ListLemmas.{any_in_range}
 use Rattle.tk_journal.specs.Laws.{IsMonitor, IsSetUp}
 use Rattle.tk_journal.specs.Legal.{IsLegal, Opening, opened}
 use Rattle.tk_journal.specs.Links.{frames_to}
@@ -27,7 +28,7 @@ use Rattle.tk_journal.proofs.Pieces.{batch_to, got_asked, got_round, got_values}
 use Rattle.tk_journal.proofs.Reports.{closed_waits}
 use Rattle.tk_journal.proofs.Same.{same_closing}
 use Rattle.tk_journal.proofs.Sound.{new_asked}
-use Rattle.tk_journal.proofs.Turning.{any_range, orderly_demanded}
+use Rattle.tk_journal.proofs.Turning.{orderly_demanded}
 use Rattle.tk_journal.proofs.GrowLemmas.{Grows, grows, with_got}
 use Rattle.tk_journal.proofs.GrowLemmas.Grows.{Nothing, ToOne, ToAll, Asks}
 use Rattle.tk_journal.specs.Sending.{IsLastAsked}
@@ -122,13 +123,14 @@ grown_last s before from frame after (Asks round asked q mons rising closed new 
 
 pub waits_open : (s : Setup) (j : List Noted) (mon : ℕ) → IsMonitor s mon → Waits mon j → is_open s j ≡ true
 unfolding is_open
-waits_open s j mon m waits = any_range (λ q. waits_for (last_round j) q j) 1 s.monitors mon m.from_one (let w = m.within in omega (arith, w)) waits
+waits_open s j mon m waits = any_in_range (λ q. waits_for (last_round j) q j) 1 s.monitors mon m.from_one (let w = m.within in omega (arith, w)) waits
 
 not_due : (o c d : Bool) → o ≡ true → (not o && c && d) ≡ false
 not_due true c d is = refl
 not_due false c d is = absurd (false≢true is)
 
-open_nothing : (s : Setup) (j : List Noted) → is_open s j ≡ true → closing s j ≡ []
+-- an open round closes nothing
+pub open_nothing : (s : Setup) (j : List Noted) → is_open s j ≡ true → closing s j ≡ []
 unfolding closing is_calm
 open_nothing s j opened' =
     ap (λ b. if b then n.Published (publication_at s j) ∷ (if is_last s j then stops s else []) else [])

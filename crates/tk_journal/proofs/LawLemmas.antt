@@ -4,7 +4,7 @@ use Rattle.std.specs.Prelude.{neg_ℤ}
 use Rattle.std.proofs.lemmas.Int.{ints}
 use Rattle.tk_base.specs.Settings.{Setup}
 use Rattle.tk_base.specs.Sum.{int_sum}
-use Rattle.tk_rows.proofs.SumLemmas.{int_sum-cons}
+use Rattle.tk_base.proofs.SumLemmas.{int_sum-cons}
 use Rattle.tk_journal.specs.Laws.{IsSetUp}
 use Rattle.tk_journal.specs.Legal.{Opening, IsLegal}
 use Rattle.tk_journal.specs.Readings.{monitors, factor, own}

@@ -329,7 +329,8 @@ lone_left o j from border failed values e =
 
 -- ---- a short round
 
-short_is : (s : Setup) (j : List Noted) (report : Reported) → assigns j (short_at s j report) ≡ sends j (members_at j) (short_sent s j report ∷ [])
+-- the Assigns of a short round
+pub short_is : (s : Setup) (j : List Noted) (report : Reported) → assigns j (short_at s j report) ≡ sends j (members_at j) (short_sent s j report ∷ [])
 unfolding short_decides
 short_is s j report = refl
 

@@ -4,9 +4,9 @@ use Rattle.std.specs.Prelude.{ℤ, filter, if◌then◌else◌}
 use Rattle.std.specs.List.{filter_map, range_with_len}
 use Rattle.std.proofs.lemmas.Bool.{ne_eqb, eq-eqb, cases_eq}
 use Rattle.std.proofs.lemmas.List.{append-nil, length-append, length-map}
-use Rattle.std.proofs.lemmas.List.Sums.{fold-append}
 use Rattle.tk_base.specs.Settings.{Setup}
 use Rattle.tk_frames.specs.Assigns.{Assign, members_of}
+use Rattle.tk_frames.proofs.AssignsLemmas.{members_of-push}
 use Rattle.tk_journal.specs.Readings.{assigns_to, assigns_sent, members_at, seq_in, seqs_to}
 use Rattle.tk_journal.specs.declared.noted.Noted.{Noted}
 use Rattle.tk_journal.proofs.Appends.{seqs_to-append}
@@ -57,9 +57,6 @@ one_row to a (suc k) (d ∷ rows) mon is low high =
 
 abbrev pub AreNamed : Setup → List Noted → Type 0
 AreNamed s j = (mon : ℕ) → IsMonitor s mon → members_of (assigns_to mon j) ≡ members_at j
-
-pub members_of-push : (assigns : List Assign) (assign : Assign) → members_of (assigns ++ assign ∷ []) ≡ assign.members
-members_of-push assigns assign = fold-append (λ _ (a : Assign). a.members) [] assigns (assign ∷ [])
 
 pub named_same : (s : Setup) (a b : List Noted) → ((mon : ℕ) → assigns_to mon b ≡ assigns_to mon a) → members_at b ≡ members_at a → AreNamed s a → AreNamed s b
 named_same s a b assigns members h mon r = ap members_of (assigns mon) ∙ h mon r ∙ sym members

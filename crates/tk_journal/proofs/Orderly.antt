@@ -8,6 +8,7 @@ use Rattle.tk_base.specs.Settings.{Setup}
 use Rattle.tk_base.specs.Objects.{objects, is_in}
 use Rattle.tk_base.specs.Pairs.{objects_of}
 use Rattle.tk_base.specs.declared.ids.Mon.{Mon}
+use Rattle.tk_base.proofs.BoolLemmas.{neither_right}
 use Rattle.tk_frames.specs.declared.frame.Frame.{Frame}
 use Rattle.tk_frames.specs.declared.frame.Frame.TheVariants as f
 use Rattle.tk_alloc.specs.declared.reported.Reported.{Reported}
@@ -26,7 +27,7 @@ use Rattle.tk_journal.proofs.Batches.{named, plain_assigns, plain_seqs, plain_me
 use Rattle.tk_journal.proofs.Same.{AreSame, open_by, map_same, sent_same}
 use Rattle.tk_journal.specs.Laws.{IsMonitor}
 use Rattle.tk_journal.proofs.Counting.{AreCounted, counted_same, counted_got, counted_collects, counted_named, named_round, named_asked}
-use Rattle.tk_journal.proofs.Rounding.{HasOpeners, openers_same, openers_closed, openers_got, openers_collects, is_in_range, or_right}
+use Rattle.tk_journal.proofs.Rounding.{HasOpeners, openers_same, openers_closed, openers_got, openers_collects, is_in_range}
 use Rattle.tk_journal.proofs.Naming.{AreNamed, AreNumbered, named_all, named_one, named_same, numbered_all, numbered_one}
 
 pub record IsOrderly (s : Setup) (j : List Noted) : Type 0 where
@@ -232,7 +233,7 @@ here a mon q rest apart e =
 
 skip : (b : Bool) (a q : ℕ) (rest : List ℕ) → is_in (if not b then a ∷ rest else rest) q ≡ false → is_in rest q ≡ false
 skip true a q rest none = none
-skip false a q rest none = or_right (a == q) (is_in rest q) none
+skip false a q rest none = neither_right (a == q) (is_in rest q) none
 
 -- whoever is none of the others is the one
 pub not_other : (a k mon q : ℕ) → a ≤ q → q < a + k → is_in (filter (λ m. not (m == mon)) (range_with_len a k)) q ≡ false → q ≡ mon

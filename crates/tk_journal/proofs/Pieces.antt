@@ -1,8 +1,9 @@
 -- The readings over the pieces of which turns are made: a taken frame, a batch of sent frames, a publication.
-use Rattle.std.proofs.Common.{◌≡◌, ℕ, Bool, true, false, ◌==◌, ◌||◌, List, [], ◌∷◌, ◌++◌, length, map, Option, Some, None, refl, ap, ◌∙◌}
+use Rattle.std.proofs.Common.{◌≡◌, ℕ, Bool, true, false, ◌==◌, List, [], ◌∷◌, ◌++◌, length, map, Option, Some, None, refl, ap, ◌∙◌}
 use Rattle.std.specs.Prelude.{filter, if◌then◌else◌}
 use Rattle.std.specs.List.{filter_map, cons_option}
 use Rattle.std.proofs.lemmas.List.{append-nil}
+use Rattle.std.proofs.Math.Bool.{or-false}
 use Rattle.tk_frames.specs.Assigns.{assign_in}
 use Rattle.tk_frames.specs.declared.frame.Frame.{Frame}
 use Rattle.tk_base.specs.declared.ids.Mon.{Mon}
@@ -18,10 +19,6 @@ use Rattle.tk_journal.proofs.Appends.{later, assigns_to-append, members_at-appen
 some_one : {A : Type 0} (x : Option A) → last_of (cons_option x []) ≡ x
 some_one None = refl
 some_one (Some x) = refl
-
-or_none : (b : Bool) → (b || false) ≡ b
-or_none true = refl
-or_none false = refl
 
 -- ---- the Assigns on a link are those sent
 
@@ -96,7 +93,7 @@ got_progress mon b from frame = progress_of-append mon b (n.Got from frame ∷ [
 
 pub got_stopped : (b : List Noted) (from : Mon) (frame : Frame) → is_stopped (b ++ n.Got from frame ∷ []) ≡ is_stopped b
 unfolding is_stopped
-got_stopped b from frame = is_stopped-append b (n.Got from frame ∷ []) ∙ or_none (is_stopped b)
+got_stopped b from frame = is_stopped-append b (n.Got from frame ∷ []) ∙ or-false (is_stopped b)
 
 -- ---- a batch of frames, each to the node that its row names
 

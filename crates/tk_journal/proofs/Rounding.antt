@@ -7,6 +7,7 @@ use Rattle.std.proofs.Math.Bool.{or-true}
 use Rattle.tk_base.specs.Settings.{Setup}
 use Rattle.tk_base.specs.Objects.{is_in}
 use Rattle.tk_base.specs.declared.ids.Mon.{Mon}
+use Rattle.tk_base.proofs.BoolLemmas.{neither_right}
 use Rattle.tk_frames.specs.declared.frame.Frame.{Frame}
 use Rattle.tk_frames.specs.declared.frame.Frame.TheVariants as f
 use Rattle.tk_alloc.specs.declared.reported.Reported.{Reported}
@@ -37,10 +38,6 @@ openers_same s a b e h is mon r none =
 -- a round that is not open has no need of one
 pub openers_closed : (s : Setup) (j : List Noted) → is_open s j ≡ false → HasOpeners s j
 openers_closed s j closed is mon r none = absurd (true≢false (sym is ∙ closed))
-
-pub or_right : (a b : Bool) → (a || b) ≡ false → b ≡ false
-or_right true b e = cc
-or_right false b e = e
 
 -- ---- a taken frame opens no round
 
@@ -112,7 +109,7 @@ collects_unasked j round mon asked q mons none =
     ap is_some (asked_of-append round mon j (collects round asked (q ∷ mons)) ∙ ap (later (asked_of round mon j)) (collects_asked round mon asked (q ∷ mons) (eq-eqb round round refl)))
     ∙ later_some (asked_of round mon j) (if is_in (q ∷ mons) mon then Some asked else None)
     ∙ ap (λ b. is_some (asked_of round mon j) || b) (chosen_some (is_in (q ∷ mons) mon) asked) in
-    or_right (is_some (asked_of round mon j)) (is_in (q ∷ mons) mon) (sym same ∙ ap (λ r. is_some (asked_of r mon (j ++ collects round asked (q ∷ mons)))) (sym (collects_round j round asked q mons)) ∙ none)
+    neither_right (is_some (asked_of round mon j)) (is_in (q ∷ mons) mon) (sym same ∙ ap (λ r. is_some (asked_of r mon (j ++ collects round asked (q ∷ mons)))) (sym (collects_round j round asked q mons)) ∙ none)
 
 pub openers_collects : (s : Setup) (j : List Noted) (round : ℕ) (asked : List ℕ) (q : ℕ) (mons : List ℕ)
     → ((mon : ℕ) → IsMonitor s mon → is_in (q ∷ mons) mon ≡ false → is_report (answer_of mon j) ≡ true) → HasOpeners s (j ++ collects round asked (q ∷ mons))

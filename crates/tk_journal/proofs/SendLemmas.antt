@@ -12,11 +12,11 @@ use Rattle.tk_border.proofs.RisingLemmas.{ascends}
 use Rattle.tk_base.specs.Objects.{objects}
 use Rattle.tk_base.specs.Pairs.{objects_of}
 use Rattle.tk_base.specs.Settings.{Setup, IsWithinLimits}
+use Rattle.tk_base.proofs.PairsLemmas.{objects_paired}
 use Rattle.tk_rows.specs.Factors.{Grid}
 use Rattle.tk_frames.specs.Assigns.{members_of}
 use Rattle.tk_frames.specs.declared.frame.Frame.{Frame}
 use Rattle.tk_alloc.specs.Parts.{Part, new_factor}
-use Rattle.tk_alloc.proofs.PartLemmas.{objects_put}
 use Rattle.tk_alloc.proofs.WideLemmas.{of_catalogue, in_catalogue}
 use Rattle.tk_journal.specs.Laws.{IsMonitor, AreChanges}
 use Rattle.tk_journal.specs.Publishing.{closing, is_due, is_last, publication_at, settled_at, stops}
@@ -72,7 +72,7 @@ batch_well s front to frame (d ∷ rows) each =
 
 dealt_of : (grid : Grid) (parts : List Part) (all : List ℕ) (first : ℕ) (ps : List Part) (d : Row) → Contains (dealt_rows grid parts all first ps) d → objects_of d.1 ≡ all
 dealt_of grid parts all first [] d (k, below, is) = absurd (omega (arith, below))
-dealt_of grid parts all first (p ∷ ps) d (zero, below, is) = ap (λ (e : Row). objects_of e.1) (sym is) ∙ objects_put (λ o. new_factor grid parts first p o) all
+dealt_of grid parts all first (p ∷ ps) d (zero, below, is) = ap (λ (e : Row). objects_of e.1) (sym is) ∙ objects_paired (λ o. new_factor grid parts first p o) all
 dealt_of grid parts all first (p ∷ ps) d (suc k, below, is) = dealt_of grid parts all (first + 1) ps d (k, omega (arith, below), is)
 
 changes_of : (n : ℕ) (all : List ℕ) (changes : List (ℕ × ℤ)) → objects_of changes ≡ all → All (λ o. o ≤ n) all → list_all is_small changes ≡ true → AreChanges n changes

@@ -11,6 +11,7 @@ use Rattle.tk_base.specs.Objects.{objects, is_in}
 use Rattle.tk_base.specs.Pairs.{objects_of}
 use Rattle.tk_base.specs.Settings.{Setup, IsWithinLimits}
 use Rattle.tk_base.specs.declared.ids.Mon.{Mon}
+use Rattle.tk_base.proofs.MemberLemmas.{contained_is_in, is_in_contained, objects_within}
 use Rattle.tk_rows.specs.Factors.{IsFactor}
 use Rattle.tk_border.proofs.RisingLemmas.{is_in-filter}
 use Rattle.tk_frames.specs.Assigns.{members_of}
@@ -19,7 +20,6 @@ use Rattle.tk_alloc.specs.Parts.{monitor}
 use Rattle.tk_alloc.specs.Resolving.{CanTakePart, round_parts, objects_over}
 use Rattle.tk_alloc.specs.Rounds.{chosen, wide_parts}
 use Rattle.tk_alloc.specs.declared.reported.Reported.{Reported}
-use Rattle.tk_alloc.proofs.MemberLemmas.{contained_is_in, is_in_contained}
 use Rattle.tk_alloc.proofs.RoundLemmas.{bordered}
 use Rattle.tk_alloc.proofs.WideLemmas.{leeway_size, slight_at}
 use Rattle.tk_journal.specs.Deciding.{full_decides, is_within_limit, reports_at, short_decides, wide_decides}
@@ -32,7 +32,7 @@ use Rattle.tk_journal.specs.Turns.{assigns, demanded, full_at, is_wide, reported
 use Rattle.tk_journal.specs.declared.noted.Noted.{Noted}
 use Rattle.tk_journal.proofs.Appends.{assigns_sent-append, members_at-append}
 use Rattle.tk_journal.proofs.Content.{report_takes_part}
-use Rattle.tk_journal.proofs.Ending.{IsWideAt, wide_ascends, all_within}
+use Rattle.tk_journal.proofs.Ending.{IsWideAt, wide_ascends}
 use Rattle.tk_journal.proofs.Firm.{IsFirm, got_tuned, wide_begins}
 use Rattle.tk_journal.proofs.FirmTurns.{AreRoundObjects, firm_demanded, fresh_content, full_at_end, report_objects, takes_at_end, got_sizes}
 use Rattle.tk_journal.proofs.LawLemmas.{one_less, orderly}
@@ -106,7 +106,7 @@ kept_is p xs q in' = is_in_contained xs q (and_parts (is_in xs q) (p q) (sym (is
 ask_wide : (s : Setup) (before : List Noted) (from : Mon) (frame : Frame) (round : ℕ) → IsBegun s before from frame → EachFrom (IsSaidWell s) (with_got before from frame) (wide_collects s round)
 ask_wide s before from frame round h =
     asks_well s (with_got before from frame) round (objects s.objects) (monitors s) (λ q in'. listed_monitor s q in')
-    (ask_got s before from frame (objects s.objects) (can_ask s before (objects s.objects) h.limits h.order h.firm h.begun (wide_ascends s.objects) (all_within s.objects) (all_among s before h.firm.standing)))
+    (ask_got s before from frame (objects s.objects) (can_ask s before (objects s.objects) h.limits h.order h.firm h.begun (wide_ascends s.objects) (objects_within s.objects) (all_among s before h.firm.standing)))
 
 -- ---- Assigns by what was decided
 
@@ -146,7 +146,7 @@ wide_well s now reports limits c firm =
     let parts = wide_parts setup members reports in
     let factor_of : (z : ℤ) → unsigned_abs z < 2 ^ 108 → IsFactor z = λ z h. omega (arith, h) in
     sent_well s now members grid parts all (map (monitor (pos 0)) reports) limits firm
-    (subst (λ q. All (λ o. o ≤ q) all) (force_objects s now) (all_within setup.objects))
+    (subst (λ q. All (λ o. o ≤ q) all) (force_objects s now) (objects_within setup.objects))
     (bounded_small grid parts all 1 (map (monitor (pos 0)) reports) (slight_at IsFactor factor_of grid parts all 1 reports c.called.reported.values (λ o in'. leeway_size setup grid present reports o c.called in')))
 
 -- ---- the last Values
@@ -225,7 +225,7 @@ turn_well o k some set before (n.Tuned q epsilon) accepted legal h =
     let order = orderly o before set legal in
     let firm = legal_firm o before set legal in
     let all = objects s.objects in
-    let can = can_ask s before all set.limits order firm h.begun (wide_ascends s.objects) (all_within s.objects) (all_among s before firm.standing) in
+    let can = can_ask s before all set.limits order firm h.begun (wide_ascends s.objects) (objects_within s.objects) (all_among s before firm.standing) in
     record {
       each = each_join (IsSaidWell s) [] before (n.Tuned q epsilon ∷ wide_collects s (rounds s before + 1)) h.each
           (tt, asks_well s (before ++ n.Tuned q epsilon ∷ []) (rounds s before + 1) all (monitors s) (λ m in'. listed_monitor s m in') (ask_tuned s before q epsilon all can));

@@ -8,6 +8,7 @@ use Rattle.std.proofs.lemmas.Bool.{true≢false}
 use Rattle.tk_base.specs.Objects.{objects, is_in}
 use Rattle.tk_base.specs.Settings.{Setup}
 use Rattle.tk_base.specs.declared.ids.Mon.{Mon}
+use Rattle.tk_base.proofs.BoolLemmas.{neither_right}
 use Rattle.tk_frames.specs.Assigns.{assign_in}
 use Rattle.tk_frames.specs.declared.frame.Frame.{Frame}
 use Rattle.tk_journal.specs.Laws.{IsMonitor, IsSetUp}
@@ -32,7 +33,6 @@ use Rattle.tk_frames.proofs.CarriedLemmas.{tally-append}
 use Rattle.tk_journal.proofs.Accepted.{accepted_kind}
 use Rattle.tk_journal.proofs.GrowLemmas.{Grows, grows, range_rises, with_got}
 use Rattle.tk_journal.proofs.GrowLemmas.Grows.{Nothing, ToOne, ToAll, Asks}
-use Rattle.tk_journal.proofs.Rounding.{or_right}
 
 abbrev pub is_other : Frame → Bool
 is_other (f.Assign seq members changes) = false
@@ -178,7 +178,7 @@ pub unstopped : (mon : ℕ) (j : List Noted) → is_stopped j ≡ false → tall
 unfolding is_stopped
 unstopped mon [] live = refl
 unstopped mon (n.Got from frame ∷ j) live = unstopped mon j live
-unstopped mon (n.Sent to frame ∷ j) live = halt_first mon to frame (frames_to mon j) (or_left (is_stop (n.Sent to frame)) (list_any is_stop j) live) (unstopped mon j (or_right (is_stop (n.Sent to frame)) (list_any is_stop j) live))
+unstopped mon (n.Sent to frame ∷ j) live = halt_first mon to frame (frames_to mon j) (or_left (is_stop (n.Sent to frame)) (list_any is_stop j) live) (unstopped mon j (neither_right (is_stop (n.Sent to frame)) (list_any is_stop j) live))
 unstopped mon (n.Published p ∷ j) live = unstopped mon j live
 unstopped mon (n.Tuned k epsilon ∷ j) live = unstopped mon j live
 

@@ -7,6 +7,7 @@ use Rattle.std.proofs.lemmas.List.Elements.{All-contains}
 use Rattle.tk_base.specs.Ascending.{IsAscending}
 use Rattle.tk_base.specs.Objects.{objects}
 use Rattle.tk_base.specs.Settings.{Setup}
+use Rattle.tk_base.proofs.MemberLemmas.{length-objects}
 use Rattle.tk_rows.specs.Factors.{Grid}
 use Rattle.tk_rows.proofs.WritingLemmas.{ascending_are_apart}
 use Rattle.tk_frames.specs.Size.{IsShort}
@@ -14,7 +15,7 @@ use Rattle.tk_frames.specs.declared.frame.Frame.{Frame}
 use Rattle.tk_frames.specs.declared.frame.Frame.TheVariants as f
 use Rattle.tk_alloc.specs.Parts.{Part, new_factor}
 use Rattle.tk_alloc.proofs.FullLemmas.{held_length}
-use Rattle.tk_alloc.proofs.WideLemmas.{in_catalogue, catalogue_length}
+use Rattle.tk_alloc.proofs.WideLemmas.{in_catalogue}
 use Rattle.tk_journal.specs.Laws.{AreSentShort}
 use Rattle.tk_journal.specs.Publishing.{closing, is_due, is_last, publication_at, stops}
 use Rattle.tk_journal.specs.Readings.{monitors, assigns_sent}
@@ -40,7 +41,7 @@ batch_short to frame (d ∷ rows) each = (each d (0, omega arith, refl), batch_s
 pub objects_few : (n : ℕ) (all : List ℕ) → IsAscending all → All (λ o. 0 < o) all → All (λ o. o ≤ n) all → length all ≤ n
 objects_few n all up positive within =
     let held = held_length all (objects n) (ascending_are_apart all up) (λ q in'. in_catalogue n q (All-contains (λ o. 0 < o) all q positive in') (All-contains (λ o. o ≤ n) all q within in')) in
-    let size = catalogue_length n in
+    let size = length-objects n in
     omega (arith, held, size)
 
 -- Collects over few objects

@@ -13,10 +13,12 @@ use Rattle.tk_rows.specs.Factors.{IsFactor, AreBalanced}
 use Rattle.tk_frames.specs.declared.frame.Frame.TheVariants as f
 use Rattle.tk_alloc.specs.declared.reported.Reported.{Reported}
 use Rattle.tk_alloc.proofs.BorderLemmas.{factor_size}
-use Rattle.tk_alloc.proofs.WideLemmas.{catalogue_length}
 use Rattle.tk_journal.specs.Laws.{IsSetUp}
 use Rattle.tk_journal.specs.Readings.{monitors, assigns_to, members_at, table_at, last_round, asked_of, values_of, waits_for, is_open, tunings, is_over, tuned_to, in_force, is_stopped}
 use Rattle.tk_base.specs.History.{last_of}
+use Rattle.tk_base.proofs.OptionLemmas.{if_none}
+use Rattle.tk_base.proofs.ListLemmas.{any_in_range}
+use Rattle.tk_base.proofs.MemberLemmas.{length-objects}
 use Rattle.tk_journal.specs.Turns.{collects, wide_collects, rounds, is_wide}
 use Rattle.tk_journal.specs.Publishing.{closing}
 use Rattle.tk_journal.specs.Refusal.{retune_refusal_of}
@@ -28,7 +30,6 @@ use Rattle.tk_journal.proofs.Appends.{members_at-append}
 use Rattle.tk_journal.proofs.Pieces.{batch}
 use Rattle.tk_journal.proofs.Batches.{named, named_members, plain_assigns, plain_members, collects_round}
 use Rattle.tk_journal.proofs.Same.{same_closing}
-use Rattle.tk_journal.proofs.Accepted.{if_none}
 use Rattle.tk_journal.proofs.Counting.{AreCounted}
 use Rattle.tk_journal.proofs.Rounding.{is_in_range}
 use Rattle.tk_journal.proofs.Tables.{AreSized, own_is, factor_is, rows_count}
@@ -39,7 +40,7 @@ use Rattle.tk_journal.proofs.Sound.{no_round, new_asked, new_values}
 use Rattle.tk_journal.proofs.Firm.{IsFirm, firm_same, wide_round}
 use Rattle.tk_journal.proofs.FirmTurns.{firm_demanded}
 use Rattle.tk_journal.proofs.Orderly.{IsOrderly, orderly_same}
-use Rattle.tk_journal.proofs.Turning.{orderly_demanded, any_range}
+use Rattle.tk_journal.proofs.Turning.{orderly_demanded}
 use Rattle.tk_journal.proofs.LegalLemmas.{FrameTurn, by_parts, legal_carries, orderly_parts, orderly_tuned, tuned_round, tuned_assigns, opened_orderly, numbered_factors, opened_closed}
 use Rattle.tk_journal.proofs.LawLemmas.{one_less}
 
@@ -94,7 +95,7 @@ collects_open s j round k some c new =
     let mons : monitors s ≡ 1 ∷ range_with_len (1 + 1) k = ap (range_with_len 1) some in
     let last : last_round after ≡ round = ap (λ xs. last_round (j ++ collects round (objects s.objects) xs)) mons ∙ collects_round j round (objects s.objects) 1 (range_with_len (1 + 1) k) in
     let here : is_in (monitors s) 1 ≡ true = is_in_range 1 s.monitors 1 (omega arith) (omega (arith, some)) in
-    any_range (λ mon. is_some (asked_of (last_round after) mon after) && not (is_some (values_of (last_round after) mon after))) 1 s.monitors 1 (omega arith) (omega (arith, some))
+    any_in_range (λ mon. is_some (asked_of (last_round after) mon after) && not (is_some (values_of (last_round after) mon after))) 1 s.monitors 1 (omega arith) (omega (arith, some))
     (waiting (asked_of (last_round after) 1 after) (values_of (last_round after) 1 after) (objects s.objects)
     (ap (λ r. asked_of r 1 after) last ∙ new_asked s j round (objects s.objects) (monitors s) 1 c new ∙ ap (λ b. if b then Some (objects s.objects) else None) here)
     (ap (λ r. values_of r 1 after) last ∙ new_values s j round (objects s.objects) (monitors s) 1 c new))
@@ -142,7 +143,7 @@ firm_tuned s j k q e limits some r o h =
             (subst IsAscending (sym same) h.standing.chosen.ascends) (subst (λ ms. All (λ x. x ≤ s.objects) ms) (sym same) h.standing.chosen.within),
       );
       short = short-append mid (wide_collects s round) (short-append j (n.Tuned q (pos e) ∷ []) h.short tt)
-          (collects_short round (objects s.objects) (monitors s) (let l = catalogue_length s.objects in let m = limits.objects in omega (arith, l, m)));
+          (collects_short round (objects s.objects) (monitors s) (let l = length-objects s.objects in let m = limits.objects in omega (arith, l, m)));
     }
 
 -- ---- the opening

@@ -11,14 +11,15 @@ use Rattle.std.proofs.lemmas.List.Sums.{fold_push}
 use Rattle.tk_journal.proofs.ProgressLemmas.{are_same_by, settled_is, progress_goes_on, closing_is}
 use Rattle.std.specs.List.{cons_option, enumerate_from, list_all, range_with_len}
 use Rattle.std.proofs.lemmas.Bool.{and_from, and_parts, cases_Bool, eq-eqb, eqb-true, false≢true, true≢false, not-true}
+use Rattle.std.proofs.Math.Bool.{or-true}
 use Rattle.tk_base.specs.Settings.{Setup}
 use Rattle.tk_base.specs.declared.ids.Mon.{Mon}
 use Rattle.tk_frames.specs.Assigns.{Assign, assign_in}
 use Rattle.tk_frames.specs.declared.frame.Frame.{Frame}
 use Rattle.tk_base.specs.Objects.{is_in, objects}
 use Rattle.tk_border.proofs.RisingLemmas.{is_in-filter}
-use Rattle.tk_alloc.proofs.MemberLemmas.{contained_is_in, is_in_contained}
 use Rattle.tk_base.specs.History.{last_of}
+use Rattle.tk_base.proofs.MemberLemmas.{contained_is_in, is_in_contained}
 use Rattle.tk_journal.specs.Walks.{walk}
 use Rattle.tk_journal.specs.Laws.{IsMonitor, IsSetUp}
 use Rattle.tk_journal.specs.Legal.{IsAccepted, IsLegal, Opening, opened, turn_of}
@@ -44,7 +45,6 @@ use Rattle.tk_journal.proofs.Pieces.{assigns_on-sent, batch_from, batch_to, got_
 use Rattle.tk_journal.specs.Sending.{IsAnswered}
 use Rattle.tk_journal.proofs.SendLemmas.{calm_settled, monitor_listed}
 use Rattle.tk_journal.proofs.WholeLemmas.{by_turns, stands_whole}
-use Rattle.tk_journal.proofs.Ended.{or_any}
 
 some_halts : (xs : List ℕ) → 0 < length xs → 0 < tally is_halt (map (λ _. f.Stop) xs)
 some_halts [] some = absurd (omega (arith, some))
@@ -55,7 +55,8 @@ kept_some p xs x in' own =
     let there = is_in_contained (filter p xs) x (is_in-filter p xs x ∙ and_from (is_in xs x) (p x) (contained_is_in xs x in') own) in
     let b = there.1 in omega (arith, b)
 
-calm_closed : (s : Setup) (j : List Noted) → is_calm s j ≡ true → is_open s j ≡ false
+-- where all is calm no round is open
+pub calm_closed : (s : Setup) (j : List Noted) → is_calm s j ≡ true → is_open s j ≡ false
 unfolding is_calm
 calm_closed s j calm = not-true (is_open s j) (and_parts (not (is_open s j)) (list_all (λ mon. is_some (settled_of mon j)) (monitors s)) calm).0
 
@@ -185,13 +186,14 @@ stopped_by s j p m = elim (cases_Bool (is_stopped (j ++ n.Published p ∷ stops 
 
 calm_last_stops : (s : Setup) (j : List Noted) → IsMonitor s 1 → is_calm s j ≡ true → is_last s j ≡ true → is_stopped (j ++ closing s j) ≡ true
 calm_last_stops s j m calm last =
-    let due : is_due s j ≡ true = and_from (is_calm s j) (differs (in_force s j) (members_at j) (last_of (publications j)) || is_last s j) calm (ap (λ b. differs (in_force s j) (members_at j) (last_of (publications j)) || b) last ∙ or_any (differs (in_force s j) (members_at j) (last_of (publications j)))) in
+    let due : is_due s j ≡ true = and_from (is_calm s j) (differs (in_force s j) (members_at j) (last_of (publications j)) || is_last s j) calm (ap (λ b. differs (in_force s j) (members_at j) (last_of (publications j)) || b) last ∙ or-true (differs (in_force s j) (members_at j) (last_of (publications j)))) in
     ap is_stopped (ap (λ xs. j ++ xs) (closing_is s j due last)) ∙ stopped_by s j (publication_at s j) m
 
 abbrev Ended : Setup → List Noted → Type 0
 Ended s j = is_calm s j ≡ true → is_last s j ≡ true → is_stopped j ≡ true
 
-last_same : (s : Setup) (a b : List Noted) → AreSame s a b → is_last s b ≡ is_last s a
+-- of two journals that stand alike, both are at their last set or none is
+pub last_same : (s : Setup) (a b : List Noted) → AreSame s a b → is_last s b ≡ is_last s a
 last_same s a b e = ap (λ ps. list_all (λ (p : Progress). p.last) ps) (maps_same (λ mon. settled_of mon b) (λ mon. settled_of mon a) (monitors s) (λ mon. ap settled_in (e.answer mon)))
 
 turn_ended : (o : Opening) (k : ℕ) → o.settings.monitors ≡ suc k → IsSetUp o → (before : List Noted) (input : Noted) → IsAccepted o.settings before input → IsLegal o before → Ended o.settings before → Ended o.settings (before ++ turn_of o.settings before input)
@@ -233,7 +235,8 @@ calm_and_last_is_stopped o j set legal =
 
 -- ---- nothing stays due
 
-closing_none : (s : Setup) (j : List Noted) → is_due s j ≡ false → closing s j ≡ []
+-- where nothing is due nothing is closed
+pub closing_none : (s : Setup) (j : List Noted) → is_due s j ≡ false → closing s j ≡ []
 unfolding closing
 closing_none s j due = ap (λ b. if b then n.Published (publication_at s j) ∷ (if is_last s j then stops s else []) else []) due
 
@@ -245,7 +248,8 @@ closing_one s j due last =
 int_self : (z : ℤ) → int_eq z z ≡ true
 int_self z = grind (arith, ints)
 
-last_push : (xs : List Publication) (p : Publication) → last_of (xs ++ p ∷ []) ≡ Some p
+-- the last of the sets after one more
+pub last_push : (xs : List Publication) (p : Publication) → last_of (xs ++ p ∷ []) ≡ Some p
 last_push xs p = fold_push (λ (_ : Option Publication) (q : Publication). Some q) None xs p
 
 no_difference : (s : Setup) (members : List ℕ) (p : Publication) → p.members ≡ members → p.k ≡ s.k → p.epsilon ≡ s.epsilon → differs s members (Some p) ≡ false
@@ -275,10 +279,12 @@ not_due_after s now true false m is l running =
     ap (λ o. differs (in_force s after) (members_at after) o) list ∙ no_difference (in_force s after) (members_at after) p (sym e.members) (ap (λ (q : Setup). q.k) (sym force)) (ap (λ (q : Setup). q.epsilon) (sym force)) in
     never_due (is_calm s after) (differs (in_force s after) (members_at after) (last_of (publications after))) (is_last s after) same (last_same s now after e ∙ l)
 
-not_calm_due : (s : Setup) (j : List Noted) → is_calm s j ≡ false → is_due s j ≡ false
+-- where nothing is calm nothing is due
+pub not_calm_due : (s : Setup) (j : List Noted) → is_calm s j ≡ false → is_due s j ≡ false
 not_calm_due s j no' = ap (λ b. b && (differs (in_force s j) (members_at j) (last_of (publications j)) || is_last s j)) no'
 
-open_not_calm : (s : Setup) (j : List Noted) → is_open s j ≡ true → is_calm s j ≡ false
+-- while a round is open nothing is calm
+pub open_not_calm : (s : Setup) (j : List Noted) → is_open s j ≡ true → is_calm s j ≡ false
 unfolding is_calm
 open_not_calm s j opened' = ap (λ b. not b && list_all (λ mon. is_some (settled_of mon j)) (monitors s)) opened'
 

@@ -9,11 +9,11 @@ use Rattle.tk_base.specs.Objects.{is_in}
 use Rattle.tk_base.specs.Ascending.{IsAscending}
 use Rattle.tk_base.specs.Pairs.{value_at}
 use Rattle.tk_base.specs.Settings.{Setup}
+use Rattle.tk_base.proofs.MemberLemmas.{contained_is_in, is_in_contained}
 use Rattle.tk_border.proofs.RisingLemmas.{rises, is_in-positive}
 use Rattle.tk_rows.specs.Factors.{Grid, IsFactor}
 use Rattle.tk_alloc.specs.Parts.{Part, new_factor}
 use Rattle.tk_alloc.proofs.LeewayLemmas.{value_put}
-use Rattle.tk_alloc.proofs.MemberLemmas.{contained_is_in, is_in_contained}
 use Rattle.tk_alloc.proofs.ReplacementLemmas.{AreBounded}
 use Rattle.tk_journal.specs.Laws.{IsMonitor}
 use Rattle.tk_journal.specs.Readings.{assigns_to, members_at, factor, own, in_force}

@@ -8,12 +8,13 @@ use Rattle.std.proofs.lemmas.List.Elements.{All-head, All-tail, All-cons, All-ni
 use Rattle.tk_base.specs.Objects.{objects}
 use Rattle.tk_base.specs.Settings.{Setup, IsWithinLimits}
 use Rattle.tk_base.specs.Sum.{int_sum}
+use Rattle.tk_base.proofs.SumLemmas.{int_sum-cons}
+use Rattle.tk_base.proofs.MemberLemmas.{length-objects}
 use Rattle.tk_border.proofs.RisingLemmas.{ascends, rises-objects}
 use Rattle.tk_frames.specs.Assigns.{Assign, row}
 use Rattle.tk_rows.specs.Factors.{IsFactor}
-use Rattle.tk_rows.proofs.SumLemmas.{int_sum-cons}
 use Rattle.tk_alloc.specs.Resolving.{MeetsOwn}
-use Rattle.tk_alloc.proofs.WideLemmas.{of_catalogue, catalogue_length}
+use Rattle.tk_alloc.proofs.WideLemmas.{of_catalogue}
 use Rattle.tk_frames.specs.declared.frame.Frame.TheVariants as f
 use Rattle.tk_journal.specs.Laws.{AreChanges, IsSetUp, AreSentShort}
 use Rattle.tk_journal.specs.Legal.{start, opened}
@@ -88,7 +89,7 @@ empty_changes first (suc k) p (suc i, below, is) = empty_changes (first + 1) k p
 start_short : (s : Setup) → IsWithinLimits s → AreSentShort (opened (start s))
 start_short s limits =
     batch_short (λ (p : Given). p.0) (λ p. f.Assign 1 (objects s.k) p.1) (enumerate_from 1 (replicate s.monitors []))
-    (λ p in'. ((let l = catalogue_length s.k in let m = limits.k in omega (arith, l, m)), (let e = ap length (empty_changes 1 s.monitors p in') in omega (arith, e))))
+    (λ p in'. ((let l = length-objects s.k in let m = limits.k in omega (arith, l, m)), (let e = ap length (empty_changes 1 s.monitors p in') in omega (arith, e))))
 
 nothing_changes : (n : ℕ) → AreChanges n []
 nothing_changes n c (k, below, is) = absurd (omega (arith, below))
@@ -97,7 +98,7 @@ pub start_set_up : (s : Setup) → IsWithinLimits s → IsSetUp (start s)
 start_set_up s limits = record {
   limits = limits;
   factors = length-replicate s.monitors [];
-  count = catalogue_length s.k;
+  count = length-objects s.k;
   ascends = ascends (objects s.k) (rises-objects s.k);
   within = start_within s limits;
   changes = start_short s limits;

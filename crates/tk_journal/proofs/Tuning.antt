@@ -3,7 +3,7 @@ use Rattle.std.proofs.Common.{◌≡◌, ℕ, Bool, true, false, not, ◌≤◌,
 use Rattle.std.specs.Prelude.{nat_lt, is_some, fold, filter, if◌then◌else◌}
 use Rattle.std.specs.List.{list_all}
 use Rattle.std.proofs.lemmas.Bool.{lt-ltb, le-ltb, eq-eqb, cases_eq, true≢false}
-use Rattle.std.proofs.Math.Bool.{or-true}
+use Rattle.std.proofs.Math.Bool.{or-true, and-false}
 use Rattle.std.proofs.lemmas.List.{append-nil, append_assoc}
 use Rattle.std.proofs.lemmas.List.Elements.{filter-append}
 use Rattle.tk_base.specs.Settings.{Setup, IsWithinLimits}
@@ -134,6 +134,7 @@ force_limits s j limits each =
 
 -- ---- over the turns
 
+-- a round is wide where the journals ask the same
 pub wide_by : (s : Setup) (a b : List Noted) → last_round b ≡ last_round a → ((r mon : ℕ) → asked_of r mon b ≡ asked_of r mon a) → is_wide s b ≡ is_wide s a
 unfolding is_wide
 wide_by s a b round asked =
@@ -166,10 +167,6 @@ tuned_later s a b past tuned each =
 found : (r a b : Option ℕ) → (is_some a ≡ true → b ≡ a) → is_some (if is_some r then r else a) ≡ true → (if is_some r then r else b) ≡ (if is_some r then r else a)
 found None a b rest some = rest some
 found (Some x) a b rest some = refl
-
-pub and_none : (b : Bool) → (b && false) ≡ false
-and_none true = refl
-and_none false = refl
 
 first_found : (a b : List Noted) → is_some (first_round a) ≡ true → first_round (a ++ b) ≡ first_round a
 first_found [] b some = cc
@@ -226,7 +223,7 @@ force_tuned s j b k epsilon round list last new opened each =
     ap (λ c. if c then record { k = k; epsilon = epsilon; round = Some round } ∷ [] else [])
     (ap (λ r. nat_lt round r || (round == r && not (is_open s b))) last
     ∙ ap (λ c. c || (round == round && not (is_open s b))) (le-ltb round round (omega arith))
-    ∙ ap (λ o. round == round && not o) opened ∙ and_none (round == round)) in
+    ∙ ap (λ o. round == round && not o) opened ∙ and-false (round == round)) in
     ap (λ (ts : List Tuning). tuned_to s (last_of (filter over ts))) list
     ∙ ap (λ (ts : List Tuning). tuned_to s (last_of ts)) (filter-append over (tunings j) (record { k = k; epsilon = epsilon; round = Some round } ∷ [])
     ∙ ap (λ (ts : List Tuning). filter over (tunings j) ++ ts) tail ∙ append-nil (filter over (tunings j))

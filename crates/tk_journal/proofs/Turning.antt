@@ -1,13 +1,13 @@
 -- Every legal journal is orderly: by one induction over its turns.
-use Rattle.std.proofs.Common.{◌≡◌, ℕ, suc, zero, Bool, true, false, not, ◌+◌, ◌≤◌, ◌<◌, ◌==◌, ◌||◌, List, [], ◌∷◌, ◌++◌, Some, None, refl, sym, ap, ◌∙◌, subst, arith, inl, inr}
+use Rattle.std.proofs.Common.{◌≡◌, ℕ, suc, zero, Bool, true, false, not, ◌+◌, ◌==◌, List, [], ◌∷◌, ◌++◌, Some, None, refl, sym, ap, ◌∙◌, subst, arith, inl, inr}
 use Rattle.std.specs.Prelude.{ℤ, nat_lt, filter, if◌then◌else◌}
-use Rattle.std.specs.List.{range_with_len, list_any}
-use Rattle.std.proofs.lemmas.Bool.{eqb-true, eq-eqb, ltb-false, true≢false, cases_eq}
-use Rattle.std.proofs.Math.Bool.{or-true}
+use Rattle.std.specs.List.{range_with_len}
+use Rattle.std.proofs.lemmas.Bool.{eqb-true, eq-eqb, ltb-false, true≢false}
 use Rattle.tk_base.specs.Settings.{Setup}
 use Rattle.tk_base.specs.Objects.{is_in}
 use Rattle.tk_base.specs.Pairs.{objects_of}
 use Rattle.tk_base.specs.declared.ids.Mon.{Mon}
+use Rattle.tk_base.proofs.ListLemmas.{any_in_range}
 use Rattle.tk_frames.specs.declared.frame.Frame.{Frame}
 use Rattle.tk_frames.specs.declared.frame.Frame.TheVariants as f
 use Rattle.tk_alloc.specs.declared.reported.Reported.{Reported}
@@ -125,19 +125,11 @@ report_turn s before from seq border failed values k false false false within fa
 
 -- ---- the turn of Values
 
-pub any_range : (p : ℕ → Bool) (a k mon : ℕ) → a ≤ mon → mon < a + k → p mon ≡ true → list_any p (range_with_len a k) ≡ true
-any_range p a zero mon low high is = absurd (omega (arith, low, high))
-any_range p a (suc k) mon low high is =
-    elim (cases_eq a mon) [
-      | inl e ↦ ap (λ b. b || list_any p (range_with_len (a + 1) k)) (ap p e ∙ is)
-      | inr ne ↦ ap (λ b. p a || b) (any_range p (a + 1) k mon (omega (arith, low, ne)) (omega (arith, high)) is) ∙ or-true (p a)
-    ]
-
 pub values_open : (s : Setup) (j : List Noted) (from : Mon) (round seq : ℕ) (border : ℤ) (values : List (ℕ × ℤ)) → IsMonitor s from.0 → refusal_of s j from.0 (f.Values round seq border values) ≡ None → is_open s j ≡ true
 unfolding is_open
 values_open s j from round seq border values range none =
     let awaited = accepted_values (shown_by from.0 j) (known_by s from.0 j) round seq border values (accepted_kind s j from.0 (f.Values round seq border values) none).1 in
-    any_range (λ mon. waits_for (last_round j) mon j) 1 s.monitors from.0 range.from_one (let w = range.within in omega (arith, w)) (awaited_waits j from.0 round awaited.awaited).waits
+    any_in_range (λ mon. waits_for (last_round j) mon j) 1 s.monitors from.0 range.from_one (let w = range.within in omega (arith, w)) (awaited_waits j from.0 round awaited.awaited).waits
 
 pub values_ending : (s : Setup) (before : List Noted) (from : Mon) (round seq : ℕ) (border : ℤ) (values : List (ℕ × ℤ))
     → IsMonitor s from.0 → refusal_of s before from.0 (f.Values round seq border values) ≡ None → IsOrderly s before → is_open s (before ++ n.Got from (f.Values round seq border values) ∷ []) ≡ false

@@ -1,7 +1,7 @@
 -- Turns stand whole: a front of a legal journal that ends before an input is legal, the input is accepted over it, and its turn follows.
 use Rattle.tk_frames.specs.declared.frame.Frame.TheVariants as f
 use Rattle.tk_journal.specs.declared.noted.Noted.TheVariants as n
-use Rattle.std.proofs.Common.{◌≡◌, ℕ, ◌+◌, Bool, true, false, List, [], ◌∷◌, ◌++◌, length, refl, sym, ap, ◌∙◌, subst, arith, append_assoc, append-nil}
+use Rattle.std.proofs.Common.{◌≡◌, ℕ, ◌+◌, Bool, true, false, List, [], ◌∷◌, ◌++◌, length, refl, sym, ap, ◌∙◌, subst, arith, append_assoc, append-nil, ◌-◌}
 use Rattle.std.specs.Prelude.{ℤ, if◌then◌else◌}
 use Rattle.std.proofs.lemmas.Bool.{false≢true}
 use Rattle.tk_base.specs.Objects.{objects}
@@ -15,7 +15,7 @@ use Rattle.tk_journal.specs.declared.publication.Publication.{Publication}
 use Rattle.tk_journal.proofs.LegalLemmas.{legal_carries}
 use Rattle.tk_journal.proofs.Published.{AreSent, batch_sent, collects_are_sent, demanded_sent}
 use Rattle.tk_journal.proofs.SentLemmas.{flag}
-use Rattle.tk_journal.specs.Whole.{StandsWhole}
+use Rattle.tk_journal.specs.Whole.{StandsWhole, BeginsWithInput}
 
 -- ---- inputs
 
@@ -157,7 +157,8 @@ heads_agree x y xs ys e = cc
 tails_agree : (x y : Noted) (xs ys : List Noted) → x ∷ xs ≡ y ∷ ys → xs ≡ ys
 tails_agree x y xs ys e = cc
 
-one_if : (b : Bool) → b ≡ true → flag b ≡ 1
+-- a flag that is set counts 1
+pub one_if : (b : Bool) → b ≡ true → flag b ≡ 1
 one_if true is = refl
 one_if false is = absurd (false≢true is)
 
@@ -174,7 +175,8 @@ same_front (x ∷ xs) (y ∷ ys) a b e kind count is =
     let same : flag (is_input x) ≡ flag (is_input y) = ap (λ q. flag (is_input q)) head in
     ap (λ q. q ∷ xs) head ∙ ap (λ qs. y ∷ qs) (same_front xs ys a b e kind (omega (arith, c, d, same, count)) (tails_agree x y (xs ++ e ∷ a) (ys ++ e ∷ b) is))
 
-behind_front : (xs a b : List Noted) → xs ++ a ≡ xs ++ b → a ≡ b
+-- what stands behind the same front is the same
+pub behind_front : (xs a b : List Noted) → xs ++ a ≡ xs ++ b → a ≡ b
 behind_front [] a b is = is
 behind_front (x ∷ xs) a b is = behind_front xs a b (tails_agree x x (xs ++ a) (xs ++ b) is)
 
@@ -200,3 +202,11 @@ stands_whole o before e after legal kind =
       rest = beyond.rest;
       whole = subst (λ xs. e ∷ after ≡ turn_of s xs e ++ beyond.rest) (sym same) behind;
     }
+
+-- what inputs lead to begins with an input, behind what stood before
+pub begins_beyond : (s : Setup) (before inputs : List Noted) → AreAccepted s before inputs → (rest : List Noted) × (played_from s before inputs ≡ before ++ rest) × BeginsWithInput rest
+begins_beyond s before [] each = ([], sym (append-nil before), tt)
+begins_beyond s before (input ∷ inputs) each =
+    let b = begins_beyond s (before ++ turn_of s before input) inputs each.1 in
+    let t = turn_is s before input each.0 in
+    (input ∷ (t.rest ++ b.0), b.1 ∙ append_assoc before (turn_of s before input) b.0 ∙ ap (λ xs. before ++ (xs ++ b.0)) t.is, t.kind)

@@ -35,10 +35,6 @@ put_failed a b bytes x y is failed = front_longer a b x y (subst (λ (l : List �
 pub put_done : (a b : Option (List ℕ)) (bytes x : List ℕ) → bytes ≡ x → Grows a b bytes → Grows a b x
 put_done a b bytes x is done = subst (λ (l : List ℕ). Grows a b l) is done
 
-pub on_err : {T E : Type 0} (result : Result T E) (P : Type 0) → P → OnErr result P
-on_err (Ok done) P holds = tt
-on_err (Err fault) P holds = holds
-
 pub put_front : (a b : Option (List ℕ)) (bytes x : List ℕ) → bytes ≡ x → GrowsByFront a b bytes → GrowsByFront a b x
 put_front a b bytes x is failed = subst (λ (l : List ℕ). GrowsByFront a b l) is failed
 

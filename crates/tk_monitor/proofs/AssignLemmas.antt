@@ -1,14 +1,10 @@
 -- An Assign at the board, and its undoing.
 use Rattle.std.proofs.Common.{◌≡◌, ◌≤◌, ℕ, List, length, ap, ap₂, ◌∙◌, arith}
-use Rattle.std.specs.Prelude.{ℤ, Option, All, OnErr, Result, Ok, Err}
+use Rattle.std.specs.Prelude.{ℤ, Option, All}
 use Rattle.tk_monitor.specs.Board.{IsBoard, AreLimited, assigned, board_of, values_under}
 use Rattle.tk_monitor.specs.Factors.{factor_in, factors_over}
 use Rattle.tk_monitor.proofs.BoardLemmas.{length-assigned, assigned_undone}
 use Rattle.tk_monitor.proofs.ValuesLemmas.{value_under, values_same}
-
-pub on_err : {T E : Type 0} (r : Result T E) (P : Type 0) → P → OnErr r P
-on_err (Ok x) P holds = tt
-on_err (Err e) P holds = holds
 
 -- the levels that the changes set, where what is kept of the factors gives the same ones
 pub set_levels : (levels new : List ℤ) (kept now : List (Option ℤ)) (changes : List (ℕ × ℤ)) → ((o : ℕ) → factor_in now o ≡ factor_in kept o) → new ≡ assigned (values_under levels now) levels changes → new ≡ assigned (values_under levels kept) levels changes

@@ -17,6 +17,7 @@ use Rattle.tk_border.proofs.LevelLemmas.{least_none, small_level}
 use Rattle.std.proofs.lemmas.List.Elements.{recursion_from_All, All-map}
 use Rattle.std.specs.List.{AllByRecursion as ByRecursion}
 use Rattle.tk_trail.proofs.MappedLemmas.{mapped_one, mapped_same}
+use Rattle.tk_trail.proofs.BrokenLemmas.{none_kept}
 use Rattle.tk_monitor.specs.Board.{AreLimited, assigned, assigned_level, values_in}
 use Rattle.tk_monitor.specs.Factors.{factor_in, factors_over}
 use Rattle.tk_monitor.proofs.FactorsLemmas.{got_within, got_all, take_got}
@@ -247,13 +248,8 @@ small_greatest levels set r small is =
     (All-map (λ x. unsigned_abs x < 2 ^ 114) (level_at levels) (outside (length levels) set) (λ k d within. small_level levels (get_or (outside (length levels) set) k d) small)))
     is
 
--- where something is broken there are members
-none_above : (h : ℕ → ℤ) (os : List ℕ) → filter (λ o. is_above None (h o)) os ≡ []
-none_above h [] = refl
-none_above h (o ∷ os) = none_above h os
-
 pub some_members : (levels : List ℤ) (members : List ℕ) → nat_lt 0 (length (broken levels members)) ≡ true → 0 < length members
 some_members levels (o ∷ members) is = omega arith
 some_members levels [] is =
-    let none : broken levels [] ≡ [] = ap (λ least. filter (λ o. is_above least (level_at levels o)) (outside (length levels) [])) least_none ∙ none_above (level_at levels) (outside (length levels) []) in
+    let none : broken levels [] ≡ [] = ap (λ least. filter (λ o. is_above least (level_at levels o)) (outside (length levels) [])) least_none ∙ none_kept (level_at levels) (outside (length levels) []) in
     absurd (let e : nat_lt 0 (length (broken levels [])) ≡ false = ap (λ (os : List ℕ). nat_lt 0 (length os)) none in cc)

@@ -20,6 +20,7 @@ use Rattle.tk_trail.proofs.LegalLemmas.{legal_raised, legal_sent, legal_places}
 use Rattle.tk_trail.proofs.LevelsLemmas.{Same, same-sent, values-same, levels-same, members-same, values-raised, levels-raised, value-raised, value-small, level_at-values_of, share_own, length-levels_of}
 use Rattle.tk_trail.proofs.PlacesLemmas.{places_at-raised, length-places_at}
 use Rattle.tk_trail.proofs.ReadingsLemmas.{assigns_of-raised, seq_of-raised, seq_of-sent, reported-raised, reported-sent, told-raised, told-sent, stopped-raised, stopped-sent}
+use Rattle.tk_trail.proofs.DueLemmas.{report_there, end_there}
 use Rattle.tk_monitor.specs.Board.{BoardView, shifted}
 use Rattle.tk_monitor.specs.Trail.{TrailView}
 use Rattle.tk_monitor.specs.Kept.{IsKept, standing_of, phase_of, left_in, next_in}
@@ -138,12 +139,13 @@ kept_ended setup was board next phase g kept none =
     let past : slice_get (get_or setup.parts (g - 1) []) (get_or (places_at setup was.entries) (g - 1) 0) ≡ None = ap (λ (places : List ℕ). slice_get (get_or setup.parts (g - 1) []) (get_or places (g - 1) 0)) (sym kept.places) ∙ none in
     omega (arith, got_past (get_or setup.parts (g - 1) []) (get_or (places_at setup was.entries) (g - 1) 0) past, are.within (g - 1))
 
--- what a check sends
-report_when : (setup : MonitorSetup) (trail : List Entry) → report_is_due setup trail ≡ true → due_at setup trail ≡ Some (report_at setup trail)
+-- a Report that is due is what is due
+pub report_when : (setup : MonitorSetup) (trail : List Entry) → report_is_due setup trail ≡ true → due_at setup trail ≡ Some (report_at setup trail)
 unfolding due_at
 report_when setup trail is = ap (λ b. if b then Some (report_at setup trail) else (if end_is_due setup trail then Some (settled_at setup trail) else None)) is
 
-end_when : (setup : MonitorSetup) (trail : List Entry) → report_is_due setup trail ≡ false → end_is_due setup trail ≡ true → due_at setup trail ≡ Some (settled_at setup trail)
+-- an End that is due is due where no Report is
+pub end_when : (setup : MonitorSetup) (trail : List Entry) → report_is_due setup trail ≡ false → end_is_due setup trail ≡ true → due_at setup trail ≡ Some (settled_at setup trail)
 unfolding due_at
 end_when setup trail not_report is =
     ap (λ b. if b then Some (report_at setup trail) else (if end_is_due setup trail then Some (settled_at setup trail) else None)) not_report
@@ -155,10 +157,6 @@ none_when setup trail not_report not_end =
     ap (λ b. if b then Some (report_at setup trail) else (if end_is_due setup trail then Some (settled_at setup trail) else None)) not_report
     ∙ ap (λ b. if b then Some (settled_at setup trail) else None) not_end
 
-report_tells : (setup : MonitorSetup) (trail : List Entry) → is_report (Sent (report_at setup trail)) ≡ true
-unfolding report_at
-report_tells setup trail = refl
-
 report_no_end : (setup : MonitorSetup) (trail : List Entry) → is_end (Sent (report_at setup trail)) ≡ false
 unfolding report_at
 report_no_end setup trail = refl
@@ -166,10 +164,6 @@ report_no_end setup trail = refl
 settled_no_report : (setup : MonitorSetup) (trail : List Entry) → is_report (Sent (settled_at setup trail)) ≡ false
 unfolding settled_at
 settled_no_report setup trail = refl
-
-settled_tells : (setup : MonitorSetup) (trail : List Entry) → is_end (Sent (settled_at setup trail)) ≡ at_ends setup trail
-unfolding settled_at
-settled_tells setup trail = refl
 
 -- a Report sent where it is due
 pub kept_reported : (setup : MonitorSetup) (was after : TrailView) (board : BoardView) (next : List ℕ) (phase : Phase) → IsKept setup was board next phase → report_is_due setup was.entries ≡ true → after.entries ≡ was.entries ++ Sent (report_at setup was.entries) ∷ [] → after.raises ≡ was.raises → IsKept setup after board next (record phase { reported = true })
@@ -184,7 +178,7 @@ kept_reported setup was after board next phase kept due entries raises =
     (ap (λ (p : Phase). record p { reported = true }) kept.phase_is
     ∙ phase_made (seq_of trail) true (is_end_told trail) (is_stopped trail) longer
     (sym (seq_of-sent trail sent))
-    (sym (reported-sent trail sent ∙ ap (λ b. is_reported trail || b) (report_tells setup trail) ∙ or-true (is_reported trail)))
+    (sym (reported-sent trail sent ∙ ap (λ b. is_reported trail || b) (report_there setup trail) ∙ or-true (is_reported trail)))
     (sym (told-sent trail sent ∙ ap (λ b. is_end_told trail || b) (report_no_end setup trail) ∙ or-false (is_end_told trail)))
     (sym (stopped-sent trail sent))
     ∙ ap phase_of (sym entries))
@@ -203,7 +197,7 @@ kept_told setup was after board next phase kept not_report due ends entries rais
     ∙ phase_made (seq_of trail) (is_reported trail) true (is_stopped trail) longer
     (sym (seq_of-sent trail sent))
     (sym (reported-sent trail sent ∙ ap (λ b. is_reported trail || b) (settled_no_report setup trail) ∙ or-false (is_reported trail)))
-    (sym (told-sent trail sent ∙ ap (λ b. is_end_told trail || b) (settled_tells setup trail ∙ ends) ∙ or-true (is_end_told trail)))
+    (sym (told-sent trail sent ∙ ap (λ b. is_end_told trail || b) (end_there setup trail ∙ ends) ∙ or-true (is_end_told trail)))
     (sym (stopped-sent trail sent))
     ∙ ap phase_of (sym entries))
 

@@ -6,9 +6,11 @@ use Rattle.std.proofs.lemmas.List.Elements.{All-filter, All-tail, Contains-get_o
 use Rattle.std.proofs.lemmas.List.FromFn.{get_or-range_with_len, length-range_with_len}
 use Rattle.tk_base.specs.Objects.{objects, is_in}
 use Rattle.tk_base.specs.Pairs.{value_at}
+use Rattle.tk_base.proofs.MemberLemmas.{contained_is_in, objects_within}
 use Rattle.tk_frames.specs.declared.frame.Frame.TheVariants as f
 use Rattle.tk_border.specs.Levels.{level_at, broken, border, outside, resolution, holds, is_above, least_member}
 use Rattle.tk_frames.specs.Assigns.{row}
+use Rattle.tk_border.proofs.UnionLemmas.{resolution_within}
 use Rattle.tk_trail.specs.Setup.{MonitorSetup}
 use Rattle.tk_trail.specs.Readings.{assigns_of, seq_of, members_at, value_of_object, level_of, values_of, levels_of, broken_at}
 use Rattle.tk_trail.specs.Frames.{report_at, values_at, values_over, border_over}
@@ -19,12 +21,6 @@ use Rattle.tk_trail.proofs.LevelsLemmas.{length-levels_of, level_at-levels_of, l
 use Rattle.tk_monitor.proofs.RefusalLemmas.{all_in}
 use Rattle.tk_monitor.specs.Board.{BoardView, values_in, assigned, assigned_level}
 use Rattle.tk_monitor.specs.Kept.{standing_of, report_on, values_frame}
-use Rattle.tk_trail.proofs.MemberLemmas.{contained_is_in}
-
--- the objects of a catalogue are within it
-pub within_catalogue : (n : ℕ) → All (λ o. o ≤ n) (objects n)
-unfolding objects
-within_catalogue n k d below = omega (arith, get_or-range_with_len 1 n k d (omega (arith, length-range_with_len 1 n)), length-range_with_len 1 n)
 
 pub from_one : (n : ℕ) → All (λ o. 1 ≤ o) (objects n)
 unfolding objects
@@ -34,10 +30,7 @@ pub broken_within : (levels : List ℤ) (members : List ℕ) → All (λ o. o �
 broken_within levels members =
     let n = length levels in
     All-filter (λ o. is_above (least_member levels members) (level_at levels o)) (λ o. o ≤ n) (outside n members)
-    (All-filter (λ o. not (is_in members o)) (λ o. o ≤ n) (objects n) (within_catalogue n))
-
-pub resolution_within : (n : ℕ) (members failed : List ℕ) → All (λ o. o ≤ n) (resolution n members failed)
-resolution_within n members failed = All-filter (λ o. is_in members o || is_in failed o) (λ o. o ≤ n) (objects n) (within_catalogue n)
+    (All-filter (λ o. not (is_in members o)) (λ o. o ≤ n) (objects n) (objects_within n))
 
 resolution_from_one : (n : ℕ) (members failed : List ℕ) → All (λ o. 1 ≤ o) (resolution n members failed)
 resolution_from_one n members failed = All-filter (λ o. is_in members o || is_in failed o) (λ o. 1 ≤ o) (objects n) (from_one n)

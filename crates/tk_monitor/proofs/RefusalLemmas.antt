@@ -1,24 +1,17 @@
 -- The tests of a frame: what a loop that stops early, or the last of an ascending list, tells of the whole list.
-use Rattle.std.proofs.Common.{◌≡◌, ℕ, suc, zero, ◌<◌, ◌+◌, ◌-◌, Bool, true, false, ◌&&◌, ◌||◌, List, [], ◌∷◌, length, get_or, Some, None, Contains, refl, sym, ap, ◌∙◌, arith, inl, inr}
-use Rattle.std.specs.Prelude.{find, slice_get, nat_lt, nat_le, ◌==◌, IsTrue}
+use Rattle.std.proofs.Common.{◌≡◌, ℕ, suc, ◌<◌, ◌-◌, Bool, true, false, ◌&&◌, ◌||◌, List, ◌∷◌, length, get_or, Contains, ap, ◌∙◌, arith}
+use Rattle.std.specs.Prelude.{nat_lt, nat_le, ◌==◌, IsTrue}
 use Rattle.std.specs.List.{list_all}
-use Rattle.std.proofs.lemmas.Bool.{leb-true, le-leb, lt-ltb, cases_lt, and_from}
+use Rattle.std.proofs.lemmas.Bool.{leb-true, le-leb, lt-ltb, and_from}
 use Rattle.std.proofs.lemmas.Map.Views.{exact_unsigned_eq}
 use Rattle.std.proofs.lemmas.List.Sums.{AllPass-from_list_all, list_all-from_AllPass}
 use Rattle.std.proofs.lemmas.List.{get_or_default}
-use Rattle.std.proofs.lemmas.Option.{get_or_from_slice_get}
 use Rattle.tk_base.specs.Ascending.{IsAscending, ascends}
 use Rattle.tk_base.specs.Objects.{is_in}
 use Rattle.tk_base.proofs.AscendingLemmas.{ascending_along}
+use Rattle.tk_base.proofs.BoolLemmas.{bool_same}
+use Rattle.tk_border.proofs.AscendsLemmas.{ascending_passes}
 use Rattle.tk_trail.specs.Refusal.{are_some_of}
-use Rattle.tk_trail.proofs.AscendsLemmas.{ascending_passes}
-use Rattle.tk_trail.proofs.MemberLemmas.{is_in_contained}
-
--- two tests that pass together are one
-pub bool_same : (a b : Bool) → (a ≡ true → b ≡ true) → (b ≡ true → a ≡ true) → a ≡ b
-bool_same true b there back = sym (there refl)
-bool_same false true there back = back refl
-bool_same false false there back = refl
 
 and_right : (a b : Bool) → (a && b) ≡ true → b ≡ true
 and_right true b both = both
@@ -35,23 +28,6 @@ last_tells n xs up some =
     le-leb (get_or xs k d) n (omega (arith, same, leb-true (get_or xs (length xs - 1) 0) n last)))))
     (λ all. AllPass-from_list_all (λ o. nat_le o n) xs (and_right (nat_lt 0 (length xs) && ascends xs) (list_all (λ o. nat_le o n) xs) all) (length xs - 1) 0 (omega arith))
 
--- the first element that passes
-pub find_first : {X : Type 0} (p : X → Bool) (xs : List X) (i : ℕ) (c : X) → ((k : ℕ) (d : X) → k < i → p (get_or xs k d) ≡ false) → slice_get xs i ≡ Some c → p c ≡ true → find p xs ≡ Some c
-find_first p [] i c before got passes = cc
-find_first p (x ∷ xs) zero c before got passes =
-    let is : x ≡ c = cc in
-    let here : p x ≡ true = ap p is ∙ passes in
-    rw here (ap Some is)
-find_first p (x ∷ xs) (suc i) c before got passes =
-    let first : p x ≡ false = before 0 x (omega arith) in
-    rw first (find_first p xs i c (λ k d below. before (suc k) d (omega arith)) got passes)
-
-pub find_none : {X : Type 0} (p : X → Bool) (xs : List X) → ((k : ℕ) (d : X) → k < length xs → p (get_or xs k d) ≡ false) → find p xs ≡ None
-find_none p [] none = refl
-find_none p (x ∷ xs) none =
-    let first : p x ≡ false = none 0 x (omega arith) in
-    rw first (find_none p xs (λ k d below. none (suc k) d (omega arith)))
-
 found : (x : ℕ) (xs : List ℕ) (o : ℕ) (first : Bool) → (x == o) ≡ first → (first || is_in xs o) ≡ true → (is_in xs o ≡ true → Contains xs o) → Contains (x ∷ xs) o
 found x xs o true here is later = (0, omega arith, exact_unsigned_eq x o here)
 found x xs o false apart is later = let there : Contains xs o = later is in (suc there.0, omega (arith, there.1), there.2)
@@ -59,21 +35,6 @@ found x xs o false apart is later = let there : Contains xs o = later is in (suc
 -- all members are in a set, or some one is not
 pub all_in : (set members : List ℕ) → ((k : ℕ) → k < length members → is_in set (get_or members k 0) ≡ true) → list_all (is_in set) members ≡ true
 all_in set members each = list_all-from_AllPass (is_in set) members (λ k d within. ap (is_in set) (get_or_default members k d 0 within) ∙ each k within)
-
-missing : (b : Bool) → {c : Bool} → c ≡ b → (c ≡ true → ⊥) → c ≡ false
-missing true is none = absurd (none is)
-missing false is none = is
-
-pub not_in : (set : List ℕ) (o : ℕ) → (Contains set o → ⊥) → is_in set o ≡ false
-not_in set o none = missing (is_in set o) refl (λ is. none (is_in_contained set o is))
-
--- one more element that does not pass
-pub passed_more : {X : Type 0} (p : X → Bool) (xs : List X) (i : ℕ) (c : X) → ((k : ℕ) (d : X) → k < i → p (get_or xs k d) ≡ false) → slice_get xs i ≡ Some c → p c ≡ false → (k : ℕ) (d : X) → k < i + 1 → p (get_or xs k d) ≡ false
-passed_more p xs i c before got fails k d below =
-    elim (cases_lt k i) [
-      | inl there ↦ before k d there
-      | inr here ↦ let is : k ≡ i = omega arith in rw is (ap p (get_or_from_slice_get xs i c d got) ∙ fails)
-    ]
 
 -- what a test that failed rules out
 pub has_not : {P : Type 0} (b : Bool) → b ≡ false → (P → IsTrue b) → P → ⊥

@@ -1,12 +1,11 @@
 -- From where a monitor starts: values at places, and one more change of a part.
-use Rattle.std.proofs.Common.{◌≡◌, ℕ, suc, zero, ◌<◌, ◌≤◌, ◌+◌, ◌-◌, ◌^◌, List, [], ◌∷◌, length, map, take, get_or, set, Some, refl, sym, ap, ◌∙◌, arith, inl, inr}
+use Rattle.std.proofs.Common.{◌≡◌, ℕ, suc, zero, ◌<◌, ◌≤◌, ◌+◌, ◌-◌, ◌^◌, List, [], ◌∷◌, length, map, take, get_or, set, Some, refl, sym, ap, ◌∙◌, arith}
 use Rattle.std.specs.Prelude.{ℤ, pos, ◌+ℤ◌, unsigned_abs, replicate}
 use Rattle.std.specs.List.{range_with_len, zip}
 use Rattle.std.proofs.lemmas.Int.{ints}
-use Rattle.std.proofs.lemmas.List.{get_or-replicate, get_or_past, length-replicate}
 use Rattle.std.proofs.lemmas.List.FromFn.{length-map-range_with_len, get_or-map-range_with_len}
-use Rattle.std.proofs.lemmas.Bool.{cases_lt}
 use Rattle.tk_base.specs.Objects.{objects}
+use Rattle.tk_base.proofs.SumLemmas.{int_sum-cons}
 use Rattle.tk_input.specs.Logs.{value_of, AreParts, sum_for}
 use Rattle.tk_border.specs.Levels.{level_at}
 use Rattle.tk_trail.specs.Setup.{MonitorSetup}
@@ -16,7 +15,7 @@ use Rattle.tk_trail.specs.Legal.{IsLegal}
 use Rattle.tk_trail.proofs.LevelsLemmas.{share_none, share_own}
 use Rattle.tk_trail.proofs.MappedLemmas.{mapped_one, mapped_same}
 use Rattle.tk_trail.proofs.PlacesLemmas.{places_at-start}
-use Rattle.tk_input.proofs.SumLemmas.{int_sum-cons, value_of-size}
+use Rattle.tk_input.proofs.SumLemmas.{value_of-size}
 use Rattle.tk_trail.proofs.ValuesLemmas.{value_of-set}
 use Rattle.tk_monitor.specs.Board.{BoardView, shifted}
 use Rattle.tk_monitor.specs.Kept.{values_on, next_in, standing_of}
@@ -73,14 +72,6 @@ stands_small n parts next i c s are shape within got at =
       value_of-size parts (set next i (suc (get_or next i 0))) c.0,
       are.weights c.0,
     )
-
--- before the first change all is zero
-pub zero_place : (m q : ℕ) → ◌≡◌ {A = ℕ} (get_or (replicate m 0) q 0) 0
-zero_place m q =
-    elim (cases_lt q m) [
-      | inl within ↦ get_or-replicate m q 0 0 within
-      | inr past ↦ get_or_past (replicate m 0) q 0 (omega (arith, length-replicate {A = ℕ} m 0))
-    ]
 
 zero_value : (parts : List (List (ℕ × ℤ))) (m o : ℕ) → value_of parts (replicate m 0) o ≡ pos 0
 zero_value [] m o = refl

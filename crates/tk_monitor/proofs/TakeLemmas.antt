@@ -1,5 +1,5 @@
 -- What a frame that is taken leaves of the ties between a monitor and its trail.
-use Rattle.std.proofs.Common.{◌≡◌, ℕ, suc, zero, ◌<◌, ◌≤◌, ◌+◌, ◌^◌, Bool, true, false, not, ◌&&◌, ◌||◌, ◌==◌, cond, List, [], ◌∷◌, ◌++◌, length, map, get_or, Option, Some, None, refl, sym, ap, ap₂, ◌∙◌, subst, arith}
+use Rattle.std.proofs.Common.{◌≡◌, ℕ, suc, zero, ◌<◌, ◌≤◌, ◌+◌, ◌^◌, Bool, true, false, not, ◌&&◌, ◌||◌, ◌==◌, List, [], ◌∷◌, ◌++◌, length, map, get_or, Some, None, refl, sym, ap, ap₂, ◌∙◌, subst, arith}
 use Rattle.std.specs.Prelude.{ℤ, unsigned_abs, find, if◌then◌else◌, All, nat_lt, nat_le}
 use Rattle.std.specs.List.{list_all, range_with_len, zip}
 use Rattle.tk_input.specs.Logs.{value_of}
@@ -12,10 +12,12 @@ use Rattle.std.proofs.lemmas.List.{get_or_default}
 use Rattle.tk_base.specs.Ascending.{IsAscending, ascends}
 use Rattle.tk_base.specs.Objects.{is_in, objects}
 use Rattle.tk_base.proofs.AscendingLemmas.{ascending_positive}
+use Rattle.tk_base.proofs.OptionLemmas.{unmapped, if_none, first_or}
 use Rattle.tk_frames.specs.declared.frame.Frame.{Frame}
 use Rattle.tk_frames.specs.declared.frame.Frame.TheVariants as f
 use Rattle.tk_border.specs.Levels.{AreMembers, broken, holds}
 use Rattle.tk_frames.specs.Assigns.{members_of}
+use Rattle.tk_frames.proofs.AssignsLemmas.{members_of-push}
 use Rattle.tk_trail.specs.Setup.{MonitorSetup}
 use Rattle.tk_trail.specs.Readings.{assigns_of, seq_of, members_at, places_at, at_ends, value_of_object, values_of, levels_of, broken_at, is_broken, is_report, is_end, is_reported, is_end_told, is_stopped}
 use Rattle.tk_trail.specs.Frames.{report_at, settled_at, values_at, answer_at}
@@ -24,8 +26,8 @@ use Rattle.tk_trail.specs.Legal.{IsLegal, after_take}
 use Rattle.tk_trail.specs.declared.entry.Entry.{Entry}
 use Rattle.tk_trail.specs.declared.entry.Entry.TheVariants.{Took, Sent}
 use Rattle.tk_trail.specs.declared.refusal.MonitorRefusal.TheVariants.{WrongSequence, BadMembers, BadChange, BadCollect}
-use Rattle.tk_trail.proofs.LegalLemmas.{if_none, not_refused, legal_taken}
-use Rattle.tk_trail.proofs.LevelsLemmas.{Same, same-took, same-sent, values_at-same, members_of-push}
+use Rattle.tk_trail.proofs.LegalLemmas.{not_refused, legal_taken}
+use Rattle.tk_trail.proofs.LevelsLemmas.{Same, same-took, same-sent, values_at-same}
 use Rattle.tk_trail.proofs.PlacesLemmas.{places_at-took, places_at-sent}
 use Rattle.tk_trail.proofs.ReadingsLemmas.{assigns_of-other, assigns_of-assign, seq_of-sent, seq_of-other, seq_of-assign, reported-sent, reported-assign, reported-collect, reported-stop, told-sent, told-assign, told-collect, told-stop, stopped-sent, stopped-took, stopped-stop}
 use Rattle.tk_monitor.specs.Board.{BoardView, assigned, AreFactors}
@@ -42,18 +44,10 @@ passed false r s is = cc
 within_all : (n : ℕ) (xs : List ℕ) → list_all (λ o. nat_le o n) xs ≡ true → All (λ o. o ≤ n) xs
 within_all n xs all k d below = leb-true (get_or xs k d) n (AllPass-from_list_all (λ o. nat_le o n) xs all k d below)
 
-mapped_none : {X Y : Type 0} (h : X → Y) (r : Option X) → option_map h r ≡ None → r ≡ None
-mapped_none h None is = refl
-mapped_none h (Some x) is = cc
-
-not_found : (b : Bool) (x : ℕ × ℤ) (r : Option (ℕ × ℤ)) → cond b (Some x) r ≡ None → (b ≡ false) × (r ≡ None)
-not_found true x r none = absurd (cc)
-not_found false x r none = (refl, none)
-
 found_none : (p : ℕ × ℤ → Bool) (xs : List (ℕ × ℤ)) → find p xs ≡ None → All (λ x. p x ≡ false) xs
 found_none p [] none k d below = absurd (omega arith)
-found_none p (x ∷ xs) none zero d below = (not_found (p x) x (find p xs) none).0
-found_none p (x ∷ xs) none (suc k) d below = found_none p xs (not_found (p x) x (find p xs) none).1 k d (omega arith)
+found_none p (x ∷ xs) none zero d below = (first_or (p x) x (find p xs) none).0
+found_none p (x ∷ xs) none (suc k) d below = found_none p xs (first_or (p x) x (find p xs) none).1 k d (omega arith)
 
 -- what the tests of an Assign tell
 pub record AssignPasses (setup : MonitorSetup) (trail : List Entry) (seq : ℕ) (members : List ℕ) (changes : List (ℕ × ℤ)) : Type 0 where
@@ -70,7 +64,7 @@ assign_passes setup trail seq members changes none =
     let second = if_none (not (are_members n members)) BadMembers (option_map (λ (change : ℕ × ℤ). BadChange (record { 0 = change.0 })) (find (is_bad_change n) changes)) first.1 in
     let are = and_parts (are_some_of n members) (nat_le (length members) 1024) (not-false (are_members n members) second.0) in
     let some = and_parts (nat_lt 0 (length members) && ascends members) (list_all (λ o. nat_le o n) members) are.0 in
-    let good : All (λ c. is_bad_change n c ≡ false) changes = found_none (is_bad_change n) changes (mapped_none (λ (change : ℕ × ℤ). BadChange (record { 0 = change.0 })) (find (is_bad_change n) changes) second.1) in
+    let good : All (λ c. is_bad_change n c ≡ false) changes = found_none (is_bad_change n) changes (unmapped (λ (change : ℕ × ℤ). BadChange (record { 0 = change.0 })) (find (is_bad_change n) changes) second.1) in
     record {
       running = kind.0;
       next = exact_unsigned_eq seq (seq_of trail + 1) (not-false (seq == seq_of trail + 1) first.0);

@@ -1,13 +1,14 @@
 -- The objects that a query watches, and rows of places.
-use Rattle.std.proofs.Common.{◌≡◌, ℕ, ◌+◌, ◌-◌, ◌<◌, ◌≤◌, true, List, [], ◌∷◌, ◌++◌, length, map, get_or, set, Option, Some, None, option_map, Vec, ap, sym, ◌∙◌, arith, refl, ⊎_elim}
+use Rattle.std.proofs.Common.{◌≡◌, ℕ, ◌+◌, ◌-◌, ◌<◌, ◌≤◌, true, List, [], ◌∷◌, ◌++◌, length, map, get_or, set, Option, Some, None, option_map, Vec, ap, sym, ◌∙◌, arith, ⊎_elim}
 use Rattle.std.proofs.lemmas.List.{get_or-map, get_or_default, length-map, map-append, map-set}
 use Rattle.std.specs.Prelude.{position, bytes_eq, slice_get}
 use Rattle.std.proofs.lemmas.Option.{slice_get-get_or}
 use Rattle.std.proofs.lemmas.Bool.{cases_lt}
-use Rattle.std.proofs.lemmas.Slice.Eq.{bytes_eq-Decides}
 use Rattle.std.proofs.lemmas.List.Quantifiers.{position-Some}
 use Rattle.std.proofs.Math.ListN.{get_or-eq_default}
 use Rattle.tk_base.specs.declared.ids.Obj.{Obj}
+use Rattle.tk_base.proofs.OptionLemmas.{split_map}
+use Rattle.tk_base.proofs.ListLemmas.{bytes_same}
 use Rattle.tk_input.specs.Catalog.{AreDifferent, names_with, object_of}
 use Rattle.tk_input.specs.Logs.{IsObject}
 use Rattle.tk_multi.specs.Projection.{Numbers, anew, watch_of}
@@ -45,22 +46,15 @@ numbers_push objects o = map-append (λ (x : Option Obj). option_map (λ (obj : 
 
 -- ---- what a watch numbers anew
 
-by_place : (o : Option ℕ) (n : ℕ) → option_map (λ i. i + 1) o ≡ Some n → (i : ℕ) × (o ≡ Some i) × (n ≡ i + 1)
-by_place None n some = absurd (cc)
-by_place (Some i) n some = (i, refl, (cc))
-
 -- the object that a name finds has that name
 pub found_name : (names : List (List ℕ)) (name : List ℕ) (n : ℕ) → object_of names name ≡ Some n → IsObject (length names) n × (bytes_eq name (get_or names (n - 1) []) ≡ true)
 found_name names name n found =
-    let at = by_place (position (λ x. bytes_eq name x) names) n found in
+    let at = split_map (position (λ x. bytes_eq name x) names) n found in
     let is = position-Some (λ x. bytes_eq name x) names at.0 [] at.1 in
     let place : n - 1 ≡ at.0 = (let e = at.2 in omega (arith, e)) in (
       (let e = at.2 in let w = is.0 in (omega (arith, e), omega (arith, e, w))),
       ap (λ (i : ℕ). bytes_eq name (get_or names i [])) place ∙ is.1,
     )
-
-same_bytes : (xs ys : List ℕ) → bytes_eq xs ys ≡ true → xs ≡ ys
-same_bytes xs ys is = (bytes_eq-Decides xs ys).0 is
 
 none_some : {n : ℕ} → None ≡ Some n → ⊥
 none_some is = (cc)
@@ -82,7 +76,7 @@ numbers watched names differ = record {
       let x = anew_within watched names a n some_a in
       let y = anew_within watched names b n some_b in
       let same : get_or names (a - 1) [] ≡ get_or names (b - 1) [] =
-      same_bytes (get_or names (a - 1) []) (get_or watched (n - 1) []) (found_name watched (get_or names (a - 1) []) n x.1).1 ∙ sym (same_bytes (get_or names (b - 1) []) (get_or watched (n - 1) []) (found_name watched (get_or names (b - 1) []) n y.1).1) in
+      bytes_same (get_or names (a - 1) []) (get_or watched (n - 1) []) (found_name watched (get_or names (a - 1) []) n x.1).1 ∙ sym (bytes_same (get_or names (b - 1) []) (get_or watched (n - 1) []) (found_name watched (get_or names (b - 1) []) n y.1).1) in
       let at_a = differ a (from_a, (let w = x.0 in omega (arith, w, from_a))) in
       let at_b = differ b (from_b, (let w = y.0 in omega (arith, w, from_b))) in
       some_same a b (sym at_a ∙ ap (object_of names) same ∙ at_b);
@@ -95,5 +89,5 @@ one_name prefix names o n some =
     let x = anew_within watched names o n some in
     let y = found_name watched (get_or names (o - 1) []) n x.1 in
     slice_get-get_or watched (n - 1) [] (let e = y.0 in omega (arith, e))
-    ∙ ap (λ (name : List ℕ). Some name) (sym (same_bytes (get_or names (o - 1) []) (get_or watched (n - 1) []) y.1))
+    ∙ ap (λ (name : List ℕ). Some name) (sym (bytes_same (get_or names (o - 1) []) (get_or watched (n - 1) []) y.1))
     ∙ sym (slice_get-get_or names (o - 1) [] x.0)

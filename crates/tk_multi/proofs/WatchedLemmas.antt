@@ -7,9 +7,9 @@ use Rattle.std.proofs.lemmas.Int.{ints}
 use Rattle.std.proofs.lemmas.List.{take-append-drop}
 use Rattle.std.proofs.lemmas.List.Elements.{filter_map-append}
 use Rattle.std.proofs.Math.Seq.{take-append_seam}
+use Rattle.tk_base.proofs.SumLemmas.{int_sum-cons}
 use Rattle.tk_input.specs.Catalog.{AreDifferent, names_with}
 use Rattle.tk_input.specs.Logs.{AreLogs, ArePlaces, IsCut, IsValid, LogSet, sum_for, total, value_of}
-use Rattle.tk_input.proofs.SumLemmas.{int_sum-cons}
 use Rattle.tk_trail.proofs.ValuesLemmas.{share_of, sum_for-cons}
 use Rattle.tk_multi.specs.Projection.{Numbers, anew, logs_for, seen_logs, watch_of, watched_change, watched_in}
 use Rattle.tk_multi.specs.Watched.{HoldsOverTheLogs, watched_cut, watched_place, watched_places}

@@ -1,7 +1,5 @@
 -- What a port does in a turn, one part behind the other.
-use Rattle.std.proofs.Common.{◌≡◌, ◌≤◌, ◌+◌, ℕ, List, [], ◌∷◌, ◌++◌, length, take, refl, sym, ap, ◌∙◌, subst, arith, true, false, Option, Some, None, IfNone, Bool, not, ◌⊎◌}
-use Rattle.std.proofs.lemmas.List.{length-take}
-use Rattle.tk_base.specs.History.{IsFront}
+use Rattle.std.proofs.Common.{◌≡◌, ◌≤◌, ◌+◌, ℕ, List, [], ◌∷◌, ◌++◌, take, refl, sym, ap, ◌∙◌, subst, arith, true, false, Option, Some, None, IfNone, Bool, not, ◌⊎◌}
 use Rattle.tk_frames.specs.Answer.{Answers}
 use Rattle.tk_frames.specs.declared.answer.Next.TheVariants as n
 use Rattle.tk_frames.specs.declared.frame.Frame.{Frame}
@@ -21,12 +19,15 @@ use Rattle.tk_end.proofs.EndLemmas.{hears_end, said_grown, says_end}
 use Rattle.tk_end.proofs.PassingLemmas.{passes_heard, passes_nothing, passes_on, passes_said}
 use Rattle.tk_port.specs.Side.{heard_by, refuses, said_by, takes, taking}
 use Rattle.std.proofs.lemmas.Bool.{false≢true}
+use Rattle.tk_base.proofs.BoolLemmas.{not_true, not_false}
+use Rattle.tk_base.proofs.HistoryLemmas.{front_size}
 use Rattle.tk_port.specs.declared.turn.Turn.{Turn}
 use Rattle.tk_port.specs.declared.turn.Turn.TheVariants as t
 use Rattle.tk_port.specs.Turn.{CountsTurned, Ends, Exchanges, IsSteady, HasSaid, IsAtRest, goes_on, pieces_of, Reaches, Stays, Takes, Checks, checking}
 use Rattle.tk_port.specs.declared.side.Side.{Side}
-use Rattle.tk_port.proofs.SideLemmas.{answered_sent, answered_taken}
+use Rattle.tk_port.proofs.SideLemmas.{answered_sent}
 use Rattle.tk_input.proofs.CountLemmas.{not_some}
+use Rattle.tk_trail.proofs.ReadingsLemmas.{answer_taken}
 
 pub reaches_on : (a b c : MonitorView) → Reaches a b → Reaches b c → Reaches a c
 reaches_on a b c (Stays from to is) q = subst (λ m. Reaches m c) is q
@@ -41,9 +42,6 @@ pub reaches_setup : (a b : MonitorView) → Reaches a b → (b.settings ≡ a.se
 reaches_setup a b (Stays from to is) = (ap (λ m. m.settings) is, ap (λ m. m.setup) is)
 reaches_setup a b (Takes from to frame none p) = reaches_setup (taking a frame) b p
 reaches_setup a b (Checks from to p) = reaches_setup (checking a) b p
-
-front_size : {X : Type 0} (xs ys : List X) → IsFront xs ys → length xs ≤ length ys
-front_size xs ys front = omega (arith, ap length front.is, length-take (length xs) ys)
 
 -- frames are written and bytes are given
 pub exchanges_said : {W : Type 0} (x y : LinkView W) (side : Side) → Says (sent_by side.monitor.trail) x y → Exchanges 0 x y side side
@@ -103,7 +101,7 @@ exchanges_checked x a b is =
     let setup = a.monitor.setup in
     let trail = a.monitor.trail in
     let grown = answered_sent trail (due_at setup trail) in
-    let taken = answered_taken trail (due_at setup trail) in
+    let taken = answer_taken trail (due_at setup trail) in
     subst (λ s. Exchanges 0 x x a s) (sym is) (record {
       passes = passes_nothing x;
       shut = refl;
@@ -198,14 +196,6 @@ counts_then t.Failed x y z goes p q = absurd (cc)
 counts_then (t.Refused why) x y z goes p q = absurd (cc)
 counts_then (t.Bad fault) x y z goes p q = absurd (cc)
 counts_then t.NoMemory x y z goes p q = absurd (cc)
-
-not_true : (b is : Bool) → is ≡ not b → is ≡ true → b ≡ false
-not_true true is same holds = absurd (cc)
-not_true false is same holds = refl
-
-not_false : (b is : Bool) → is ≡ not b → is ≡ false → b ≡ true
-not_false true is same fails = refl
-not_false false is same fails = absurd (cc)
 
 pub over : (turn : Turn) (is : Bool) → is ≡ not (goes_on turn) → is ≡ true → goes_on turn ≡ false
 over turn is same holds = not_true (goes_on turn) is same holds

@@ -24,19 +24,15 @@ use Rattle.std.proofs.lemmas.List.Folds.{list_any-append}
 use Rattle.std.proofs.Math.Bool.{or-false}
 use Rattle.tk_base.specs.declared.ids.Feeder.{Feeder}
 use Rattle.tk_frames.specs.Assigns.{assign_in, members_of}
-use Rattle.tk_trail.proofs.ReadingsLemmas.{since-raised, taken_by-took, taken_by-sent, taken_by-raised, sent_by-took, sent_by-sent}
+use Rattle.tk_trail.proofs.ReadingsLemmas.{since-raised, taken_by-took, taken_by-raised, sent_by-took, sent_by-sent, answer_taken}
 use Rattle.tk_trail.proofs.SendsLemmas.{Sends, Answered, Gathered, Reported, Ended}
 
 pub front_behind : {X : Type 0} (xs ys : List X) → IsFront xs (xs ++ ys)
 front_behind xs ys = record { is = sym (take_at xs ys (length xs) refl) }
 
-pub answered_taken : (trail : List Entry) (answer : Option Frame) → taken_by (with_answer trail answer) ≡ taken_by trail
-answered_taken trail None = refl
-answered_taken trail (Some answer) = taken_by-sent trail answer
-
 -- a frame that is taken is the last that was
 pub taken_after : (setup : MonitorSetup) (trail : List Entry) (frame : Frame) → taken_by (after_take setup trail frame) ≡ taken_by trail ++ frame ∷ []
-taken_after setup trail frame = answered_taken (trail ++ Took frame ∷ []) (answer_to setup (trail ++ Took frame ∷ []) frame) ∙ taken_by-took trail frame
+taken_after setup trail frame = answer_taken (trail ++ Took frame ∷ []) (answer_to setup (trail ++ Took frame ∷ []) frame) ∙ taken_by-took trail frame
 
 pub answered_sent : (trail : List Entry) (answer : Option Frame) → IsFront (sent_by trail) (sent_by (with_answer trail answer))
 answered_sent trail None = subst (IsFront (sent_by trail)) (append-nil (sent_by trail)) (front_behind (sent_by trail) [])

@@ -8,6 +8,7 @@ use Rattle.std.proofs.lemmas.Int.{ints, clamps}
 use Rattle.std.proofs.lemmas.List.{append-nil, length-map}
 use Rattle.std.proofs.lemmas.List.Elements.{filter-append, filter_map-append}
 use Rattle.tk_base.specs.Objects.{is_in, objects}
+use Rattle.tk_base.proofs.OptionLemmas.{some_is}
 use Rattle.tk_border.specs.Levels.{greatest_of, IsPassed}
 use Rattle.tk_border.proofs.PassedLemmas.{between}
 use Rattle.tk_border.proofs.RisingLemmas.{range-append}
@@ -23,9 +24,6 @@ greater_comm None None = refl
 greater_comm None (Some y) = refl
 greater_comm (Some x) None = refl
 greater_comm (Some x) (Some y) = ap Some (omega (arith, ints, clamps))
-
-some_is : (x y : ℤ) → Some x ≡ Some y → x ≡ y
-some_is x y is = cc
 
 some_not : (x : ℤ) (a : Option ℤ) → a ≡ None → a ≡ Some x → ⊥
 some_not x a none some = cc

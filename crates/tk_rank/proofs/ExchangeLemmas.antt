@@ -4,6 +4,7 @@ use Rattle.std.specs.List.Sorted.{IsPartitionPoint, IsPartitionedBy}
 use Rattle.std.proofs.lemmas.Bool.{cases_eq, cases_lt, le-ltb, lt-ltb, ltb-true, ltb-false}
 use Rattle.std.proofs.lemmas.List.{get_or-take, get_or_default, length-map, length-take}
 use Rattle.std.proofs.lemmas.List.Folds.{list_any_more, list_any_none}
+use Rattle.std.proofs.Math.Bool.{or-true, or-false, and-false}
 use Rattle.tk_base.specs.Ascending.{IsAscending, numbers_of}
 use Rattle.tk_base.specs.declared.ids.Obj.{Obj}
 use Rattle.tk_base.specs.Objects.{is_in}
@@ -39,29 +40,17 @@ searched list o place short halves =
 
 -- ---- tests
 
-or_true : (a : Bool) → (a || true) ≡ true
-or_true true = refl
-or_true false = refl
-
-or_false : (a : Bool) → (a || false) ≡ a
-or_false true = refl
-or_false false = refl
-
-pub and_false : (a : Bool) → (a && false) ≡ false
-and_false true = refl
-and_false false = refl
-
 in_more : (list : List ℕ) (i o q : ℕ) → i < length list → get_or list i 0 ≡ o → is_in (take (i + 1) list) q ≡ (is_in (take i list) q || eqb o q)
 in_more list i o q within at =
     list_any_more (λ x. eqb x q) list i 0 within ∙ ap (λ x. is_in (take i list) q || eqb x q) at
 
 in_more_here : (list : List ℕ) (i o q : ℕ) → i < length list → get_or list i 0 ≡ o → q ≡ o → is_in (take (i + 1) list) q ≡ true
 in_more_here list i o q within at e =
-    in_more list i o q within at ∙ ap (λ t. is_in (take i list) q || t) (eq-eqb o q (sym e)) ∙ or_true (is_in (take i list) q)
+    in_more list i o q within at ∙ ap (λ t. is_in (take i list) q || t) (eq-eqb o q (sym e)) ∙ or-true (is_in (take i list) q)
 
 in_more_elsewhere : (list : List ℕ) (i o q : ℕ) → i < length list → get_or list i 0 ≡ o → q ≢ o → is_in (take (i + 1) list) q ≡ is_in (take i list) q
 in_more_elsewhere list i o q within at ne =
-    in_more list i o q within at ∙ ap (λ t. is_in (take i list) q || t) (ne_eqb o q (λ e. ne (sym e))) ∙ or_false (is_in (take i list) q)
+    in_more list i o q within at ∙ ap (λ t. is_in (take i list) q || t) (ne_eqb o q (λ e. ne (sym e))) ∙ or-false (is_in (take i list) q)
 
 -- ---- members become outsiders
 
@@ -73,7 +62,7 @@ left_turn : (list : List ℕ) (i o q : ℕ) → i < length list → get_or list 
 left_turn list i o q within at = elim (cases_eq q o) [
   | inl e ↦
       ap (λ t. cond t false (is_left list i q)) (eq-eqb q o e)
-      ∙ sym (ap (λ t. is_in list q && not t) (in_more_here list i o q within at e) ∙ and_false (is_in list q))
+      ∙ sym (ap (λ t. is_in list q && not t) (in_more_here list i o q within at e) ∙ and-false (is_in list q))
   | inr ne ↦
       ap (λ t. cond t false (is_left list i q)) (ne_eqb q o ne)
       ∙ sym (ap (λ t. is_in list q && not t) (in_more_elsewhere list i o q within at ne))

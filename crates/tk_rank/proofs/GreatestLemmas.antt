@@ -1,13 +1,12 @@
 -- The greatest of some numbers, in parts.
 use Rattle.std.proofs.Common.{◌≡◌, ℕ, ℤ, Bool, false, ◌||◌, cond, List, [], ◌∷◌, ◌++◌, filter, Option, Some, None, refl, sym, ap, ap₂, ◌∙◌, arith}
-use Rattle.std.specs.Prelude.{int_lt}
 use Rattle.std.specs.Int.{int_max}
 use Rattle.std.specs.List.{fold, cons_option, list_any}
-use Rattle.std.specs.Ordering.{int_cmp, is_lt}
 use Rattle.std.proofs.lemmas.Int.{ints, clamps}
 use Rattle.std.proofs.lemmas.Bool.{or_parts}
 use Rattle.std.proofs.lemmas.List.Sums.{fold-append}
 use Rattle.std.proofs.lemmas.List.Elements.{filter_map-append}
+use Rattle.tk_base.proofs.CompareLemmas.{lt-cmp, max_over}
 use Rattle.tk_border.specs.Levels.{raised, greatest_of}
 use Rattle.tk_rank.specs.Tree.{greater, is_over, leaf_at, standing}
 
@@ -54,17 +53,11 @@ pub standing-append : (leaves : List (Option ℤ)) (xs ys : List ℕ) → greate
 standing-append leaves xs ys =
     ap greatest_of (filter_map-append (leaf_at leaves) xs ys) ∙ greatest-append (standing leaves xs) (standing leaves ys)
 
-max_over : (level x y : ℤ) → int_lt level (int_max x y) ≡ (int_lt level x || int_lt level y)
-max_over level x y = grind (arith, ints)
-
-is_lt-int_cmp : (x y : ℤ) → is_lt (int_cmp x y) ≡ int_lt x y
-is_lt-int_cmp x y = grind (arith, ints)
-
 over_greater : (level : ℤ) (a b : Option ℤ) → is_over level (greater a b) ≡ (is_over level a || is_over level b)
 over_greater level None b = refl
 over_greater level (Some x) None = grind arith
 over_greater level (Some x) (Some y) =
-    is_lt-int_cmp level (int_max x y) ∙ max_over level x y ∙ ap₂ ◌||◌ (sym (is_lt-int_cmp level x)) (sym (is_lt-int_cmp level y))
+    lt-cmp level (int_max x y) ∙ max_over level x y ∙ ap₂ ◌||◌ (sym (lt-cmp level x)) (sym (lt-cmp level y))
 
 -- the greatest number is above a level where one of them is
 pub over_any : (level : ℤ) (leaves : List (Option ℤ)) (list : List ℕ) → is_over level (greatest_of (standing leaves list)) ≡ list_any (λ o. is_over level (leaf_at leaves o)) list

@@ -10,6 +10,7 @@ use Rattle.std.proofs.lemmas.Bool.{cases_lt}
 use Rattle.std.proofs.lemmas.Bool.Decides.{nat_tests}
 use Rattle.std.proofs.lemmas.Int.{ints, clamps}
 use Rattle.std.proofs.lemmas.List.Elements.{All-head, All-tail, All-set}
+use Rattle.std.proofs.Math.Bool.{and-false}
 use Rattle.tk_base.specs.Ascending.{IsAscending}
 use Rattle.tk_base.specs.Objects.{objects, is_in}
 use Rattle.tk_border.specs.Levels.{level_at, lowered, raised, least_of, greatest_of, least_member, outside, greatest_outside, above, AreMembers, AreObjects, AreSmall}
@@ -18,7 +19,6 @@ use Rattle.tk_border.proofs.RisingLemmas.{Rises, rises, rises-filter, rises-obje
 use Rattle.tk_rank.proofs.SidesLemmas.{levels_read}
 use Rattle.tk_rank.specs.Tree.{leaf_at, standing, is_over, HasRoom, LeavesView}
 use Rattle.tk_rank.specs.Sides.{outsider_leaf, levels_of, AreMemberLeaves, AreOutsiderLeaves, AreSides, IsKept}
-use Rattle.tk_rank.proofs.ExchangeLemmas.{and_false}
 
 -- ---- a filter with a map
 
@@ -109,13 +109,13 @@ and_true true = refl
 and_true false = refl
 
 and_false_or : (a m : Bool) → (a && not (m || true)) ≡ false
-and_false_or a true = and_false a
-and_false_or a false = and_false a
+and_false_or a true = and-false a
+and_false_or a false = and-false a
 
 -- z: it is an object at all, s: it has a leaf, l: it is beyond the levels, k: it is not, m: it is a member
 kept_test : (z s k l m : Bool) → l ≡ not k → (k ≡ true → s ≡ true) → ((z && s) && not (m || l)) ≡ ((z && k) && not m)
 kept_test false s k l m e le = refl
-kept_test true s true l true e le = and_false s
+kept_test true s true l true e le = and-false s
 kept_test true s true l false e le = rw (e, le refl) refl
 kept_test true s false l m e le = rw e (and_false_or s m)
 
@@ -148,7 +148,7 @@ outsiders_stand levels members room m o kept =
 
 -- outside a set that holds the members
 held_test : (m r b : Bool) → (m ≡ true → r ≡ true) → ((b && not m) && not r) ≡ (b && not r)
-held_test true r b held = rw (held refl) (and_false (b && false) ∙ sym (and_false b))
+held_test true r b held = rw (held refl) (and-false (b && false) ∙ sym (and-false b))
 held_test false r b held = ap (λ t. t && not r) (and_true b)
 
 swap_tests : (a b c : Bool) → ((a && b) && c) ≡ ((a && c) && b)

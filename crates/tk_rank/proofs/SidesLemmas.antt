@@ -6,6 +6,7 @@ use Rattle.std.proofs.lemmas.Int.{ints, to_z-of_z}
 use Rattle.std.proofs.lemmas.Bool.{cases_eq, cases_lt, le-ltb, lt-ltb, eqb-true}
 use Rattle.std.proofs.lemmas.List.{get_or-map}
 use Rattle.std.proofs.lemmas.List.FromFn.{fill_by_all, length-map-range_with_len}
+use Rattle.std.proofs.Math.Bool.{or-false}
 use Rattle.tk_base.specs.Ascending.{IsAscending, numbers_of}
 use Rattle.tk_base.specs.declared.ids.Obj.{Obj}
 use Rattle.tk_base.specs.Objects.{is_in}
@@ -17,10 +18,6 @@ use Rattle.tk_rank.specs.Tree.{leaf_at}
 use Rattle.tk_rank.specs.Sides.{AreMemberLeaves, AreOutsiderLeaves, AreSides, AreSmallLeaves, leaf_of, read_level, levels_of}
 
 -- ---- tests and numbers
-
-or_false : (a : Bool) → (a || false) ≡ a
-or_false true = refl
-or_false false = refl
 
 pub passed_on : (x : ℤ) → unsigned_abs x < 2 ^ 114 → to_z w128 (of_z w128 x) ≡ x
 passed_on x small = let fits : FitsSigned w128 x = omega (arith, ints) in to_z-of_z w128 x fits
@@ -79,7 +76,7 @@ member_here levels members leaves place within s =
 -- the leaf of an outsider, and that there is none for a member
 pub outsider_here : (levels : List ℤ) (p : ℕ → Bool) (leaves : List (Option ℤ)) (o : ℕ) → 0 < o → o ≤ length levels → AreOutsiderLeaves levels p leaves → leaf_at leaves o ≡ cond (p o) None (Some (level_at levels o))
 outsider_here levels p leaves o some within s =
-    s.leaf o some ∙ ap (λ t. cond (p o || t) None (Some (level_at levels o))) (le-ltb (length levels) o within) ∙ ap (λ t. cond t None (Some (level_at levels o))) (or_false (p o))
+    s.leaf o some ∙ ap (λ t. cond (p o || t) None (Some (level_at levels o))) (le-ltb (length levels) o within) ∙ ap (λ t. cond t None (Some (level_at levels o))) (or-false (p o))
 
 found_side : (b : Bool) (y x : ℤ) → cond b None (Some y) ≡ Some x → (b ≡ false) × (x ≡ y)
 found_side true y x is = absurd (cc)

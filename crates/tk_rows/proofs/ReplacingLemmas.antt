@@ -13,12 +13,13 @@ use Rattle.tk_base.specs.Pairs.{objects_of, value_at}
 use Rattle.tk_base.specs.Sum.{int_sum}
 use Rattle.tk_base.proofs.AscendingLemmas.{ascending_apart, ascending_positive}
 use Rattle.tk_base.proofs.PairsLemmas.{value_at-found, value_at-absent}
+use Rattle.tk_base.proofs.SumLemmas.{int_sum-cons}
 use Rattle.tk_rows.specs.declared.mon_change.MonChange.{MonChange}
 use Rattle.tk_rows.specs.declared.reallocation.Reallocation.{Reallocation}
 use Rattle.tk_rows.specs.Factors.{IsFactor, IsBalanced, Grid, AreBalanced, factor_at, row_of}
 use Rattle.tk_rows.specs.Replacing.{IsReplacement, AreChanges, monitors_of, changes_of, changes_at, factor_in, new_sum, old_sum}
 use Rattle.tk_rows.specs.Writing.{named_at, written}
-use Rattle.tk_rows.proofs.SumLemmas.{int_sum-cons, int_sum_zeros}
+use Rattle.tk_rows.proofs.SumLemmas.{int_sum_zeros}
 use Rattle.tk_rows.proofs.WritingLemmas.{AreApart, ascending_are_apart, zero_apart, length-written, written_at, written_sum, factors_written, zeros_are_factors}
 
 -- the pair at a place

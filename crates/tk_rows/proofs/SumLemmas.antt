@@ -1,16 +1,8 @@
 -- Sums of whole numbers, and rows of zeros.
 use Rattle.std.proofs.Common.{◌≡◌, ℕ, suc, zero, ◌<◌, ℤ, pos, ◌+ℤ◌, List, [], ◌∷◌, length, get_or, set, replicate, refl, ◌∙◌, arith}
-use Rattle.std.specs.List.{fold}
 use Rattle.std.proofs.lemmas.Int.{ints}
 use Rattle.tk_base.specs.Sum.{int_sum}
-
--- a sum begun elsewhere
-int_sum_from : (z : ℤ) (xs : List ℤ) → fold ◌+ℤ◌ z xs ≡ z +ℤ int_sum xs
-int_sum_from z [] = omega (arith, ints)
-int_sum_from z (x ∷ xs) = int_sum_from (z +ℤ x) xs ∙ omega (arith, ints, int_sum_from (pos 0 +ℤ x) xs)
-
-pub int_sum-cons : (x : ℤ) (xs : List ℤ) → int_sum (x ∷ xs) ≡ x +ℤ int_sum xs
-int_sum-cons x xs = int_sum_from (pos 0 +ℤ x) xs ∙ omega (arith, ints)
+use Rattle.tk_base.proofs.SumLemmas.{int_sum-cons}
 
 pub int_sum-set : (xs : List ℤ) (i : ℕ) (y : ℤ) → i < length xs → int_sum (set xs i y) +ℤ get_or xs i (pos 0) ≡ int_sum xs +ℤ y
 int_sum-set [] i y h = absurd (omega arith)

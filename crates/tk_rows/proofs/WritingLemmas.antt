@@ -12,10 +12,11 @@ use Rattle.tk_base.specs.Pairs.{objects_of, value_at}
 use Rattle.tk_base.specs.Sum.{int_sum}
 use Rattle.tk_base.proofs.AscendingLemmas.{ascending_apart, ascending_positive}
 use Rattle.tk_base.proofs.PairsLemmas.{value_at-absent}
+use Rattle.tk_base.proofs.SumLemmas.{int_sum-cons}
 use Rattle.tk_rows.specs.Factors.{IsFactor, AreFactors}
 use Rattle.tk_rows.specs.declared.mon_change.MonChange.{MonChange}
 use Rattle.tk_rows.specs.Writing.{named_at, written}
-use Rattle.tk_rows.proofs.SumLemmas.{int_sum-cons, int_sum-set, zeros_at}
+use Rattle.tk_rows.proofs.SumLemmas.{int_sum-set, zeros_at}
 
 -- no number stands twice in a list
 abbrev pub AreApart : List ℕ → Type 0

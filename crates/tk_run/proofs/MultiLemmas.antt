@@ -1,5 +1,5 @@
 -- The texts of queries one after the other.
-use Rattle.std.proofs.Common.{◌≡◌, ℕ, zero, suc, ◌+◌, ◌-◌, ◌<◌, Bool, All, List, [], ◌∷◌, ◌++◌, length, map, take, drop, get_or, Option, Some, None, refl, sym, ap, subst, ◌∙◌, append-nil, arith}
+use Rattle.std.proofs.Common.{◌≡◌, ℕ, zero, suc, ◌+◌, ◌-◌, ◌<◌, Bool, All, List, [], ◌∷◌, ◌++◌, length, map, take, drop, get_or, Option, Some, None, sym, ap, subst, ◌∙◌, append-nil, arith}
 use Rattle.std.specs.Prelude.{flat_map, option_map, if◌then◌else◌}
 use Rattle.std.specs.List.{slice_get, zip}
 use Rattle.std.proofs.lemmas.Bool.{le-leb}
@@ -8,6 +8,7 @@ use Rattle.std.proofs.lemmas.List.{length-map, take_more, take-append-drop}
 use Rattle.std.proofs.lemmas.Option.{get_or_from_slice_get}
 use Rattle.std.proofs.lemmas.Slice.Zip.{get_or-zip, length-zip}
 use Rattle.tk_base.specs.Settings.{Setup}
+use Rattle.tk_base.proofs.ListLemmas.{there_at}
 use Rattle.tk_input.specs.Logs.{LogSet}
 use Rattle.tk_load.specs.declared.multi.MultiInput.{MultiInput}
 use Rattle.tk_multi.specs.Alone.{AreOfOneSize}
@@ -31,12 +32,6 @@ texts_more {X} text list i x within is =
 -- the texts so far, and the others
 pub texts_split : {X : Type 0} (text : X → List ℕ) (list : List X) (i : ℕ) → flat_map text list ≡ flat_map text (take i list) ++ flat_map text (drop i list)
 texts_split {X} text list i = ap (λ (l : List X). flat_map text l) (sym (take-append-drop i list)) ∙ flat_map-append text (take i list) (drop i list)
-
--- there is something at each place of a list
-pub some_at : {X : Type 0} (list : List X) (i : ℕ) → i < length list → (x : X) × (slice_get list i ≡ Some x)
-some_at [] i within = absurd (omega (arith, within))
-some_at (x ∷ list) zero within = (x, refl)
-some_at (x ∷ list) (suc i) within = some_at list i (omega (arith, within))
 
 -- what stands under a number stands at the place before it
 pub entry_is : {X : Type 0} (list : List X) (i : ℕ) → entry_at list (i + 1) ≡ slice_get list i
@@ -87,8 +82,8 @@ all_named all events alones names stories are answers sizes = λ k d within.
     let named : length names ≡ length alones = ap (λ (l : List (List (List ℕ))). length l) are ∙ length-map alones (λ (one : Alone). one.names) in
     let in_names : k < length names = omega (arith, within, pairs) in
     let in_stories : k < length stories = omega (arith, within, pairs) in
-    let one = some_at alones k (omega (arith, in_names, named)) in
-    let kept = some_at stories k in_stories in
+    let one = there_at alones k (omega (arith, in_names, named)) in
+    let kept = there_at stories k in_stories in
     let answer = answers.each (k + 1) one.0 kept.0 (entry_is alones k ∙ one.1) (entry_is stories k ∙ kept.1) in
     let size : AreOfOneSize one.0 = subst AreOfOneSize (get_or_from_slice_get alones k one.0 one.0 one.1) (sizes k one.0 (omega (arith, in_names, named))) in
     let own : get_or names k d.0 ≡ one.0.names = ap (λ (l : List (List (List ℕ))). get_or l k d.0) are ∙ mapped_at (λ (a : Alone). a.names) alones k one.0 d.0 one.1 in

@@ -22,6 +22,7 @@ use Rattle.tk_session.specs.Sessions.{SessionsView, played, with_line}
 use Rattle.tk_session.specs.declared.session_line.SessionLine.{SessionLine}
 use Rattle.tk_session.specs.declared.session_line.SessionLine.TheVariants.{Step}
 use Rattle.tk_drain.proofs.KeepLemmas.{after_joined}
+use Rattle.tk_drain.proofs.LegLemmas.{moves_keep}
 
 -- ---- the laws of stories that are used
 
@@ -52,13 +53,6 @@ keep_reached kept event = kept_reached kept event (next_of kept.story event) ref
 pub moves_reached : (old new : KeptStory) (event : Event) (moved : Moved) → Moves old event moved new → IsReached old new
 moves_reached old new event Yes x = record { events = event ∷ []; runs = ap (λ (o : Option StoryView). after o []) x.0; kept_too = x.1 }
 moves_reached old new event Idle x = subst (λ (k : KeptStory). IsReached old k) (sym x.1) (reached_self old)
-
-pub moves_keep : (old new : KeptStory) (event : Event) (moved : Moved) → Moves old event moved new → new ≡ keep old event
-unfolding keep
-moves_keep old new event Yes x =
-    ap (λ (es : List Event). record { story = new.story; events = es }) x.1
-    ∙ sym (ap (λ (o : Option StoryView). keep_by old event o) x.0)
-moves_keep old new event Idle x = x.1 ∙ sym (ap (λ (o : Option StoryView). keep_by old event o) x.0)
 
 abbrev pub Steps : KeptStory → Event → KeptStory → Result Moved NoMemory → Type 0
 Steps old event new result = IfOk result (λ moved. Moves old event moved new)

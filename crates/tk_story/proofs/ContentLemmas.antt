@@ -6,21 +6,23 @@ use Rattle.std.specs.Option.{option_map}
 use Rattle.std.proofs.lemmas.Bool.{and_from, and_parts, le-leb, le-ltb}
 use Rattle.std.proofs.lemmas.Int.{ints, clamps}
 use Rattle.std.proofs.lemmas.List.Elements.{All-contains, All-map}
+use Rattle.std.proofs.Math.Bool.{or-true}
 use Rattle.tk_base.specs.Ascending.{ascends}
-use Rattle.tk_trail.proofs.AscendsLemmas.{ascending_passes}
 use Rattle.tk_trail.proofs.OrderLemmas.{broken_ascends}
 use Rattle.tk_base.specs.Objects.{objects, is_in}
 use Rattle.tk_base.specs.Pairs.{objects_of}
 use Rattle.tk_base.specs.Settings.{Setup}
+use Rattle.tk_base.proofs.CompareLemmas.{ge_is}
+use Rattle.tk_base.proofs.PairsLemmas.{objects_paired}
+use Rattle.tk_base.proofs.MemberLemmas.{contained_is_in, is_in_contained, outside_is_not_in}
 use Rattle.tk_border.specs.Levels.{border, broken, greatest_outside, is_above, least_member, least_of, lesser, level_at, outside, resolution}
 use Rattle.tk_border.proofs.LevelLemmas.{least_reached}
 use Rattle.tk_border.proofs.RisingLemmas.{is_in-filter}
 use Rattle.tk_rows.specs.Factors.{factor_at}
+use Rattle.tk_border.proofs.AscendsLemmas.{ascending_passes}
 use Rattle.tk_alloc.specs.Parts.{value_of}
 use Rattle.tk_alloc.proofs.BorderLemmas.{greatest_reached, mapped_of, of_outside}
 use Rattle.tk_alloc.proofs.LeewayLemmas.{value_put}
-use Rattle.tk_alloc.proofs.MemberLemmas.{contained_is_in, is_in_contained, outside_is_not_in}
-use Rattle.tk_alloc.proofs.PartLemmas.{objects_put}
 use Rattle.tk_alloc.proofs.WideLemmas.{of_catalogue}
 use Rattle.tk_journal.specs.Laws.{IsMonitor}
 use Rattle.tk_journal.specs.Readings.{assigns_to, factor, members_at as members_at_journal, table_at}
@@ -35,10 +37,10 @@ use Rattle.tk_trail.specs.Setup.{IsSetup, MonitorSetup}
 use Rattle.tk_trail.specs.Frames.{border_over, resolution_at, values_over}
 use Rattle.tk_trail.specs.Readings.{assigns_of, broken_at, levels_of, members_at, value_of_object}
 use Rattle.tk_trail.specs.declared.entry.Entry.{Entry}
-use Rattle.tk_trail.proofs.BrokenLemmas.{ge_is}
 use Rattle.tk_trail.proofs.LevelsLemmas.{length-levels_of, level_at-levels_of, value-small}
 use Rattle.tk_story.proofs.QuietLemmas.{level_by}
 use Rattle.tk_trail.specs.Says.{SaysReport, SaysValues}
+use Rattle.tk_trail.proofs.BorderLemmas.{sum_low, lesser_low}
 use Rattle.tk_journal.proofs.ProgressLemmas.{are_same_by}
 
 -- a place of a trail with the Assigns that were sent so far
@@ -81,9 +83,6 @@ least_said s j mon setup x h asked among =
 abbrev pub Low : ℤ → Type 0
 Low z = neg_ℤ (pos (2 ^ 113)) ≤ℤ z
 
-sum_low : (v w : ℤ) → unsigned_abs v ≤ 2 ^ 100 → unsigned_abs w ≤ 2 ^ 112 → Low (v +ℤ w)
-sum_low v w a b = omega (arith, ints, a, b)
-
 level_low : (s : Setup) (j : List Noted) (mon : ℕ) (setup : MonitorSetup) (x : List Entry) → IsSpeaking s j mon setup x → (o : ℕ) → 1 ≤ o → o ≤ setup.objects → Low (level_at (levels_of setup x) o)
 level_low s j mon setup x h o low high =
     let size = h.objects in
@@ -94,12 +93,6 @@ level_low s j mon setup x h o low high =
 
 zero_low : Low (pos 0)
 zero_low = omega (arith, ints)
-
-lesser_low : (l g : Option ℤ) → ((z : ℤ) → l ≡ Some z → Low z) → ((z : ℤ) → g ≡ Some z → Low z) → Low (lesser (unwrap_or l (pos 0)) g)
-lesser_low None None a b = zero_low
-lesser_low (Some x) None a b = a x refl
-lesser_low None (Some y) a b = let h = b y refl in let z = zero_low in omega (arith, ints, clamps, h, z)
-lesser_low (Some x) (Some y) a b = let h = a x refl in let k = b y refl in omega (arith, ints, clamps, h, k)
 
 lesser_most : (x : ℤ) (g : Option ℤ) → lesser x g ≤ℤ x
 lesser_most x None = omega (arith, ints)
@@ -163,21 +156,17 @@ values_accepted s j mon setup x round seq border values h said among =
     let vs = values_over setup x asked in
     ap (λ b. refusal_of_values known asked b values) said.border_is
     ∙ ap (λ ws. refusal_of_values known asked (border_over setup x asked) ws) said.values_is
-    ∙ ap (λ b. if not b then Some WrongObjects else or_else (too_great vs) (refusal_of_border known vs (border_over setup x asked))) (are_same_by (objects_of vs) asked (objects_put (value_of_object setup x) asked))
+    ∙ ap (λ b. if not b then Some WrongObjects else or_else (too_great vs) (refusal_of_border known vs (border_over setup x asked))) (are_same_by (objects_of vs) asked (objects_paired (value_of_object setup x) asked))
     ∙ ap (λ o. or_else o (refusal_of_border known vs (border_over setup x asked))) (values_pass setup x asked h.limits)
     ∙ border_passes s j mon setup x h asked among
 
 -- ---- a Report
 
-pub or_right_true : (b : Bool) → (b || true) ≡ true
-or_right_true true = refl
-or_right_true false = refl
-
 pub in_resolution : (n : ℕ) (members failed : List ℕ) (o : ℕ) → Contains (objects n) o → Contains failed o → Contains (resolution n members failed) o
 in_resolution n members failed o of in' =
     is_in_contained (resolution n members failed) o
     (is_in-filter (λ q. is_in members q || is_in failed q) (objects n) o
-    ∙ and_from (is_in (objects n) o) (is_in members o || is_in failed o) (contained_is_in (objects n) o of) (ap (λ b. is_in members o || b) (contained_is_in failed o in') ∙ or_right_true (is_in members o)))
+    ∙ and_from (is_in (objects n) o) (is_in members o || is_in failed o) (contained_is_in (objects n) o of) (ap (λ b. is_in members o || b) (contained_is_in failed o in') ∙ or-true (is_in members o)))
 
 pub all_true : (p : ℕ → Bool) (xs : List ℕ) → ((x : ℕ) → Contains xs x → p x ≡ true) → list_all p xs ≡ true
 all_true p [] each = refl
@@ -220,7 +209,7 @@ report_accepted s j mon setup x seq border failed values h said =
     let range = of_catalogue setup.objects o at.of in
     and_from (nat_le o s.objects) (not (is_in members o)) (le-leb o s.objects (let w = range.1 in omega (arith, w, size)))
     (ap not (ap (λ ms. is_in ms o) (sym h.members) ∙ outside_is_not_in (members_at x) o at.out)))) in
-    let same : are_same (objects_of vs) (resolution s.objects members list) ≡ true = are_same_by (objects_of vs) (resolution s.objects members list) (objects_put (value_of_object setup x) asked ∙ asked_is) in
+    let same : are_same (objects_of vs) (resolution s.objects members list) ≡ true = are_same_by (objects_of vs) (resolution s.objects members list) (objects_paired (value_of_object setup x) asked ∙ asked_is) in
     let least = least_said s j mon setup x h asked among in
     let sound : not_broken known vs list ≡ None =
     ap (option_map (λ o. NotBroken (record { 0 = o })))

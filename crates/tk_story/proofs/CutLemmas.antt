@@ -3,7 +3,7 @@ use Rattle.tk_frames.specs.declared.frame.Frame.TheVariants as f
 use Rattle.tk_journal.specs.declared.noted.Noted.TheVariants as n
 use Rattle.std.proofs.Common.{◌≡◌, ℕ, suc, zero, ◌≤◌, ◌<◌, ◌&&◌, ◌==◌, ◌⊎◌, Bool, true, false, List, [], ◌∷◌, ◌++◌, length, get_or, Contains, Option, Some, None, refl, sym, ap, ◌∙◌, subst, arith, inl, inr}
 use Rattle.std.specs.Prelude.{filter_map, nat_lt, nat_le, if◌then◌else◌}
-use Rattle.std.specs.List.{cons_option, list_all, zip}
+use Rattle.std.specs.List.{list_all, zip}
 use Rattle.std.proofs.lemmas.Bool.{and_from, eq-eqb, le-leb, lt-ltb}
 use Rattle.tk_base.specs.History.{EachFrom}
 use Rattle.tk_frames.specs.declared.frame.Frame.{Frame}
@@ -23,6 +23,7 @@ use Rattle.tk_trail.proofs.LegalLemmas.{legal_places}
 use Rattle.tk_trail.proofs.SlackLemmas.{places_rise}
 use Rattle.tk_journal.proofs.ProgressLemmas.{are_same_by}
 use Rattle.tk_trail.proofs.SaysLemmas.{ends_by_places, stays_at_ends}
+use Rattle.tk_journal.proofs.HeardLemmas.{ups_are}
 
 -- ---- what was accepted last was got
 
@@ -59,24 +60,6 @@ walked front progress (Up (f.Values round seq border values) ∷ link) p is = el
 walked front progress (Up (f.Assign seq members changes) ∷ link) p is = elim (walked (front ++ Up (f.Assign seq members changes) ∷ []) progress link p is) [ inl old ↦ inl old | inr later ↦ inr (got_later (f.Assign seq members changes) (filter_map up_in link) p later) ]
 walked front progress (Up f.Stop ∷ link) p is = elim (walked (front ++ Up f.Stop ∷ []) progress link p is) [ inl old ↦ inl old | inr later ↦ inr (got_later f.Stop (filter_map up_in link) p later) ]
 walked front progress (Down frame ∷ link) p is = walked (front ++ Down frame ∷ []) progress link p is
-
-up_one : (own : Bool) (frame : Frame) (link : List Passed) (frames : List Frame) → ups link ≡ frames → ups (cons_option (if own then Some (Up frame) else None) link) ≡ cons_option (if own then Some frame else None) frames
-unfolding ups up_in
-up_one true frame link frames e = ap (λ xs. frame ∷ xs) e
-up_one false frame link frames e = e
-
-down_one : (own : Bool) (frame : Frame) (link : List Passed) → ups (cons_option (if own then Some (Down frame) else None) link) ≡ ups link
-unfolding ups up_in
-down_one true frame link = refl
-down_one false frame link = refl
-
-ups_are : (mon : ℕ) (j : List Noted) → ups (link_of mon j) ≡ frames_from mon j
-unfolding ups
-ups_are mon [] = refl
-ups_are mon (n.Got from frame ∷ j) = up_one (from.0 == mon) frame (link_of mon j) (frames_from mon j) (ups_are mon j)
-ups_are mon (n.Sent to frame ∷ j) = down_one (to.0 == mon) frame (link_of mon j) ∙ ups_are mon j
-ups_are mon (n.Published publication ∷ j) = ups_are mon j
-ups_are mon (n.Tuned k epsilon ∷ j) = ups_are mon j
 
 pub progress_was_got : (mon : ℕ) (j : List Noted) (p : Progress) → progress_of mon j ≡ Some p → GotSettled (frames_from mon j) p
 unfolding progress_of

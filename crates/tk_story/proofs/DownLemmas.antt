@@ -6,17 +6,16 @@ use Rattle.std.specs.Prelude.{filter, filter_map, find, fold, nat_lt, nat_le, un
 use Rattle.std.specs.List.{All, list_all, list_any, range_with_len}
 use Rattle.std.specs.Option.{option_map}
 use Rattle.std.proofs.lemmas.Bool.{and_from, cases_Bool, eq-eqb, false≢true, le-leb, le-ltb, lt-ltb, or_from}
-use Rattle.std.proofs.lemmas.List.{length-append}
 use Rattle.std.proofs.lemmas.List.Elements.{All-contains, filter_map-append}
 use Rattle.std.proofs.lemmas.List.Folds.{list_any-append}
+use Rattle.std.proofs.Math.Bool.{or-true}
 use Rattle.tk_base.specs.Objects.{is_in}
 use Rattle.tk_base.proofs.HistoryLemmas.{each_at}
 use Rattle.tk_frames.specs.Assigns.{Assign, assign_in, members_of}
 use Rattle.tk_frames.specs.declared.frame.Frame.{Frame}
-use Rattle.tk_alloc.proofs.MemberLemmas.{contained_is_in}
 use Rattle.tk_base.specs.History.{last_of, IsFront}
 use Rattle.tk_base.specs.Ascending.{IsAscending, ascends}
-use Rattle.tk_trail.proofs.AscendsLemmas.{ascending_passes}
+use Rattle.tk_base.proofs.MemberLemmas.{contained_is_in}
 use Rattle.tk_journal.specs.Laws.{IsMonitor, IsSetUp}
 use Rattle.tk_journal.specs.Legal.{IsLegal, Opening}
 use Rattle.tk_journal.specs.Links.{frames_from, frames_to}
@@ -31,11 +30,12 @@ use Rattle.tk_journal.proofs.Pieces.{batch_to}
 use Rattle.tk_story.specs.Links.{IsJoined}
 use Rattle.tk_frames.specs.Carried.{tally}
 use Rattle.tk_frames.proofs.CarriedLemmas.{tally-append}
+use Rattle.tk_border.proofs.AscendsLemmas.{ascending_passes}
 use Rattle.tk_journal.proofs.GatheredLemmas.{in_front}
 use Rattle.tk_journal.proofs.HeardLemmas.{answer_was_got}
 use Rattle.tk_story.proofs.JoinLemmas.{SentAt, carried_seq, front_has, sent_at}
 use Rattle.tk_journal.proofs.SentLemmas.{flag, is_halt, one_stop, unstopped}
-use Rattle.tk_trail.proofs.SendsLemmas.{nothing, since-more}
+use Rattle.tk_trail.proofs.SendsLemmas.{since-more}
 use Rattle.tk_trail.specs.Setup.{MonitorSetup}
 use Rattle.tk_trail.specs.Legal.{IsLegal as IsLegalTrail}
 use Rattle.tk_trail.specs.Readings.{assigns_of, is_end, is_end_told, is_stopped, members_at, seq_of, sent_by, since_assign, taken_by}
@@ -43,14 +43,14 @@ use Rattle.tk_trail.specs.Refusal.{Shown, are_members, are_some_of, is_bad_chang
 use Rattle.tk_trail.specs.declared.entry.Entry.{Entry}
 use Rattle.tk_trail.specs.declared.entry.Entry.TheVariants.{Raised, Took, Sent}
 use Rattle.tk_trail.specs.declared.refusal.MonitorRefusal.TheVariants.{AfterStop, WrongSequence, BadMembers, BadChange, BadCollect, EarlyStop}
-use Rattle.tk_trail.proofs.LawLemmas.{assigns_of-append}
+use Rattle.tk_trail.proofs.SaysLemmas.{same_count}
 use Rattle.tk_journal.specs.Sending.{CanBeTaken, IsSaidWell}
 use Rattle.tk_journal.proofs.LastLemmas.{last_back, last_const}
 use Rattle.tk_story.proofs.PlaceLemmas.{sent_place}
 use Rattle.tk_journal.proofs.SendLemmas.{monitor_listed}
 use Rattle.tk_journal.proofs.SendTurns.{legal_well}
 use Rattle.tk_journal.proofs.ProgressLemmas.{settled_is}
-use Rattle.tk_story.proofs.ContentLemmas.{or_right_true, all_true}
+use Rattle.tk_story.proofs.ContentLemmas.{all_true}
 
 -- ---- Stop is the last frame
 
@@ -153,10 +153,7 @@ accepts_assign shown seq members changes next members' none =
 
 told_since : (x y : List Entry) (g : Frame) → assigns_of y ≡ [] → is_end (Sent g) ≡ true → is_end_told (x ++ Sent g ∷ y) ≡ true
 told_since x y g none is =
-    ap (λ es. list_any is_end es) (since-more x (Sent g ∷ y) none) ∙ list_any-append is_end (since_assign x) (Sent g ∷ y) ∙ ap (λ b. list_any is_end (since_assign x) || (b || list_any is_end y)) is ∙ or_right_true (list_any is_end (since_assign x))
-
-same_count : (x y : List Entry) → seq_of (x ++ y) ≡ seq_of x → assigns_of y ≡ []
-same_count x y same = nothing (assigns_of y) (let a = ap (λ (xs : List Assign). length xs) (assigns_of-append x y) in let b = length-append (assigns_of x) (assigns_of y) in omega (arith, a, b, same))
+    ap (λ es. list_any is_end es) (since-more x (Sent g ∷ y) none) ∙ list_any-append is_end (since_assign x) (Sent g ∷ y) ∙ ap (λ b. list_any is_end (since_assign x) || (b || list_any is_end y)) is ∙ or-true (list_any is_end (since_assign x))
 
 pub settled_seq : (seq number : ℕ) (last : Bool) (places : List ℕ) → is_answer number (f.Settled seq last places) ≡ true → seq ≡ number
 settled_seq seq number last places is = Rattle.std.proofs.lemmas.Bool.eqb-true seq number is

@@ -11,7 +11,9 @@ use Rattle.tk_story.specs.declared.ends.received.Received.{Received}
 use Rattle.tk_story.specs.declared.ends.received.Received.TheVariants as r
 use Rattle.std.specs.Prelude.{Result, Ok, Err, IsErr, IfErr}
 use Rattle.std.proofs.lemmas.Bool.{true≢false}
+use Rattle.std.proofs.Math.Seq.{take-append_seam}
 use Rattle.tk_base.specs.declared.ids.Mon.{Mon}
+use Rattle.tk_base.proofs.ListLemmas.{one_none, one_some, get_behind, take_next}
 use Rattle.tk_story.specs.Comparing.{AreTaken, Finds, IsDifference}
 use Rattle.tk_story.specs.declared.ends.join_fault.Direction.{Direction}
 use Rattle.tk_story.specs.declared.ends.join_fault.JoinFault.{JoinFault}
@@ -20,26 +22,11 @@ use Rattle.tk_story.specs.Ends.{IsFirstDifference, IsOrdered, KeptLink, with_odd
 
 -- ---- lists
 
--- the first n + 1 are the first n and the one behind them
-pub one_more : {A : Type 0} (xs : List A) (n : ℕ) (x : A) → slice_get xs n ≡ Some x → take (suc n) xs ≡ take n xs ++ x ∷ []
-one_more [] n x e = absurd cc
-one_more (y ∷ xs) zero x e = (let s : y ≡ x = cc in ap (λ z. z ∷ []) s)
-one_more (y ∷ xs) (suc n) x e = ap (λ zs. y ∷ zs) (one_more xs n x e)
-
 -- a list is its front, the one at a place, and what is behind
 pub parted : {A : Type 0} (xs : List A) (n : ℕ) (x : A) → slice_get xs n ≡ Some x → xs ≡ take n xs ++ x ∷ drop (suc n) xs
 parted [] n x e = absurd cc
 parted (y ∷ xs) zero x e = (let s : y ≡ x = cc in ap (λ z. z ∷ xs) s)
 parted (y ∷ xs) (suc n) x e = ap (λ zs. y ∷ zs) (parted xs n x e)
-
--- the one behind a front
-pub behind_front : {A : Type 0} (xs : List A) (x : A) (ys : List A) → slice_get (xs ++ x ∷ ys) (length xs) ≡ Some x
-behind_front [] x ys = refl
-behind_front (z ∷ xs) x ys = behind_front xs x ys
-
-pub front_of : {A : Type 0} (xs ys : List A) → take (length xs) (xs ++ ys) ≡ xs
-front_of [] ys = refl
-front_of (x ∷ xs) ys = ap (λ zs. x ∷ zs) (front_of xs ys)
 
 -- a front with one more
 pub front_grows : {A : Type 0} (xs ys : List A) (x : A) → IsFront xs ys → slice_get ys (length xs) ≡ Some x → IsFront (xs ++ x ∷ []) ys
@@ -47,7 +34,7 @@ front_grows xs ys x h e = record {
   is =
       let l = length-append xs (x ∷ []) in
       let n : length (xs ++ x ∷ []) ≡ suc (length xs) = omega (arith, l) in
-      sym (ap (λ k. take k ys) n ∙ one_more ys (length xs) x e ∙ ap (λ zs. zs ++ x ∷ []) (sym h.is));
+      sym (ap (λ k. take k ys) n ∙ take_next ys (length xs) x e ∙ ap (λ zs. zs ++ x ∷ []) (sym h.is));
 }
 
 -- a front of a list, each read as something else
@@ -56,19 +43,13 @@ front_maps f xs ys h = record { is = ap (map f) h.is ∙ sym (take-map f (length
 
 -- ---- what is read of a list, one entry more
 
-pub one_none : {A X : Type 0} (read : A → Option X) (e : A) → read e ≡ None → filter_map read (e ∷ []) ≡ []
-one_none {A} {X} read e is = rw is refl
-
-pub one_some : {A X : Type 0} (read : A → Option X) (e : A) (x : X) → read e ≡ Some x → filter_map read (e ∷ []) ≡ x ∷ []
-one_some read e x is = rw is refl
-
 pub passes_over : {E : Type 0} (read : E → Option Frame) (xs : List E) (n : ℕ) (e : E) → slice_get xs n ≡ Some e → read e ≡ None → filter_map read (take (suc n) xs) ≡ filter_map read (take n xs)
 passes_over read xs n e at none =
-    ap (filter_map read) (one_more xs n e at) ∙ filter_map-append read (take n xs) (e ∷ []) ∙ ap (λ (gs : List Frame). filter_map read (take n xs) ++ gs) (one_none read e none) ∙ append-nil (filter_map read (take n xs))
+    ap (filter_map read) (take_next xs n e at) ∙ filter_map-append read (take n xs) (e ∷ []) ∙ ap (λ (gs : List Frame). filter_map read (take n xs) ++ gs) (one_none read e none) ∙ append-nil (filter_map read (take n xs))
 
 pub reads_on : {E : Type 0} (read : E → Option Frame) (xs : List E) (n : ℕ) (e : E) (g : Frame) → slice_get xs n ≡ Some e → read e ≡ Some g → filter_map read (take (suc n) xs) ≡ filter_map read (take n xs) ++ g ∷ []
 reads_on read xs n e g at some =
-    ap (filter_map read) (one_more xs n e at) ∙ filter_map-append read (take n xs) (e ∷ []) ∙ ap (λ (gs : List Frame). filter_map read (take n xs) ++ gs) (one_some read e g some)
+    ap (filter_map read) (take_next xs n e at) ∙ filter_map-append read (take n xs) (e ∷ []) ∙ ap (λ (gs : List Frame). filter_map read (take n xs) ++ gs) (one_some read e g some)
 
 pub read_parted : {E : Type 0} (read : E → Option Frame) (xs : List E) (n : ℕ) (e : E) (g : Frame) → slice_get xs n ≡ Some e → read e ≡ Some g → filter_map read xs ≡ filter_map read (take n xs) ++ g ∷ filter_map read (drop (suc n) xs)
 read_parted {E} read xs n e g at some =
@@ -113,10 +94,10 @@ differs_behind frames rest sent received link sent_is received_is front other =
     let n : length frames ≡ length (map r.Frame frames) = sym (length-map frames r.Frame) in
     record {
       same =
-          ap (take (length frames)) received_is ∙ ap (λ k. take k (map r.Frame frames ++ received ∷ rest)) n ∙ front_of (map r.Frame frames) (received ∷ rest)
+          ap (take (length frames)) received_is ∙ ap (λ k. take k (map r.Frame frames ++ received ∷ rest)) n ∙ take-append_seam (map r.Frame frames) (received ∷ rest)
           ∙ ap (map r.Frame) (front.is ∙ ap (take (length frames)) (sym sent_is));
       sent_is = ap (λ gs. slice_get gs (length frames)) sent_is;
-      received_is = ap (λ gs. slice_get gs (length frames)) received_is ∙ ap (slice_get (map r.Frame frames ++ received ∷ rest)) n ∙ behind_front (map r.Frame frames) received rest;
+      received_is = ap (λ gs. slice_get gs (length frames)) received_is ∙ ap (slice_get (map r.Frame frames ++ received ∷ rest)) n ∙ get_behind (map r.Frame frames) received rest;
       other = other;
     }
 

@@ -1,6 +1,6 @@
 -- Trail and journal together: a monitor is at most one Assign behind, and what was sent under the last number speaks of now.
-use Rattle.std.proofs.Common.{◌≡◌, ℕ, suc, zero, ◌+◌, ◌-◌, ◌≤◌, ◌||◌, Bool, true, false, List, [], ◌∷◌, ◌++◌, length, take, drop, Contains, Option, Some, None, refl, sym, ap, ◌∙◌, subst, arith, append-nil, inl, inr}
-use Rattle.std.specs.Prelude.{filter_map, nat_lt, IfSome}
+use Rattle.std.proofs.Common.{◌≡◌, ℕ, suc, zero, ◌+◌, ◌-◌, ◌≤◌, ◌||◌, Bool, true, false, List, [], ◌∷◌, ◌++◌, length, take, drop, Contains, Some, refl, sym, ap, ◌∙◌, subst, arith, append-nil, inl, inr}
+use Rattle.std.specs.Prelude.{filter_map, nat_lt}
 use Rattle.std.proofs.lemmas.Bool.{cases_Bool, cases_lt, true≢false, ltb-true}
 use Rattle.std.proofs.lemmas.List.{length-append}
 use Rattle.std.proofs.lemmas.List.Elements.{filter_map-append}
@@ -17,6 +17,7 @@ use Rattle.tk_journal.specs.Links.{frames_from, frames_to}
 use Rattle.tk_journal.specs.Readings.{assigns_sent, assigns_to}
 use Rattle.tk_journal.specs.declared.noted.Noted.{Noted}
 use Rattle.tk_base.specs.History.{IsFront}
+use Rattle.tk_base.proofs.OptionLemmas.{number_is}
 use Rattle.tk_story.specs.Links.{IsJoined}
 use Rattle.tk_trail.specs.Still.{Same, is_present, is_still}
 use Rattle.tk_journal.proofs.GatheredLemmas.{in_front}
@@ -57,10 +58,6 @@ sent_at (Raised g ∷ trail) frame in' = later_at (Raised g) trail frame (sent_a
 sent_at (Took x ∷ trail) frame in' = later_at (Took x) trail frame (sent_at trail frame in')
 sent_at (Sent x ∷ trail) frame (zero, within, is) = record { before = []; after = trail; is = ap (λ q. Sent q ∷ trail) is }
 sent_at (Sent x ∷ trail) frame (suc k, within, is) = later_at (Sent x) trail frame (sent_at trail frame (k, omega arith, is))
-
-number_is : (number seq : ℕ) (x : Option ℕ) → x ≡ Some number → IfSome x (λ q. q ≡ seq) → number ≡ seq
-number_is number seq (Some q) e h = (let same : q ≡ number = cc in sym same ∙ h)
-number_is number seq None e h = absurd (cc)
 
 -- ---- at most one behind
 

@@ -7,6 +7,7 @@ use Rattle.std.proofs.lemmas.Bool.{cases_lt}
 use Rattle.std.proofs.lemmas.List.{length-append, length-map, length-replicate, take-map, append-nil, append_assoc}
 use Rattle.std.proofs.lemmas.List.FromFn.{get_or-range_with_len, length-enumerate_from, length-range_with_len}
 use Rattle.std.proofs.lemmas.Option.{get_or_from_slice_get, slice_get-get_or, slice_get-map, same_Some}
+use Rattle.std.proofs.Math.Seq.{take-append_seam}
 use Rattle.tk_base.specs.History.{IsFront}
 use Rattle.tk_base.specs.Settings.{IsWithinLimits, Setup}
 use Rattle.tk_base.specs.declared.ids.Mon.{Mon}
@@ -34,7 +35,6 @@ use Rattle.tk_story.specs.declared.ends.join_fault.JoinFault.TheVariants.{Differ
 use Rattle.tk_story.specs.declared.ends.mon_end.MonEnd.{MonEnd}
 use Rattle.tk_story.specs.declared.ends.received.Received.{Received}
 use Rattle.tk_story.specs.declared.ends.received.Received.TheVariants as r
-use Rattle.tk_story.proofs.EndsLemmas.{front_of}
 use Rattle.tk_story.proofs.JoinLemmas.{Rest}
 
 -- ---- looking at the links of one monitor after the other
@@ -139,7 +139,7 @@ pub front_of_ordered : (frames sent : List Frame) (odd : Option Received) → Is
 front_of_ordered frames sent odd h = record { is = frames_same frames (take (length frames) sent) (taken frames odd h.is ∙ take-map r.Frame (length frames) sent) } where
   first : (frames : List Frame) (odd : Option Received) → take (length frames) (with_odd frames odd) ≡ map r.Frame frames
   first frames None = ap (λ k. take k (map r.Frame frames)) (sym (length-map frames r.Frame)) ∙ take-all (map r.Frame frames)
-  first frames (Some odd) = ap (λ k. take k (map r.Frame frames ++ odd ∷ [])) (sym (length-map frames r.Frame)) ∙ front_of (map r.Frame frames) (odd ∷ [])
+  first frames (Some odd) = ap (λ k. take k (map r.Frame frames ++ odd ∷ [])) (sym (length-map frames r.Frame)) ∙ take-append_seam (map r.Frame frames) (odd ∷ [])
 
   longer : (frames : List Frame) (odd : Option Received) → length frames ≤ length (with_odd frames odd)
   longer frames None = (let l = length-map frames r.Frame in omega (arith, l))
@@ -156,7 +156,7 @@ opens o j legal =
     (record { rest = []; is = sym (append-nil (opened o)) }) j legal
 
 pub opens_it : (o : Opening) (j : List Noted) → IsLegal o j → IsFront (opened o) j
-opens_it o j legal = let whole = opens o j legal in record { is = sym (ap (take (length (opened o))) whole.is ∙ front_of (opened o) whole.rest) }
+opens_it o j legal = let whole = opens o j legal in record { is = sym (ap (take (length (opened o))) whole.is ∙ take-append_seam (opened o) whole.rest) }
 
 opened_length : (o : Opening) → length (opened o) ≡ length o.factors
 opened_length o = length-map (enumerate_from 1 o.factors) _ ∙ length-enumerate_from 1 o.factors
@@ -169,7 +169,7 @@ from_the_start s j kept front =
     opened_length o ∙ kept.set_up.factors ∙ ap (λ (x : Setup). x.monitors) kept.settings ∙ sym (length-replicate s.monitors []) ∙ sym (opened_length (start s)) in
     let whole = opens o j kept.legal in
     let same : opened o ≡ opened (start s) =
-    sym (front_of (opened o) whole.rest) ∙ ap (take (length (opened o))) (sym whole.is) ∙ ap (λ k. take k j) size ∙ sym front.is in
+    sym (take-append_seam (opened o) whole.rest) ∙ ap (take (length (opened o))) (sym whole.is) ∙ ap (λ k. take k j) size ∙ sym front.is in
     let played : j ≡ played_from s (opened (start s)) (inputs_of j) = kept.legal.played ∙ (λ i. played_from (kept.settings i) (same i) (inputs_of j)) in
     record { played = played; accepted = subst (λ xs. AreAccepted s xs (inputs_of j)) same (subst (λ x. AreAccepted x (opened o) (inputs_of j)) kept.settings kept.legal.accepted) }
 

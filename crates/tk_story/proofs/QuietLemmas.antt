@@ -1,13 +1,14 @@
 -- A quiet story's members hold at the ends of its trails.
-use Rattle.std.proofs.Common.{◌≡◌, ℕ, suc, zero, ◌+◌, ◌-◌, ◌<◌, ◌≤◌, ℤ, ◌+ℤ◌, ◌||◌, Bool, true, false, List, [], length, get_or, Contains, refl, sym, ap, ◌∙◌, subst, arith, inl, inr}
+use Rattle.std.proofs.Common.{◌≡◌, ℕ, ◌+◌, ◌-◌, ◌≤◌, ℤ, ◌+ℤ◌, Bool, true, false, List, [], length, get_or, Contains, refl, sym, ap, ◌∙◌, subst, arith, inl, inr}
 use Rattle.std.specs.Prelude.{filter_map}
-use Rattle.std.specs.List.{list_any, range_with_len}
+use Rattle.std.specs.List.{range_with_len}
 use Rattle.std.proofs.lemmas.Bool.{cases_lt}
 use Rattle.std.proofs.lemmas.Int.{ints}
 use Rattle.std.proofs.lemmas.List.{get_or_past, length-map}
 use Rattle.std.proofs.lemmas.List.FromFn.{length-range_with_len}
 use Rattle.tk_frames.specs.Assigns.{Assign, assign_in, members_of, row}
 use Rattle.tk_base.specs.Settings.{Setup}
+use Rattle.tk_base.proofs.ListLemmas.{none_in_range}
 use Rattle.tk_input.specs.Logs.{AreParts, ArePlaces, IsCut, parts_of, value, value_of}
 use Rattle.tk_journal.specs.Laws.{IsMonitor, IsSetUp}
 use Rattle.tk_journal.specs.Legal.{start}
@@ -114,10 +115,6 @@ setup_is s h mon m = record {
 
 -- ---- where all links are empty no round is open
 
-none_waits : (p : ℕ → Bool) (a k : ℕ) → ((mon : ℕ) → a ≤ mon → mon < a + k → p mon ≡ false) → list_any p (range_with_len a k) ≡ false
-none_waits p a zero each = refl
-none_waits p a (suc k) each = ap (λ b. b || list_any p (range_with_len (a + 1) k)) (each a (omega arith) (omega arith)) ∙ none_waits p (a + 1) k (λ mon low high. each mon (omega (arith, low)) (omega (arith, high)))
-
 flag_false : (b : Bool) → flag b ≡ 0 → b ≡ false
 flag_false true e = absurd (omega (arith, e))
 flag_false false e = refl
@@ -125,7 +122,7 @@ flag_false false e = refl
 pub empty_links_close : (s : StoryView) → IsStory s → ((mon : ℕ) → IsMonitor s.settings mon → taken_by (trail_of s mon) ≡ frames_to mon s.journal) → ((mon : ℕ) → IsMonitor s.settings mon → frames_from mon s.journal ≡ sent_by (trail_of s mon)) → is_open s.settings s.journal ≡ false
 unfolding is_open
 empty_links_close s h down up =
-    none_waits (λ mon. waits_for (last_round s.journal) mon s.journal) 1 s.settings.monitors (λ mon low high.
+    none_in_range (λ mon. waits_for (last_round s.journal) mon s.journal) 1 s.settings.monitors (λ mon low high.
     let m : IsMonitor s.settings mon = record { from_one = low; within = omega (arith, high) } in
     let count : collects_to mon s.journal ≡ values_from mon s.journal + flag (waits_for (last_round s.journal) mon s.journal) = each_collect_is_answered (start s.settings) s.journal mon (start_is_set_up s h) h.journal_legal m in
     let pairs = values_answer_collects (setup_of s mon) (trail_of s mon) (h.trails_legal mon m) in

@@ -9,6 +9,7 @@ use Rattle.std.proofs.lemmas.List.{length-append}
 use Rattle.std.proofs.lemmas.List.Elements.{filter_map-append}
 use Rattle.std.proofs.lemmas.List.Sums.{sum_by-cons}
 use Rattle.tk_base.specs.declared.ids.Mon.{Mon}
+use Rattle.tk_base.proofs.BoolLemmas.{right_fails}
 use Rattle.tk_frames.specs.Assigns.{Assign, assign_in}
 use Rattle.tk_frames.specs.declared.frame.Frame.{Frame}
 use Rattle.tk_journal.specs.Laws.{IsMonitor}
@@ -256,13 +257,9 @@ nothing_due : (setup : MonitorSetup) (trail : List Entry) → due_at setup trail
 unfolding due_at
 nothing_due setup trail none = none_due (report_is_due setup trail) (end_is_due setup trail) (report_at setup trail) (settled_frame setup trail) none
 
-not_broken_by : (may broken : Bool) → may ≡ true → (may && broken) ≡ false → broken ≡ false
-not_broken_by true broken m e = e
-not_broken_by false broken m e = absurd (false≢true m)
-
 still_sound : (s : StoryView) → IsStory s → IsStill s → (mon : ℕ) → IsMonitor s.settings mon → is_broken (setup_of s mon) (trail_of s mon) ≡ false
 unfolding report_is_due
-still_sound s h still mon m = not_broken_by (may_report (trail_of s mon)) (is_broken (setup_of s mon) (trail_of s mon)) (may s h still mon m) (nothing_due (setup_of s mon) (trail_of s mon) (still.idle mon m)).0
+still_sound s h still mon m = right_fails (may_report (trail_of s mon)) (is_broken (setup_of s mon) (trail_of s mon)) (may s h still mon m) (nothing_due (setup_of s mon) (trail_of s mon) (still.idle mon m)).0
 
 pub still_is_quiet : (s : StoryView) → IsStory s → IsStill s → IsQuiet s
 still_is_quiet s h still = record { down = still.down; up = still.up; closed = still_closed s h still; sound = λ mon m. still_sound s h still mon m }

@@ -4,8 +4,9 @@ use Rattle.std.specs.List.{zip, range_with_len}
 use Rattle.std.proofs.lemmas.Int.{ints}
 use Rattle.tk_base.specs.Settings.{Setup}
 use Rattle.tk_base.specs.Sum.{int_sum}
+use Rattle.tk_base.proofs.ListLemmas.{contained_behind}
+use Rattle.tk_base.proofs.SumLemmas.{int_sum-cons}
 use Rattle.tk_input.specs.Logs.{IsCut, total, value, value_of}
-use Rattle.tk_rows.proofs.SumLemmas.{int_sum-cons}
 use Rattle.tk_journal.specs.Laws.{IsMonitor}
 use Rattle.tk_journal.specs.Readings.{factor, in_force, members_at, monitors, own}
 use Rattle.tk_journal.specs.declared.noted.Noted.{Noted}
@@ -34,15 +35,12 @@ total_is logs cut o m count same =
     sum_at (λ mon. value logs mon o cut) 1 logs cut o same (λ i within. ap (λ (q : ℕ). value_of (get_or logs q []) (get_or cut q []) o) (omega arith))
     ∙ ap (λ (q : ℕ). int_sum (map (λ mon. value logs mon o cut) (range_with_len 1 q))) count
 
-there : (x o : ℕ) (xs : List ℕ) → Contains xs o → Contains (x ∷ xs) o
-there x o xs (k, within, is) = (suc k, omega (arith, within), is)
-
 -- sums of two numbers each, where one is at most the other
 sums_ordered : (f g h k : ℕ → ℤ) (ms : List ℕ) → ((m : ℕ) → Contains ms m → (f m +ℤ g m) ≤ℤ (h m +ℤ k m)) → (int_sum (map f ms) +ℤ int_sum (map g ms)) ≤ℤ (int_sum (map h ms) +ℤ int_sum (map k ms))
 sums_ordered f g h k [] each = omega (arith, ints)
 sums_ordered f g h k (m ∷ ms) each =
     let here = each m (0, omega arith, refl) in
-    let rest = sums_ordered f g h k ms (λ q in'. each q (there m q ms in')) in
+    let rest = sums_ordered f g h k ms (λ q in'. each q (contained_behind m q ms in')) in
     let a = int_sum-cons (f m) (map f ms) in
     let b = int_sum-cons (g m) (map g ms) in
     let c = int_sum-cons (h m) (map h ms) in

@@ -1,7 +1,6 @@
 -- What a checker found of the story that bytes tell is what is wrong with them.
-use Rattle.std.proofs.Common.{◌≡◌, ◌⊎◌, ℕ, List, [], ◌∷◌, ◌++◌, length, map, true, Some, None, Result, Ok, Err, IfOk, refl, sym, ap, subst, ◌∙◌, inl, inr}
+use Rattle.std.proofs.Common.{◌≡◌, ◌⊎◌, ℕ, List, [], ◌∷◌, ◌++◌, length, map, true, Result, Ok, Err, IfOk, refl, sym, ap, subst, ◌∙◌, inl, inr}
 use Rattle.std.proofs.lemmas.List.Elements.{filter_map-append}
-use Rattle.std.proofs.lemmas.List.Sums.{fold-append}
 use Rattle.std.proofs.lemmas.Slice.Zip.{AllZip-long}
 use Rattle.tk_base.specs.History.{last_of}
 use Rattle.tk_frames.specs.declared.frame.Frame.TheVariants as g
@@ -12,6 +11,7 @@ use Rattle.tk_journal.specs.declared.noted.Noted.{Noted}
 use Rattle.tk_journal.specs.declared.noted.Noted.TheVariants as n
 use Rattle.tk_journal.specs.declared.publication.Publication.{Publication}
 use Rattle.tk_trail.specs.declared.entry.Entry.{Entry}
+use Rattle.tk_journal.proofs.StandLemmas.{last_push}
 use Rattle.tk_story.specs.Story.{IsStory, StoryView}
 use Rattle.tk_verify.specs.Recorded.{Finds, ReachesItsEnd, is_final, recorded as told_by}
 use Rattle.tk_verify.specs.declared.finding.Finding.{Finding}
@@ -136,9 +136,6 @@ kept_succeeds bytes r names s is other from legal over then =
 no_more : (mons : List ℕ) → publications (map (λ mon. n.Sent (record { 0 = mon }) g.Stop) mons) ≡ []
 no_more [] = refl
 no_more (mon ∷ mons) = no_more mons
-
-last_push : (ps : List Publication) (p : Publication) → last_of (ps ++ p ∷ []) ≡ Some p
-last_push ps p = fold-append (λ _ e. Some e) None ps (p ∷ [])
 
 -- the final publication of a finished story is its last one
 pub final_is : (s : StoryView) → ReachesItsEnd s → is_final (last_of (publications s.journal)) ≡ true

@@ -1,19 +1,18 @@
 -- The reader of frames is exact.
 use Rattle.std.proofs.Common.{◌≡◌, ℕ, ◌+◌, ◌-◌, ◌≤◌, false, eqb, ltb, List, [], ◌++◌, length, take, drop, Some, refl, sym, ap, subst, ◌∙◌, append_assoc, ne_eqb, arith}
 use Rattle.std.proofs.lemmas.Bool.{le-ltb}
-use Rattle.std.proofs.lemmas.List.{append-nil, drop_at, length-append, length-drop, take_all, take-append-drop, take_at}
+use Rattle.std.proofs.lemmas.List.{append-nil, drop_at, length-append, take-append-drop, take_at}
 use Rattle.byteorder.specs.Endian.{big_bytes, big_number}
 use Rattle.byteorder.specs.Numbers.{big_number-reads_back, length-bytes_high_first}
 use Rattle.tk_frames.specs.declared.frame.Frame.{Frame}
-use Rattle.tk_frames.specs.declared.kind.Kind.{Kind}
 use Rattle.tk_frames.specs.declared.kind.Kind.TheVariants as k
 use Rattle.tk_frames.specs.declared.answer.Next.{Next}
 use Rattle.tk_frames.specs.declared.answer.Next.TheVariants.{Whole, Part, Bad}
 use Rattle.tk_frames.specs.Answer.{Answers}
 use Rattle.tk_frames.specs.Frame.{kind_of}
-use Rattle.tk_frames.specs.Reading.{answer_of, fields_at, kind_answer, kind_at, next_of, payload_answer}
+use Rattle.tk_frames.specs.Reading.{answer_of, fields_at, kind_answer, next_of, payload_answer}
 use Rattle.tk_frames.specs.Spelling.{code_of, fields, framed, payload, spelling}
-use Rattle.tk_frames.proofs.AnswerLemmas.{answer_only, answer_stands}
+use Rattle.tk_frames.proofs.AnswerLemmas.{answer_only, answer_stands, kind_at-code}
 use Rattle.tk_frames.proofs.BytesLemmas.{IsBytes}
 use Rattle.tk_frames.proofs.ExactLemmas.{IsExact}
 use Rattle.tk_frames.proofs.FrameLemmas.{fields_again}
@@ -23,23 +22,13 @@ use Rattle.tk_trace.specs.Spelling.{IsFrame}
 
 -- ---- what is spelled is read
 
-kind_told : (kind : Kind) → kind_at (code_of kind) ≡ Some kind
-unfolding kind_at
-kind_told k.Hello = refl
-kind_told k.Report = refl
-kind_told k.Collect = refl
-kind_told k.Values = refl
-kind_told k.Assign = refl
-kind_told k.Settled = refl
-kind_told k.Stop = refl
-
 payload_read : (frame : Frame) → IsFrame frame → payload_answer 1 (payload 1 frame) ≡ Whole frame (length (fields 1 frame) + 5)
 unfolding payload_answer
 payload_read frame is =
     let behind = fields 1 frame in
     let whole = length behind + 5 in
     let found = ap (λ (bytes : List ℕ). answer_of (kind_of frame) whole (fields_at 1 (kind_of frame) bytes)) (sym (append-nil behind)) in
-    ap (kind_answer 1 whole (code_of (kind_of frame)) behind) (kind_told (kind_of frame))
+    ap (kind_answer 1 whole (code_of (kind_of frame)) behind) (kind_at-code (kind_of frame))
     ∙ found ∙ ap (answer_of (kind_of frame) whole) (fields_again 1 frame [] is.frame_is)
 
 spelled_read : (frame : Frame) (rest : List ℕ) → IsFrame frame → next_of 1 (spelling 1 frame ++ rest) ≡ Whole frame (length (spelling 1 frame))
@@ -77,10 +66,6 @@ front_of bytes (Bad why) frame rest has e = absurd cc
 pub frame_found : (bytes : List ℕ) (next : Next) → IsBytes bytes → Answers 1 bytes next → frame_at bytes ≡ frame_in bytes next
 unfolding frame_at
 frame_found bytes next fits has = ap (frame_in bytes) (sym (answer_only 1 bytes next fits has))
-
--- the bytes behind it, as a slice takes them
-pub behind_is : (bytes : List ℕ) (size : ℕ) → take (length bytes - size) (drop size bytes) ≡ drop size bytes
-behind_is bytes size = take_all (length bytes - size) (drop size bytes) (omega (arith, length-drop size bytes))
 
 pub exact_frame : IsExact IsFrame (spelling 1) frame_at
 unfolding frame_at

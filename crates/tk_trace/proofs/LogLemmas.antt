@@ -9,6 +9,7 @@ use Rattle.std.proofs.lemmas.List.{get_or_default}
 use Rattle.std.proofs.lemmas.List.Sums.{position_or_len_is, sum_by-cons}
 use Rattle.std.proofs.lemmas.Int.{ints}
 use Rattle.tk_base.specs.Objects.{objects}
+use Rattle.tk_base.proofs.OptionLemmas.{unmapped}
 use Rattle.tk_input.specs.Judged.{first_at, first_crowded, first_gap, Assigned, great_in, great_object, judged, logs_by_monitor, logs_of, unless}
 use Rattle.tk_input.specs.Logs.{AreLogs, AreParts, IsObject, LogSet, updates_of, weight_for, weight_of}
 use Rattle.tk_input.specs.declared.logs.LogsFault.{LogsFault}
@@ -61,10 +62,6 @@ exact_row objects few = exact_behind 1 (exact_one_of 1 8 (omega arith)) (exact_p
 unless_ok : {A : Type 0} (fault : Option LogsFault) (r : Result A LogsFault) (x : A) → unless fault r ≡ Ok x → (fault ≡ None) × (r ≡ Ok x)
 unless_ok None r x e = (refl, e)
 unless_ok (Some fault) r x e = absurd cc
-
-unmapped : {X Y : Type 0} (f : X → Y) (o : Option X) → option_map f o ≡ None → o ≡ None
-unmapped f None e = refl
-unmapped f (Some x) e = absurd cc
 
 no_fault : (b : Bool) (fault : LogsFault) → cond b (Some fault) None ≡ None → b ≡ false
 no_fault true fault e = absurd cc

@@ -10,10 +10,13 @@ use Rattle.tk_base.specs.History.{EachFrom}
 use Rattle.tk_base.specs.Objects.{objects, is_in}
 use Rattle.tk_base.specs.Pairs.{value_at}
 use Rattle.tk_base.proofs.HistoryLemmas.{each_carries, each_front}
+use Rattle.tk_base.proofs.OptionLemmas.{if_none}
+use Rattle.tk_base.proofs.MemberLemmas.{contained_is_in}
 use Rattle.tk_border.specs.Levels.{greatest_outside, least_member, lesser, level_at, outside}
 use Rattle.tk_border.proofs.RisingLemmas.{is_in-filter, is_in-objects, is_in-positive}
 use Rattle.tk_frames.specs.Assigns.{Assign, members_of, row}
 use Rattle.tk_frames.specs.declared.frame.Frame.{Frame}
+use Rattle.tk_frames.proofs.AssignsLemmas.{row-push, members_of-push}
 use Rattle.tk_frames.specs.declared.frame.Frame.TheVariants as f
 use Rattle.tk_trail.specs.Bounds.{IsBorderWithin}
 use Rattle.tk_trail.specs.Setup.{IsSetup, MonitorSetup}
@@ -25,9 +28,8 @@ use Rattle.tk_trail.specs.declared.entry.Entry.{Entry}
 use Rattle.tk_trail.specs.declared.entry.Entry.TheVariants.{Raised, Sent, Took}
 use Rattle.tk_trail.specs.declared.refusal.MonitorRefusal.TheVariants.{BadChange, BadMembers, WrongSequence}
 use Rattle.tk_trail.proofs.BoundLemmas.{good_changes, passes_rise, small_values}
-use Rattle.tk_trail.proofs.LegalLemmas.{if_none, not_refused}
-use Rattle.tk_trail.proofs.LevelsLemmas.{length-levels_of, level_at-levels_of, members_of-push, row-push}
-use Rattle.tk_trail.proofs.MemberLemmas.{contained_is_in}
+use Rattle.tk_trail.proofs.LegalLemmas.{not_refused}
+use Rattle.tk_trail.proofs.LevelsLemmas.{length-levels_of, level_at-levels_of}
 use Rattle.tk_trail.proofs.ReadingsLemmas.{assigns_of-assign, assigns_of-other, assigns_of-raised, assigns_of-sent}
 use Rattle.tk_trail.proofs.SaysLemmas.{law_report, law_values}
 use Rattle.tk_trail.proofs.SlackLemmas.{greatest_reached, least_bounds, least_reached}
@@ -100,7 +102,8 @@ taken_well setup trail each = each_carries (Allowed setup) (λ front. AreTakenWe
 abbrev Low : ℤ → Type 0
 Low z = neg_ℤ (pos (2 ^ 113)) ≤ℤ z
 
-sum_low : (v w : ℤ) → unsigned_abs v ≤ 2 ^ 100 → unsigned_abs w ≤ 2 ^ 112 → Low (v +ℤ w)
+-- the sum of two small numbers is not too low
+pub sum_low : (v w : ℤ) → unsigned_abs v ≤ 2 ^ 100 → unsigned_abs w ≤ 2 ^ 112 → Low (v +ℤ w)
 sum_low v w a b = omega (arith, ints, a, b)
 
 zero_low : Low (pos 0)
@@ -118,7 +121,8 @@ in_catalogue n set o in' =
 
 -- ---- the border
 
-lesser_low : (l g : Option ℤ) → ((z : ℤ) → l ≡ Some z → Low z) → ((z : ℤ) → g ≡ Some z → Low z) → Low (lesser (unwrap_or l (pos 0)) g)
+-- nor is the lesser of two that are not
+pub lesser_low : (l g : Option ℤ) → ((z : ℤ) → l ≡ Some z → Low z) → ((z : ℤ) → g ≡ Some z → Low z) → Low (lesser (unwrap_or l (pos 0)) g)
 lesser_low None None a b = zero_low
 lesser_low (Some x) None a b = a x refl
 lesser_low None (Some y) a b = let h = b y refl in let z = zero_low in omega (arith, ints, clamps, h, z)

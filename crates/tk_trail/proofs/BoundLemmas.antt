@@ -1,12 +1,11 @@
 -- How great what a legal trail holds can be.
-use Rattle.std.proofs.Common.{◌≡◌, ◌==◌, ℕ, suc, zero, ◌+◌, ◌≤◌, ◌<◌, ◌&&◌, ◌||◌, ◌^◌, ℤ, Bool, true, false, not, List, [], ◌∷◌, ◌++◌, length, Contains, Option, Some, None, refl, sym, ap, ◌∙◌, subst, arith}
+use Rattle.std.proofs.Common.{◌≡◌, ◌==◌, ℕ, suc, zero, ◌+◌, ◌≤◌, ◌<◌, ◌&&◌, ◌||◌, ◌^◌, ℤ, Bool, true, false, not, List, [], ◌∷◌, ◌++◌, length, Contains, Some, None, refl, sym, ap, ◌∙◌, subst, arith}
 use Rattle.std.specs.Prelude.{All, cond, filter, find, get_or, if◌then◌else◌, nat_le, nat_lt, unsigned_abs}
 use Rattle.std.specs.List.{list_all, zip}
 use Rattle.std.specs.Option.{option_map}
 use Rattle.std.proofs.lemmas.Bool.{false≢true, leb-true, ltb-false, ltb-true, and_parts, or_parts}
 use Rattle.std.proofs.lemmas.List.{length-map}
 use Rattle.std.proofs.lemmas.List.Elements.{All-cons, All-head, All-nil, All-tail}
-use Rattle.std.proofs.lemmas.List.FromFn.{length-range_with_len}
 use Rattle.tk_base.specs.Ascending.{ascends}
 use Rattle.tk_base.specs.Objects.{is_in, objects}
 use Rattle.tk_border.specs.Levels.{broken, is_above, least_member, level_at, outside}
@@ -25,28 +24,21 @@ use Rattle.tk_trail.specs.declared.entry.Entry.{Entry}
 use Rattle.tk_trail.specs.declared.entry.Entry.TheVariants.{Sent, Took}
 use Rattle.tk_trail.specs.declared.refusal.MonitorRefusal.TheVariants.{BadChange, BadMembers, BadCollect, WrongSequence}
 use Rattle.tk_trail.proofs.LawLemmas.{allowed_at}
-use Rattle.tk_trail.proofs.LegalLemmas.{if_none, legal_places, not_refused}
+use Rattle.tk_trail.proofs.LegalLemmas.{legal_places, not_refused}
 use Rattle.tk_trail.proofs.LevelsLemmas.{length-levels_of, value-small}
-use Rattle.tk_trail.proofs.MemberLemmas.{contained_is_in}
 use Rattle.tk_trail.proofs.SaysLemmas.{law_report, law_settled}
 use Rattle.tk_trail.proofs.SaysLemmas.{ends_in}
 use Rattle.tk_trail.proofs.SendsLemmas.{Sends, sends, last_entry}
 use Rattle.tk_trail.proofs.SendsLemmas.Sends.{Answered, Gathered, Reported, Ended}
 use Rattle.tk_base.specs.History.{EachFrom}
 use Rattle.tk_base.proofs.HistoryLemmas.{each_at, each_front}
+use Rattle.tk_base.proofs.OptionLemmas.{unmapped, if_none, first_or}
+use Rattle.tk_base.proofs.MemberLemmas.{contained_is_in, length-objects}
 
 -- ---- values and changes
 
 pub small_values : (setup : MonitorSetup) (trail : List Entry) (o : ℕ) → IsSetup setup → unsigned_abs (value_of_object setup trail o) ≤ 2 ^ 100
 small_values setup trail o h = let a = value-small setup h trail o in let w = h.parts.weights o in omega (arith, a, w)
-
-mapped_none : {X Y : Type 0} (g : X → Y) (o : Option X) → option_map g o ≡ None → o ≡ None
-mapped_none g None none = refl
-mapped_none g (Some x) none = cc
-
-first_or : (b : Bool) (x : ℕ × ℤ) (rest : Option (ℕ × ℤ)) → cond b (Some x) rest ≡ None → (b ≡ false) × (rest ≡ None)
-first_or true x rest none = cc
-first_or false x rest none = (refl, none)
 
 none_bad : (p : ℕ × ℤ → Bool) (xs : List (ℕ × ℤ)) → find p xs ≡ None → (c : ℕ × ℤ) → Contains xs c → p c ≡ false
 none_bad p [] none c (k, below, is) = absurd (omega (arith, below))
@@ -56,7 +48,7 @@ none_bad p (x ∷ xs) none c (suc k, below, is) = none_bad p xs (first_or (p x) 
 -- changes of which none is bad
 pub good_changes : (setup : MonitorSetup) (changes : List (ℕ × ℤ)) → option_map (λ (change : ℕ × ℤ). BadChange (record { 0 = change.0 })) (find (is_bad_change setup.objects) changes) ≡ None → AreWithinLimits setup changes
 good_changes setup changes none c in' =
-    let good = none_bad (is_bad_change setup.objects) changes (mapped_none (λ (change : ℕ × ℤ). BadChange (record { 0 = change.0 })) (find (is_bad_change setup.objects) changes) none) c in' in
+    let good = none_bad (is_bad_change setup.objects) changes (unmapped (λ (change : ℕ × ℤ). BadChange (record { 0 = change.0 })) (find (is_bad_change setup.objects) changes) none) c in' in
     let both = or_parts (nat_lt setup.objects c.0) (nat_lt (2 ^ 112) (unsigned_abs c.1)) good in
     (ltb-false setup.objects c.0 both.0, ltb-false (2 ^ 112) (unsigned_abs c.1) both.1)
 
@@ -118,10 +110,6 @@ less_filtered p (x ∷ xs) = let h = less_filtered p xs in elim (p x) as (λ b. 
   | false ↦ omega (arith, h)
 ]
 
-catalogue_few : (n : ℕ) → length (objects n) ≡ n
-unfolding objects
-catalogue_few n = length-range_with_len 1 n
-
 failed_few : (setup : MonitorSetup) (x : List Entry) → length (broken_at setup x) ≤ setup.objects
 unfolding broken_at
 failed_few setup x =
@@ -129,14 +117,14 @@ failed_few setup x =
     let members = members_at x in
     let a = less_filtered (λ o. is_above (least_member levels members) (level_at levels o)) (outside (length levels) members) in
     let b = less_filtered (λ o. not (is_in members o)) (objects (length levels)) in
-    let c = catalogue_few (length levels) in
+    let c = length-objects (length levels) in
     let d = length-levels_of setup x in
     omega (arith, a, b, c, d)
 
 asked_few : (setup : MonitorSetup) (x : List Entry) → length (resolution_at setup x) ≤ setup.objects
 asked_few setup x =
     let a = less_filtered (λ o. is_in (members_at x) o || is_in (broken_at setup x) o) (objects setup.objects) in
-    let b = catalogue_few setup.objects in
+    let b = length-objects setup.objects in
     omega (arith, a, b)
 
 values_few : (setup : MonitorSetup) (x : List Entry) (asked : List ℕ) → length (values_over setup x asked) ≡ length asked

@@ -1,34 +1,19 @@
 -- Something is broken exactly where the slack is negative.
 use Rattle.std.proofs.Common.{◌≡◌, ℕ, suc, Bool, true, false, ◌||◌, cond, List, [], ◌∷◌, length, map, Option, Some, None, refl, sym, ap, ◌∙◌, arith}
-use Rattle.std.specs.Prelude.{ℤ, pos, ◌-ℤ◌, ◌<ℤ◌, ◌≤ℤ◌, int_lt, fold, filter, nat_lt}
-use Rattle.std.specs.Int.{int_max}
+use Rattle.std.specs.Prelude.{ℤ, pos, ◌-ℤ◌, ◌<ℤ◌, int_lt, fold, filter, nat_lt}
 use Rattle.std.specs.Ordering.{int_cmp, is_lt}
-use Rattle.std.specs.declared.cmp.Ordering.TheVariants.{Less, Equal, Greater}
 use Rattle.std.proofs.Math.Bool.{or-false}
 use Rattle.std.proofs.lemmas.Bool.{lt-ltb}
 use Rattle.std.proofs.lemmas.Int.{ints, by_lt_z}
+use Rattle.tk_base.proofs.CompareLemmas.{lt_is, ge_is, lt-cmp, max_over}
 use Rattle.tk_border.specs.Levels.{level_at, raised, greatest_of, least_member, greatest_outside, outside, broken, is_above}
 use Rattle.tk_trail.specs.Setup.{MonitorSetup}
 use Rattle.tk_trail.specs.Readings.{levels_of, members_at, broken_at, is_broken}
 use Rattle.tk_trail.specs.Slack.{difference, slack_of}
 use Rattle.tk_trail.specs.declared.entry.Entry.{Entry}
 
-pub lt_is : (a b : ℤ) → a <ℤ b → int_lt a b ≡ true
-lt_is a b h = grind (arith, ints)
-
-pub ge_is : (a b : ℤ) → b ≤ℤ a → int_lt a b ≡ false
-ge_is a b h = grind (arith, ints)
-
 pub below_is : (a b : ℤ) → int_lt a b ≡ true → a <ℤ b
 below_is a b is = by_lt_z a b (λ below. below) (λ above. absurd (let e = ge_is a b above in cc))
-
-cmp_lt : (b c : Bool) → is_lt (cond b Less (cond c Greater Equal)) ≡ b
-cmp_lt true c = refl
-cmp_lt false true = refl
-cmp_lt false false = refl
-
-pub lt-cmp : (x y : ℤ) → is_lt (int_cmp x y) ≡ int_lt x y
-lt-cmp x y = cmp_lt (int_lt x y) (int_lt y x)
 
 or_true_left : (a b : Bool) → a ≡ true → a ≡ (a || b)
 or_true_left true b is = refl
@@ -42,19 +27,6 @@ or_false_right : (a b : Bool) → b ≡ false → a ≡ (a || b)
 or_false_right true b is = refl
 or_false_right false b is = sym is
 
--- a number is below the greater of two where it is below one of them
-pub max_above : (x a y : ℤ) → int_lt x (int_max a y) ≡ (int_lt x a || int_lt x y)
-max_above x a y =
-    by_lt_z y a
-    (λ below.
-    ap (λ b. int_lt x (cond b a y)) (lt_is y a below)
-    ∙ by_lt_z x a (λ h. or_true_left (int_lt x a) (int_lt x y) (lt_is x a h))
-    (λ h. or_false_right (int_lt x a) (int_lt x y) (ge_is x y (omega (arith, ints)))))
-    (λ above.
-    ap (λ b. int_lt x (cond b a y)) (ge_is y a above)
-    ∙ by_lt_z x a (λ h. lt_is x y (omega (arith, ints)) ∙ sym (sym (or_true_left (int_lt x a) (int_lt x y) (lt_is x a h)) ∙ lt_is x a h))
-    (λ h. or_false_left (int_lt x a) (int_lt x y) (ge_is x a h)))
-
 -- some number of a list is above x where its greatest is
 pub exceeds : ℤ → Option ℤ → Bool
 exceeds x None = false
@@ -63,7 +35,7 @@ exceeds x (Some g) = int_lt x g
 exceeds_more : (x : ℤ) (best : Option ℤ) (y : ℤ) → exceeds x (raised best y) ≡ (exceeds x best || int_lt x y)
 unfolding exceeds
 exceeds_more x None y = refl
-exceeds_more x (Some a) y = max_above x a y
+exceeds_more x (Some a) y = max_over x a y
 
 or_regroup : (a b c : Bool) → (a || (b || c)) ≡ ((a || b) || c)
 or_regroup true b c = refl
@@ -96,7 +68,8 @@ unfolding exceeds
 exceeds_slack x None = refl
 exceeds_slack x (Some g) = shifted x g
 
-none_kept : (h : ℕ → ℤ) (os : List ℕ) → filter (λ o. is_above None (h o)) os ≡ []
+-- no object is above nothing
+pub none_kept : (h : ℕ → ℤ) (os : List ℕ) → filter (λ o. is_above None (h o)) os ≡ []
 none_kept h [] = refl
 none_kept h (o ∷ os) = none_kept h os
 

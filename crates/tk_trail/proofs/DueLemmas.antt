@@ -3,6 +3,7 @@ use Rattle.tk_frames.specs.declared.frame.Frame.TheVariants as f
 use Rattle.std.proofs.Common.{◌≡◌, ℕ, ◌&&◌, ◌||◌, Bool, true, false, not, List, [], ◌∷◌, ◌++◌, Some, None, refl, sym, ap, ◌∙◌, subst}
 use Rattle.std.specs.Prelude.{is_some, nat_lt, if◌then◌else◌}
 use Rattle.std.proofs.lemmas.Bool.{or_right, and_parts, not-true}
+use Rattle.std.proofs.Math.Bool.{or-false}
 use Rattle.tk_frames.specs.declared.frame.Frame.{Frame}
 use Rattle.tk_trail.specs.Setup.{MonitorSetup}
 use Rattle.tk_trail.specs.Readings.{seq_of, at_ends, is_broken, is_reported, is_end_told, is_report, is_end}
@@ -105,13 +106,9 @@ due_kept setup t t' same seq reported told =
     ∙ ap (λ b. due_by (nat_lt 0 (seq_of t)) (is_reported t) (is_broken setup t) (at_ends setup t) b) told
     ∙ sym (due_is setup t)
 
-or_false : (a : Bool) → (a || false) ≡ a
-or_false true = refl
-or_false false = refl
-
 values_quiet : (setup : MonitorSetup) (x : List Entry) (round : ℕ) (asked : List ℕ) (t : List Entry) → (is_reported (t ++ Sent (values_at setup x round asked) ∷ []) ≡ is_reported t) × (is_end_told (t ++ Sent (values_at setup x round asked) ∷ []) ≡ is_end_told t)
 unfolding values_at
-values_quiet setup x round asked t = (reported-sent t (values_at setup x round asked) ∙ or_false (is_reported t), told-sent t (values_at setup x round asked) ∙ or_false (is_end_told t))
+values_quiet setup x round asked t = (reported-sent t (values_at setup x round asked) ∙ or-false (is_reported t), told-sent t (values_at setup x round asked) ∙ or-false (is_end_told t))
 
 -- a taken Collect with its Values, and a taken Stop
 pub after_collect : (setup : MonitorSetup) (t : List Entry) (round : ℕ) (asked : List ℕ)

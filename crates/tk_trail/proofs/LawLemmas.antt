@@ -20,8 +20,9 @@ use Rattle.tk_trail.specs.declared.entry.Entry.{Entry}
 use Rattle.tk_trail.specs.declared.entry.Entry.TheVariants.{Raised, Took, Sent}
 use Rattle.tk_trail.specs.declared.refusal.MonitorRefusal.TheVariants.{WrongSequence}
 use Rattle.tk_base.proofs.HistoryLemmas.{each_front, each_at}
+use Rattle.tk_base.proofs.OptionLemmas.{if_none}
 use Rattle.tk_trail.proofs.BrokenLemmas.{is_broken-slack}
-use Rattle.tk_trail.proofs.LegalLemmas.{not_refused, if_none, IsAtRest, legal_told}
+use Rattle.tk_trail.proofs.LegalLemmas.{not_refused, IsAtRest, legal_told}
 use Rattle.tk_trail.proofs.ReadingsLemmas.{stopped-stop, reported-assign, owed-push}
 use Rattle.tk_trail.proofs.SlackLemmas.{calm_within, places_rise}
 

@@ -22,14 +22,12 @@ use Rattle.tk_trail.specs.declared.entry.Entry.{Entry}
 use Rattle.tk_trail.specs.declared.entry.Entry.TheVariants.{Raised, Took, Sent}
 use Rattle.tk_trail.specs.declared.refusal.MonitorRefusal.TheVariants.{AfterStop, EarlyStop, WrongSequence, BadMembers, BadChange}
 use Rattle.tk_base.proofs.HistoryLemmas.{each_push, each_carries}
+use Rattle.tk_base.proofs.BoolLemmas.{ruled_out}
+use Rattle.tk_base.proofs.OptionLemmas.{if_none}
+use Rattle.tk_frames.proofs.AssignsLemmas.{members_of-push}
 use Rattle.tk_trail.proofs.PlacesLemmas.{length-places_at, places_at-raised, places_at-took, places_at-sent, places_at-start}
-use Rattle.tk_trail.proofs.LevelsLemmas.{Same, same-took, same-sent, ends-same, is_broken-same, members_of-push}
+use Rattle.tk_trail.proofs.LevelsLemmas.{Same, same-took, same-sent, ends-same, is_broken-same}
 use Rattle.tk_trail.proofs.ReadingsLemmas.{assigns_of-other, assigns_of-assign, assigns_of-raised, assigns_of-sent, told-raised, told-assign, told-collect, told-stop, told-sent, stopped-raised, stopped-took, stopped-sent, owed-push}
-
--- a choice that gives nothing did not take its first way
-pub if_none : {X : Type 0} (b : Bool) (x : X) (r : Option X) → (if b then Some x else r) ≡ None → (b ≡ false) × (r ≡ None)
-if_none true x r none = cc
-if_none false x r none = (refl, none)
 
 -- a frame that meets no refusal comes before Stop, and passes the tests of its kind
 pub not_refused : (setup : MonitorSetup) (trail : List Entry) (frame : Frame) → refusal_of setup trail frame ≡ None → (is_stopped trail ≡ false) × (refusal_of_kind (shown_by setup trail) frame ≡ None)
@@ -158,16 +156,12 @@ legal_push setup trail e legal allowed none = record {
   answered = owed-push setup trail e ∙ none;
 }
 
-running : (b : Bool) → {c : Bool} → c ≡ b → (c ≡ true → ⊥) → c ≡ false
-running true is halts = absurd (halts is)
-running false is halts = is
-
 -- a part that goes on may be raised
 pub legal_raised : (setup : MonitorSetup) → length setup.from ≡ length setup.parts → (trail : List Entry) (feeder : Feeder) → IsLegal setup trail → HasNext setup trail feeder.0 → IsLegal setup (trail ++ Raised feeder ∷ [])
 legal_raised setup shape trail feeder legal next =
     let told = legal_told setup shape trail legal.each in
     legal_push setup trail (Raised feeder) legal
-    (legal.answered, running (is_stopped trail) refl (λ stop. not_at_ends setup trail feeder.0 (length-places_at setup trail ∙ shape) next (told.rest (told.stop stop)).ends), next)
+    (legal.answered, ruled_out (is_stopped trail) refl (λ stop. not_at_ends setup trail feeder.0 (length-places_at setup trail ∙ shape) next (told.rest (told.stop stop)).ends), next)
     refl
 
 -- what is due may be sent
@@ -181,7 +175,7 @@ pub due_running : (setup : MonitorSetup) → length setup.from ≡ length setup.
 unfolding due_at
 due_running setup shape trail sent legal due =
     let told = legal_told setup shape trail legal.each in
-    running (is_stopped trail) refl (λ stop. due_not_told setup trail (report_is_due setup trail) (end_is_due setup trail) sent refl refl due (λ is. (told.rest is).calm) (told.stop stop))
+    ruled_out (is_stopped trail) refl (λ stop. due_not_told setup trail (report_is_due setup trail) (end_is_due setup trail) sent refl refl due (λ is. (told.rest is).calm) (told.stop stop))
 
 pub legal_sent : (setup : MonitorSetup) → length setup.from ≡ length setup.parts → (trail : List Entry) (sent : Frame) → IsLegal setup trail → due_at setup trail ≡ Some sent → IsLegal setup (trail ++ Sent sent ∷ [])
 legal_sent setup shape trail sent legal due =

@@ -4,7 +4,6 @@ use Rattle.std.specs.Prelude.{ℤ, pos, ◌+ℤ◌, unsigned_abs, slice_get, unw
 use Rattle.std.specs.List.{list_all, zip}
 use Rattle.std.proofs.lemmas.Int.{ints}
 use Rattle.std.proofs.lemmas.List.FromFn.{length-map-range_with_len, get_or-map-range_with_len}
-use Rattle.std.proofs.lemmas.List.Sums.{fold_push}
 use Rattle.tk_base.specs.Objects.{objects}
 use Rattle.tk_base.specs.Pairs.{value_at}
 use Rattle.tk_base.specs.declared.ids.Feeder.{Feeder}
@@ -13,6 +12,7 @@ use Rattle.tk_frames.specs.declared.frame.Frame.TheVariants as f
 use Rattle.tk_input.specs.Logs.{value_of, weight_of}
 use Rattle.tk_border.specs.Levels.{broken, border, level_at}
 use Rattle.tk_frames.specs.Assigns.{Assign, row, members_of}
+use Rattle.tk_frames.proofs.AssignsLemmas.{row-push}
 use Rattle.tk_trail.specs.Setup.{MonitorSetup, IsSetup}
 use Rattle.tk_trail.specs.Readings.{assigns_of, seq_of, members_at, places_at, at_ends, value_of_object, level_of, values_of, levels_of, broken_at, is_broken}
 use Rattle.tk_trail.specs.Frames.{values_at, values_over, border_over}
@@ -130,13 +130,6 @@ levels-raised setup trail feeder c shape next got low high =
     let own : level_of setup (trail ++ Raised feeder ∷ []) c.0 ≡ level_at (levels_of setup trail) c.0 +ℤ c.1 = omega (arith, ints, level-raised setup trail feeder c shape next got c.0, level_at-levels_of setup trail c.0 low high, share_own c) in
     levels-one setup trail (trail ++ Raised feeder ∷ []) c.0 low high (λ q apart. omega (arith, ints, level-raised setup trail feeder c shape next got q, share_none q c apart))
     ∙ ap (λ (z : ℤ). set (levels_of setup trail) (c.0 - 1) z) own
-
--- an Assign gives factors to the objects that it names
-pub row-push : (assigns : List Assign) (assign : Assign) (o : ℕ) → row (assigns ++ assign ∷ []) o ≡ unwrap_or (value_at assign.changes o) (row assigns o)
-row-push assigns assign o = fold_push (λ factor (a : Assign). unwrap_or (value_at a.changes o) factor) (pos 0) assigns assign
-
-pub members_of-push : (assigns : List Assign) (assign : Assign) → members_of (assigns ++ assign ∷ []) ≡ assign.members
-members_of-push assigns assign = fold_push (λ (_ : List ℕ) (a : Assign). a.members) [] assigns assign
 
 pub level-assign : (setup : MonitorSetup) (trail : List Entry) (seq : ℕ) (members : List ℕ) (changes : List (ℕ × ℤ)) (o : ℕ) → level_of setup (trail ++ Took (f.Assign seq members changes) ∷ []) o ≡ value_of_object setup trail o +ℤ unwrap_or (value_at changes o) (row (assigns_of trail) o)
 unfolding level_of value_of_object

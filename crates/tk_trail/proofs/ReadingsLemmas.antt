@@ -1,5 +1,5 @@
 -- Readings of a trail, and what one more entry does to them.
-use Rattle.std.proofs.Common.{◌≡◌, ℕ, ◌+◌, ℤ, Bool, true, false, ◌||◌, List, [], ◌∷◌, ◌++◌, length, Option, Some, None, refl, ap, ◌∙◌, append-nil}
+use Rattle.std.proofs.Common.{◌≡◌, ℕ, ◌+◌, ℤ, Bool, true, false, ◌||◌, List, [], ◌∷◌, ◌++◌, length, Option, Some, None, refl, ap, ◌∙◌, append-nil, ◌-◌}
 use Rattle.std.specs.Prelude.{filter_map}
 use Rattle.std.specs.List.{list_any}
 use Rattle.std.proofs.lemmas.List.Sums.{fold_push}
@@ -16,6 +16,7 @@ use Rattle.tk_trail.specs.Readings.{taken_in, sent_in, taken_by, sent_by, assign
 use Rattle.tk_trail.specs.Frames.{owed_at, owed_after}
 use Rattle.tk_trail.specs.declared.entry.Entry.{Entry}
 use Rattle.tk_trail.specs.declared.entry.Entry.TheVariants.{Raised, Took, Sent}
+use Rattle.tk_trail.specs.Legal.{with_answer}
 
 -- an entry more
 pub taken_by-raised : (trail : List Entry) (feeder : Feeder) → taken_by (trail ++ Raised feeder ∷ []) ≡ taken_by trail
@@ -140,3 +141,8 @@ stopped-stop trail = any_push is_stop trail (Took f.Stop) ∙ or-true (is_stoppe
 pub owed-push : (setup : MonitorSetup) (trail : List Entry) (e : Entry) → owed_at setup (trail ++ e ∷ []) ≡ owed_after setup (trail ++ e ∷ []) (Some e)
 unfolding owed_at
 owed-push setup trail e = ap (λ last. owed_after setup (trail ++ e ∷ []) last) (fold_push (λ (_ : Option Entry) (x : Entry). Some x) None trail e)
+
+-- an answer that is sent takes nothing
+pub answer_taken : (trail : List Entry) (answer : Option Frame) → taken_by (with_answer trail answer) ≡ taken_by trail
+answer_taken trail None = refl
+answer_taken trail (Some g) = taken_by-sent trail g

@@ -7,6 +7,7 @@ use Rattle.std.proofs.lemmas.Bool.{cases_Bool, false≢true, true≢false}
 use Rattle.std.proofs.lemmas.List.{length-append, length-map}
 use Rattle.std.proofs.lemmas.List.Folds.{list_any-append}
 use Rattle.std.proofs.lemmas.Grind.{same_number_lists}
+use Rattle.std.proofs.Math.Bool.{or-true}
 use Rattle.tk_base.specs.History.{EachFrom}
 use Rattle.tk_base.proofs.HistoryLemmas.{each_front}
 use Rattle.tk_frames.specs.declared.frame.Frame.{Frame}
@@ -163,16 +164,13 @@ free_before setup x g shape each (Gathered r asked last e) no_values = absurd (n
 free_before setup x g shape each (Reported unowed free broken e) no_values = record { reported = free; told = not_told setup x shape each broken }
 free_before setup x g shape each (Ended unowed free calm ends told e) no_values = record { reported = free; told = told }
 
-same_count : (x y : List Entry) → seq_of (x ++ y) ≡ seq_of x → assigns_of y ≡ []
+-- where no number follows no Assign does
+pub same_count : (x y : List Entry) → seq_of (x ++ y) ≡ seq_of x → assigns_of y ≡ []
 same_count x y same = nothing (assigns_of y) (let a = ap (λ (xs : List Rattle.tk_frames.specs.Assigns.Assign). length xs) (assigns_of-append x y) in let b = length-append (assigns_of x) (assigns_of y) in omega (arith, a, b, same))
-
-or_right_true : (b : Bool) → (b || true) ≡ true
-or_right_true true = refl
-or_right_true false = refl
 
 any_since : (p : Entry → Bool) (x y : List Entry) (g : Frame) → seq_of (x ++ Sent g ∷ y) ≡ seq_of x → p (Sent g) ≡ true → list_any p (since_assign (x ++ Sent g ∷ y)) ≡ true
 any_since p x y g same is =
-    ap (λ es. list_any p es) (since-more x (Sent g ∷ y) (same_count x (Sent g ∷ y) same)) ∙ list_any-append p (since_assign x) (Sent g ∷ y) ∙ ap (λ b. list_any p (since_assign x) || (b || list_any p y)) is ∙ or_right_true (list_any p (since_assign x))
+    ap (λ es. list_any p es) (since-more x (Sent g ∷ y) (same_count x (Sent g ∷ y) same)) ∙ list_any-append p (since_assign x) (Sent g ∷ y) ∙ ap (λ b. list_any p (since_assign x) || (b || list_any p y)) is ∙ or-true (list_any p (since_assign x))
 
 pub reported_since : (x y : List Entry) (g : Frame) → seq_of (x ++ Sent g ∷ y) ≡ seq_of x → is_report (Sent g) ≡ true → is_reported (x ++ Sent g ∷ y) ≡ true
 reported_since x y g same is = any_since is_report x y g same is

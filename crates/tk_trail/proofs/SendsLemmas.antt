@@ -17,6 +17,7 @@ use Rattle.tk_trail.specs.Legal.{Allowed, IsLegal, to_send}
 use Rattle.tk_trail.specs.declared.entry.Entry.{Entry}
 use Rattle.tk_trail.specs.declared.entry.Entry.TheVariants.{Raised, Took, Sent}
 use Rattle.std.proofs.Math.Bool.{or-false}
+use Rattle.tk_base.proofs.BoolLemmas.{neither_right}
 use Rattle.tk_trail.specs.Refusal.{refusal_of}
 use Rattle.tk_trail.proofs.LegalLemmas.{IsTold, told_goes, not_refused}
 use Rattle.tk_trail.proofs.LawLemmas.{assigns_of-append}
@@ -53,17 +54,13 @@ pub nothing : (xs : List Assign) → length xs ≡ 0 → xs ≡ []
 nothing [] e = refl
 nothing (x ∷ xs) e = absurd (omega (arith, e))
 
-or_right : (a b : Bool) → (a || b) ≡ false → b ≡ false
-or_right true b none = absurd (true≢false none)
-or_right false b none = none
-
 -- where the same number of Assigns was taken in front of it, and nothing was raised since the last of them
 pub speaks_now : (setup : MonitorSetup) (x z : List Entry) → seq_of (x ++ z) ≡ seq_of x → is_still (x ++ z) ≡ true → Same setup x (x ++ z)
 speaks_now setup x z same still =
     let parts = assigns_of-append x z in
     let none : assigns_of z ≡ [] = nothing (assigns_of z) (let a = ap (λ (xs : List Assign). length xs) parts in let b = length-append (assigns_of x) (assigns_of z) in omega (arith, a, b, same)) in
     let quiet : list_any is_raise z ≡ false =
-    or_right (list_any is_raise (since_assign x)) (list_any is_raise z) (sym (list_any-append is_raise (since_assign x) z) ∙ ap (list_any is_raise) (sym (since-more x z none)) ∙ not-true (list_any is_raise (since_assign (x ++ z))) still) in
+    neither_right (list_any is_raise (since_assign x)) (list_any is_raise z) (sym (list_any-append is_raise (since_assign x) z) ∙ ap (list_any is_raise) (sym (since-more x z none)) ∙ not-true (list_any is_raise (since_assign (x ++ z))) still) in
     record {
       places = sym (places_stay setup x z quiet);
       assigns = sym (parts ∙ ap (λ (xs : List Assign). assigns_of x ++ xs) none ∙ append-nil (assigns_of x));

@@ -15,10 +15,13 @@ use Rattle.tk_trail.specs.Readings.{raised_of, is_raise_of, places_at, assigns_o
 use Rattle.tk_trail.specs.Slack.{sizes, sizes_between, moved_between, slack_of, difference, IsWithinSlack}
 use Rattle.tk_trail.specs.declared.entry.Entry.{Entry}
 use Rattle.std.proofs.lemmas.List.{get_or_past}
+use Rattle.tk_base.proofs.OptionLemmas.{some_is}
+use Rattle.tk_base.proofs.ListLemmas.{contained_behind}
+use Rattle.tk_base.proofs.SumLemmas.{int_sum-cons}
+use Rattle.tk_input.proofs.SumLemmas.{sum_for-size}
 use Rattle.tk_trail.proofs.LevelsLemmas.{length-levels_of, level_at-levels_of}
 use Rattle.tk_trail.proofs.BrokenLemmas.{below_is, is_negative}
-use Rattle.tk_trail.proofs.ValuesLemmas.{sum_for-cons, weight_for-cons, share_small}
-use Rattle.tk_input.proofs.SumLemmas.{int_sum-cons}
+use Rattle.tk_trail.proofs.ValuesLemmas.{sum_for-cons, weight_for-cons}
 
 -- the least and the greatest of a mapped list: reached, and a bound
 pub record Reached (h : ℕ → ℤ) (os : List ℕ) (x : ℤ) : Type 0 where
@@ -26,17 +29,11 @@ pub record Reached (h : ℕ → ℤ) (os : List ℕ) (x : ℤ) : Type 0 where
   pub one : Contains os object
   pub level : h object ≡ x
 
-there : (o q : ℕ) (os : List ℕ) → Contains os q → Contains (o ∷ os) q
-there o q os (k, within, is) = (suc k, omega arith, is)
-
 later : (h : ℕ → ℤ) (o : ℕ) (os : List ℕ) (x : ℤ) → Reached h os x → Reached h (o ∷ os) x
-later h o os x at = record { object = at.object; one = there o at.object os at.one; level = at.level }
+later h o os x at = record { object = at.object; one = contained_behind o at.object os at.one; level = at.level }
 
 first : (h : ℕ → ℤ) (o : ℕ) (os : List ℕ) (x : ℤ) → h o ≡ x → Reached h (o ∷ os) x
 first h o os x is = record { object = o; one = (0, omega arith, refl); level = is }
-
-some_is : (a g : ℤ) → Some a ≡ Some g → a ≡ g
-some_is a g is = cc
 
 chosen : (b : Bool) (a y g : ℤ) → Some (cond b a y) ≡ Some g → (a ≡ g) ⊎ (y ≡ g)
 chosen true a y g is = inl (cc)
@@ -123,10 +120,6 @@ sum_split o [] (suc a) (suc b) below = omega (arith, ints)
 sum_split o (x ∷ xs) (suc a) zero below = absurd (omega arith)
 sum_split o (x ∷ xs) (suc a) (suc b) below = omega (arith, ints, sum_for-cons o x (take b xs), sum_for-cons o x (take a xs), sum_split o xs a b (omega arith))
 
-sum_small : (o : ℕ) (xs : List (ℕ × ℤ)) → unsigned_abs (sum_for o xs) ≤ weight_for o xs
-sum_small o [] = omega (arith, ints)
-sum_small o (x ∷ xs) = omega (arith, ints, sum_for-cons o x xs, weight_for-cons o x xs, sum_small o xs, share_small (x.0 == o) x.1)
-
 one_of_two : (a b : Bool) (w : ℕ) → (a ≡ true → b ≡ true → ⊥) → cond a w 0 + cond b w 0 ≤ w
 one_of_two true true w apart = absurd (apart refl refl)
 one_of_two true false w apart = omega arith
@@ -172,7 +165,7 @@ value_drift (part ∷ parts) (a ∷ earlier) (b ∷ later) o rise =
       int_sum-cons (sum_for o (take a part)) (map (λ (p : List (ℕ × ℤ) × ℕ). sum_for o (take p.1 p.0)) (zip parts earlier)),
       sum_by-cons (λ (p : List (ℕ × ℤ) × (ℕ × ℕ)). weight_for o (drop p.1.0 (take p.1.1 p.0))) (part, (a, b)) (zip parts (zip earlier later)),
       sum_split o part a b (rise.each 0),
-      sum_small o (drop a (take b part)),
+      sum_for-size o (drop a (take b part)),
       value_drift parts earlier later o (rise_tail a b earlier later rise),
     )
 

@@ -5,8 +5,8 @@ use Rattle.std.specs.List.{zip}
 use Rattle.std.proofs.lemmas.Int.{ints}
 use Rattle.std.proofs.lemmas.List.Sums.{sum_by-cons}
 use Rattle.tk_base.specs.Sum.{int_sum}
+use Rattle.tk_base.proofs.SumLemmas.{int_sum-cons}
 use Rattle.tk_input.specs.Logs.{sum_for, value_of, weight_for}
-use Rattle.tk_input.proofs.SumLemmas.{int_sum-cons}
 
 -- what one change adds to the sum for an object
 abbrev pub share_of : ℕ → ℕ × ℤ → ℤ

@@ -4,6 +4,7 @@ use Rattle.std.specs.Prelude.{IsTrue, slice_get}
 use Rattle.std.proofs.lemmas.Bool.{cases_lt, false≢true}
 use Rattle.std.proofs.lemmas.List.{length-append}
 use Rattle.std.proofs.lemmas.Option.{same_Some}
+use Rattle.tk_base.proofs.ListLemmas.{get_behind, take_next}
 use Rattle.tk_verify.specs.Driving.{GoesOn, IsDriven, Leads}
 use Rattle.tk_verify.specs.Faults.{IsFirstFault, IsFrontOf}
 use Rattle.tk_story.proofs.JoiningLemmas.{take-all}
@@ -12,10 +13,6 @@ use Rattle.tk_story.proofs.JoiningLemmas.{take-all}
 
 one_more : {A : Type 0} (xs : List A) (e : A) (rest : List A) → (xs ++ e ∷ []) ++ rest ≡ xs ++ e ∷ rest
 one_more xs e rest = append_assoc xs (e ∷ []) rest
-
-get_behind : {A : Type 0} (xs : List A) (e : A) (rest : List A) → slice_get (xs ++ e ∷ rest) (length xs) ≡ Some e
-get_behind [] e rest = refl
-get_behind (x ∷ xs) e rest = get_behind xs e rest
 
 get_front : {A : Type 0} (xs more : List A) (n : ℕ) (e : A) → n < length xs → slice_get (xs ++ more) n ≡ Some e → slice_get xs n ≡ Some e
 get_front [] more n e less at = absurd (omega (arith, less))
@@ -26,11 +23,6 @@ pub get_within : {A : Type 0} (xs : List A) (n : ℕ) (e : A) → slice_get xs n
 get_within [] n e at = absurd (cc)
 get_within (x ∷ xs) zero e at = omega arith
 get_within (x ∷ xs) (suc n) e at = let h = get_within xs n e at in omega (arith, h)
-
-take_next : {A : Type 0} (xs : List A) (n : ℕ) (e : A) → slice_get xs n ≡ Some e → take (suc n) xs ≡ take n xs ++ e ∷ []
-take_next [] n e at = absurd (cc)
-take_next (x ∷ xs) zero e at = ap (λ y. y ∷ []) (same_Some x e at)
-take_next (x ∷ xs) (suc n) e at = ap (λ ys. x ∷ ys) (take_next xs n e at)
 
 take_to : {A : Type 0} (xs : List A) (n : ℕ) (e : A) → slice_get xs n ≡ Some e → take (n + 1) xs ≡ take n xs ++ e ∷ []
 take_to xs n e at = ap (λ k. take k xs) (let is : n + 1 ≡ suc n = omega arith in is) ∙ take_next xs n e at

@@ -1,5 +1,5 @@
 -- What a coordinator does where an entry of a journal is handed in.
-use Rattle.std.proofs.Common.{◌≡◌, ℕ, ◌≤◌, List, [], ◌∷◌, ◌++◌, length, Option, None, Result, Ok, Err, true, false, refl, sym, ap, ◌∙◌, subst, arith, inl, inr, append_assoc, append-nil}
+use Rattle.std.proofs.Common.{◌≡◌, ℕ, ◌≤◌, List, [], ◌∷◌, ◌++◌, length, Option, None, Result, Ok, Err, true, false, refl, sym, ap, ◌∙◌, subst, arith, inl, inr}
 use Rattle.std.specs.Prelude.{ℤ, pos, OnOk}
 use Rattle.std.proofs.lemmas.Bool.{false≢true}
 use Rattle.tk_base.specs.Settings.{Setup}
@@ -15,7 +15,7 @@ use Rattle.tk_journal.specs.declared.refusal.CoordRefusal.TheVariants as c
 use Rattle.tk_journal.specs.declared.refusal.RetuneRefusal.{RetuneRefusal}
 use Rattle.tk_journal.specs.declared.refusal.RetuneRefusal.TheVariants as r
 use Rattle.tk_journal.specs.declared.noted.Noted.TheVariants as n
-use Rattle.tk_journal.proofs.WholeLemmas.{inputs-append, opened_legal, played-append, stands_whole, turn_is}
+use Rattle.tk_journal.proofs.WholeLemmas.{inputs-append, opened_legal, played-append, stands_whole, turn_is, begins_beyond, behind_front}
 use Rattle.tk_story.proofs.JoiningLemmas.{opens_it}
 use Rattle.tk_verify.specs.Driving.{IsDriven, Leads}
 use Rattle.tk_verify.proofs.FrontLemmas.{driven_fresh, goes_on_front, more_leads, still_leads}
@@ -25,17 +25,6 @@ use Rattle.tk_verify.proofs.FrontLemmas.{driven_fresh, goes_on_front, more_leads
 accepted_rest : (s : Setup) (before inputs more : List Noted) → AreAccepted s before (inputs ++ more) → AreAccepted s (played_from s before inputs) more
 accepted_rest s before [] more each = each
 accepted_rest s before (first ∷ inputs) more each = accepted_rest s (before ++ turn_of s before first) inputs more each.1
-
-begins_beyond : (s : Setup) (before inputs : List Noted) → AreAccepted s before inputs → (rest : List Noted) × (played_from s before inputs ≡ before ++ rest) × BeginsWithInput rest
-begins_beyond s before [] each = ([], sym (append-nil before), tt)
-begins_beyond s before (input ∷ inputs) each =
-    let b = begins_beyond s (before ++ turn_of s before input) inputs each.1 in
-    let t = turn_is s before input each.0 in
-    (input ∷ (t.rest ++ b.0), b.1 ∙ append_assoc before (turn_of s before input) b.0 ∙ ap (λ xs. before ++ (xs ++ b.0)) t.is, t.kind)
-
-behind_front : (xs a b : List Noted) → xs ++ a ≡ xs ++ b → a ≡ b
-behind_front [] a b is = is
-behind_front (x ∷ xs) a b is = let e : xs ++ a ≡ xs ++ b = cc in behind_front xs a b e
 
 behind_is_input : (o : Opening) (j : List Noted) (e : Noted) (rest : List Noted) → IsLegal o j → IsLegal o (j ++ e ∷ rest) → is_input e ≡ true
 behind_is_input o j e rest legal whole =

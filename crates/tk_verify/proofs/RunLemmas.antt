@@ -10,9 +10,10 @@ use Rattle.std.proofs.lemmas.List.{length-append, length-map, map-append}
 use Rattle.std.proofs.lemmas.Simd.{map-map}
 use Rattle.std.proofs.lemmas.List.FromFn.{length-range_with_len}
 use Rattle.tk_base.specs.Settings.{IsWithinLimits, Setup}
-use Rattle.tk_border.proofs.RisingLemmas.{range-append}
+use Rattle.tk_base.proofs.ListLemmas.{take_next}
 use Rattle.tk_coord.specs.Coordinator.{CoordinatorView}
 use Rattle.tk_input.specs.Logs.{AreLogs, LogSet}
+use Rattle.tk_border.proofs.RisingLemmas.{counted_more}
 use Rattle.tk_journal.specs.Legal.{IsLegal, start}
 use Rattle.tk_journal.specs.Readings.{monitors}
 use Rattle.tk_journal.specs.declared.noted.Noted.{Noted}
@@ -33,15 +34,8 @@ use Rattle.tk_verify.specs.Verifying.{AreDriven, AreLegalTrails, is_found, is_un
 use Rattle.tk_verify.specs.declared.finding.Finding.TheVariants as f
 use Rattle.tk_verify.specs.declared.halt.Halt.{Halt}
 use Rattle.tk_verify.specs.declared.halt.Halt.TheVariants as h
-use Rattle.tk_story.proofs.EndsLemmas.{one_more}
 
 -- ---- the monitors, one after the other
-
--- what is listed by number, and one more of it
-pub listed_more : {X : Type 0} (g : ℕ → X) (n : ℕ) → map g (range_with_len 1 (n + 1)) ≡ map g (range_with_len 1 n) ++ g (n + 1) ∷ []
-listed_more g n =
-    let last : 1 + n ≡ n + 1 = omega arith in
-    ap (map g) (range-append 1 n 1 ∙ ap (λ (k : ℕ). range_with_len 1 n ++ k ∷ []) last) ∙ map-append g (range_with_len 1 n) ((n + 1) ∷ [])
 
 pub one_longer : {X : Type 0} (xs : List X) (x : X) (all : List X) → all ≡ xs ++ x ∷ [] → length all ≡ length xs + 1
 one_longer xs x all is = ap length is ∙ length-append xs (x ∷ [])
@@ -59,14 +53,14 @@ odds_more done ends node end all is before none =
 pub made_more : (settings : Setup) (logs : LogSet) (from : List (List ℕ)) (j : ℕ) (nodes : List MonitorView) (node : MonitorView) (all : List MonitorView) → all ≡ nodes ++ node ∷ [] → map as_made nodes ≡ map (made_for settings logs from) (range_with_len 1 j)
     → as_made node ≡ made_for settings logs from (j + 1) → map as_made all ≡ map (made_for settings logs from) (range_with_len 1 (j + 1))
 made_more settings logs from j nodes node all is before here =
-    ap (map as_made) is ∙ map-append as_made nodes (node ∷ []) ∙ (λ i. before i ++ here i ∷ []) ∙ sym (listed_more (made_for settings logs from) j)
+    ap (map as_made) is ∙ map-append as_made nodes (node ∷ []) ∙ (λ i. before i ++ here i ∷ []) ∙ sym (counted_more (made_for settings logs from) j)
 
 pub trails_more : (trails : List (Vec Entry)) (j : ℕ) (trail : Vec Entry) (nodes : List MonitorView) (node : MonitorView) (all : List MonitorView) → all ≡ nodes ++ node ∷ [] → map (λ m. m.trail) nodes ≡ take j (trails_in trails)
     → slice_get trails j ≡ Some trail → node.trail ≡ trail.items → map (λ m. m.trail) all ≡ take (j + 1) (trails_in trails)
 trails_more trails j trail nodes node all is before at here =
     let one : j + 1 ≡ suc j = omega arith in
     let there : slice_get (trails_in trails) j ≡ Some trail.items = slice_get-map (λ (t : Vec Entry). t.items) trails j ∙ ap (option_map (λ (t : Vec Entry). t.items)) at in
-    ap (map (λ (m : MonitorView). m.trail)) is ∙ map-append (λ (m : MonitorView). m.trail) nodes (node ∷ []) ∙ (λ i. before i ++ here i ∷ []) ∙ sym (ap (λ k. take k (trails_in trails)) one ∙ one_more (trails_in trails) j trail.items there)
+    ap (map (λ (m : MonitorView). m.trail)) is ∙ map-append (λ (m : MonitorView). m.trail) nodes (node ∷ []) ∙ (λ i. before i ++ here i ∷ []) ∙ sym (ap (λ k. take k (trails_in trails)) one ∙ take_next (trails_in trails) j trail.items there)
 
 -- the trail of a monitor as it is recorded
 pub trail_is : (trails : List (Vec Entry)) (j : ℕ) (trail : Vec Entry) → slice_get trails j ≡ Some trail → slice_index_or (trails_in trails) (j + 1 - 1) [] ≡ trail.items

@@ -1,5 +1,5 @@
 -- The ticks of a log while it is read.
-use Rattle.std.proofs.Common.{◌≡◌, ℕ, ◌+◌, ◌<◌, ◌≤◌, ◌^◌, ℤ, unsigned_abs, List, [], ◌∷◌, ◌++◌, length, map, Result, Ok, Err, refl, sym, ap, ◌∙◌, append_assoc, length-append, arith}
+use Rattle.std.proofs.Common.{◌≡◌, ℕ, ◌+◌, ◌<◌, ◌≤◌, ◌^◌, ℤ, unsigned_abs, List, [], ◌∷◌, ◌++◌, length, map, Ok, Err, refl, sym, ap, ◌∙◌, append_assoc, length-append, arith}
 use Rattle.std.specs.Prelude.{All, Option, Some, None, sum_by, IfSome, bytes_eq, codes}
 use Rattle.std.proofs.lemmas.List.{append-nil, length-map, length_push, map-append}
 use Rattle.std.proofs.lemmas.List.Elements.{All-push, All-weaker}
@@ -10,8 +10,8 @@ use Rattle.tk_input.specs.Logs.{IsObject}
 use Rattle.tk_input.specs.Records.{and_then, records_in, through}
 use Rattle.tk_input.specs.declared.change.Change.{Change}
 use Rattle.tk_input.specs.declared.part.PartFault.{PartFault}
-use Rattle.tk_input.specs.declared.part.PartFault.TheVariants.{BadNumber, BadRow, NoMemory, TooMany, UnknownName}
 use Rattle.tk_input.proofs.ThroughLemmas.{through-fault, through-none}
+use Rattle.tk_input.proofs.LogLemmas.{meant_is}
 use Rattle.tk_window.specs.Reading.{AreRead, IsChange, Reading, entries_in, entry_of, grown}
 use Rattle.tk_window.specs.Ticks.{AreOver, AreTicks, Entry, entry_added, in_first, is_mark, next_entry, ticked_of, ticks_of}
 use Rattle.tk_window.specs.Ticks.Entry.{Made, Mark}
@@ -113,13 +113,6 @@ pub ticks_end : (names : List (List ℕ)) (bytes : List ℕ) (closed : List (Lis
 ticks_end names bytes closed last rows same is =
     ap (and_then (λ (entries : List Entry). Ok (ticks_of entries))) (sym same ∙ through-none (entry_added names) (entries_in closed last) rows is)
     ∙ ap (λ (ticks : List (List (ℕ × ℤ))). Ok ticks) (ticks_of-entries_in closed last)
-
-meant_is : {A : Type 0} (r : Result A PartFault) (e : PartFault) → r ≡ Err e → IsFault e r
-meant_is r TooMany is = is
-meant_is r (BadRow n) is = is
-meant_is r (UnknownName n) is = is
-meant_is r (BadNumber n) is = is
-meant_is r NoMemory is = tt
 
 -- the fault of a record is that of the file
 pub ticks_fault : (names : List (List ℕ)) (bytes : List ℕ) (before : List Entry) (n : ℕ) (fields : List (List ℕ)) (rest rows : List (List (List ℕ))) (e : PartFault)

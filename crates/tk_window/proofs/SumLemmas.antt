@@ -3,8 +3,9 @@ use Rattle.std.proofs.Common.{◌≡◌, ℕ, ℤ, pos, ◌+ℤ◌, List, [], �
 use Rattle.std.specs.Prelude.{◌==◌, filter, neg_ℤ}
 use Rattle.std.proofs.lemmas.Int.{ints}
 use Rattle.tk_base.specs.Sum.{int_sum}
+use Rattle.tk_base.proofs.SumLemmas.{int_sum-cons}
 use Rattle.tk_input.specs.Logs.{sum_for}
-use Rattle.tk_input.proofs.SumLemmas.{by_at, int_sum-cons}
+use Rattle.tk_input.proofs.SumLemmas.{by_at}
 use Rattle.tk_window.specs.Window.{withdrawn}
 
 counted : (o : ℕ) (c : ℕ × ℤ) (cs : List (ℕ × ℤ)) (b : Bool) → (c.0 == o) ≡ b → sum_for o (c ∷ cs) ≡ cond b c.1 (pos 0) +ℤ sum_for o cs

@@ -6,8 +6,8 @@ use Rattle.std.proofs.lemmas.Bool.{eqb-true}
 use Rattle.std.proofs.lemmas.List.{length-map}
 use Rattle.std.proofs.lemmas.List.FromFn.{length-map-range_with_len}
 use Rattle.std.proofs.lemmas.List.Quantifiers.{position-Some}
+use Rattle.tk_base.proofs.SumLemmas.{int_sum-cons}
 use Rattle.tk_input.specs.Logs.{ArePlaces, IsCut, IsValid, sum_for, total, value_of}
-use Rattle.tk_input.proofs.SumLemmas.{int_sum-cons}
 use Rattle.tk_window.specs.TickEnds.{all_of, ticks_at, ticks_in}
 use Rattle.tk_window.specs.Validity.{AreTicksIn, AreTicksOf, IsWindowValid, expanded_ends, expanded_logs, window_total, window_value}
 use Rattle.tk_window.specs.Window.{end_of, expansion, tick_ending, up_to, window_sum}

@@ -1,7 +1,7 @@
 -- What is enabled: a check where something is due, a delivery where a frame is under way, a retune that is not refused; and
 -- so which worlds are settled.
 use Rattle.tk_journal.specs.declared.noted.Noted.TheVariants as n
-use Rattle.std.proofs.Common.{◌≡◌, ℕ, suc, zero, ◌+◌, ◌-◌, ◌<◌, ◌&&◌, true, false, List, [], ◌∷◌, length, get_or, Option, Some, None, Result, Ok, Err, refl, sym, ap, ap₂, ◌∙◌, subst, arith, inl, inr}
+use Rattle.std.proofs.Common.{◌≡◌, ℕ, ◌+◌, ◌-◌, ◌<◌, ◌&&◌, true, false, List, length, get_or, Option, Some, None, Result, Ok, Err, refl, sym, ap, ap₂, ◌∙◌, subst, arith, inl, inr}
 use Rattle.std.specs.Prelude.{OnErr, pos, is_some, nat_le, slice_get, if◌then◌else◌}
 use Rattle.std.specs.Option.{option_map}
 use Rattle.std.proofs.lemmas.Bool.{and_parts, cases_Bool, leb-false, leb-true, true≢false}
@@ -9,6 +9,7 @@ use Rattle.std.proofs.lemmas.List.{get_or_default}
 use Rattle.std.proofs.lemmas.Option.{slice_get_past}
 use Rattle.tk_base.specs.Settings.{Setup}
 use Rattle.tk_base.specs.declared.ids.Mon.{Mon}
+use Rattle.tk_base.proofs.ListLemmas.{there_at}
 use Rattle.tk_frames.specs.declared.frame.Frame.{Frame}
 use Rattle.tk_input.specs.Logs.{LogSet}
 use Rattle.tk_input.specs.declared.event.Event.{Event}
@@ -41,11 +42,6 @@ use Rattle.tk_world.proofs.SeatLemmas.{inside, seat_is, trail_is}
 use Rattle.tk_world.proofs.WorldLemmas.{due_there, none_due, rests}
 
 -- ---- enabled events
-
-pub there_at : {X : Type 0} (xs : List X) (i : ℕ) → i < length xs → (x : X) × (slice_get xs i ≡ Some x)
-there_at [] i within = absurd (omega (arith, within))
-there_at (x ∷ xs) zero within = (x, refl)
-there_at (x ∷ xs) (suc i) within = there_at xs i (omega (arith, within))
 
 enabled_by : (s t : StoryView) (e : Event) → is_of s e ≡ true → moved s e ≡ Some t → is_some (next_of s e) ≡ true
 enabled_by s t e of is = ap is_some (moves s t e of is)

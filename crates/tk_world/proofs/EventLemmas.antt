@@ -28,7 +28,7 @@ use Rattle.tk_trail.specs.Setup.{MonitorSetup}
 use Rattle.tk_trail.specs.declared.entry.Entry.{Entry}
 use Rattle.tk_trail.specs.declared.entry.Entry.TheVariants.{Raised, Took, Sent}
 use Rattle.tk_trail.proofs.PlacesLemmas.{places_at-raised, places_at-sent, places_at-took}
-use Rattle.tk_trail.proofs.ReadingsLemmas.{sent_by-raised, taken_by-raised, taken_by-sent, taken_by-took}
+use Rattle.tk_trail.proofs.ReadingsLemmas.{sent_by-raised, taken_by-raised, taken_by-sent, taken_by-took, answer_taken}
 use Rattle.tk_trail.proofs.LegalLemmas.{legal_places}
 use Rattle.tk_story.specs.Story.{IsStory, StoryView, setup_of, trail_of}
 use Rattle.tk_story.proofs.DownLemmas.{down_is_taken}
@@ -40,7 +40,7 @@ use Rattle.tk_world.specs.declared.seat.Seat.{Seat}
 use Rattle.tk_world.specs.declared.work.Work.{Work}
 use Rattle.tk_world.proofs.IdleLemmas.{is_one}
 use Rattle.tk_world.proofs.SeatLemmas.{Works, inside, seat_is, seated, trail_goes, trail_is}
-use Rattle.tk_world.proofs.StepLemmas.{answer_taken, next_is, next_is_story}
+use Rattle.tk_world.proofs.StepLemmas.{next_is, next_is_story}
 
 -- ---- events that are enabled
 

@@ -1,13 +1,13 @@
 -- Where no check sends, and no frame moves, the story is still.
 use Rattle.tk_journal.specs.declared.noted.Noted.TheVariants as n
-use Rattle.std.proofs.Common.{◌≡◌, ℕ, true, List, [], ◌∷◌, ◌++◌, length, Option, Some, None, refl, sym, ap, ◌∙◌, append-nil}
+use Rattle.std.proofs.Common.{◌≡◌, ℕ, true, List, [], ◌∷◌, ◌++◌, length, None, sym, ap, ◌∙◌, append-nil}
 use Rattle.std.specs.Prelude.{nat_le, slice_get, if◌then◌else◌}
-use Rattle.std.specs.Option.{option_map}
 use Rattle.std.proofs.lemmas.Bool.{and_from, le-leb}
 use Rattle.tk_frames.specs.declared.frame.Frame.{Frame}
 use Rattle.tk_journal.specs.Laws.{IsMonitor}
 use Rattle.tk_journal.specs.Links.{frames_from, frames_to}
 use Rattle.tk_base.specs.History.{IsFront}
+use Rattle.tk_base.proofs.OptionLemmas.{unmapped}
 use Rattle.tk_story.proofs.JoinLemmas.{rest_of}
 use Rattle.tk_trail.specs.Frames.{due_at}
 use Rattle.tk_trail.specs.Legal.{after_take}
@@ -27,10 +27,6 @@ no_rest xs ys (x ∷ rest) is none = absurd (cc)
 
 pub all_passed : (xs ys : List Frame) → IsFront xs ys → slice_get ys (length xs) ≡ None → xs ≡ ys
 all_passed xs ys h none = let r = rest_of xs ys h in no_rest xs ys r.rest r.is (sym (ap (λ zs. slice_get zs (length xs)) r.is ∙ at_end xs r.rest) ∙ none)
-
-unmapped : {X Y : Type 0} (g : X → Y) (o : Option X) → option_map g o ≡ None → o ≡ None
-unmapped g None e = refl
-unmapped g (Some x) e = absurd (cc)
 
 pub is_one : (s : StoryView) (mon : ℕ) → IsMonitor s.settings mon → is_monitor s mon ≡ true
 is_one s mon m = and_from (nat_le 1 mon) (nat_le mon s.settings.monitors) (le-leb 1 mon m.from_one) (le-leb mon s.settings.monitors m.within)

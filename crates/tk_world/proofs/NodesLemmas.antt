@@ -6,6 +6,7 @@ use Rattle.std.proofs.lemmas.List.{get_or-set_same, get_or_default, length-set, 
 use Rattle.tk_base.specs.Settings.{Setup}
 use Rattle.tk_base.specs.declared.ids.Feeder.{Feeder}
 use Rattle.tk_base.specs.declared.ids.Mon.{Mon}
+use Rattle.tk_base.proofs.ListLemmas.{there_at}
 use Rattle.tk_coord.specs.Coordinator.{CoordinatorView}
 use Rattle.tk_input.specs.Event.{Tuning}
 use Rattle.tk_input.specs.Logs.{LogSet}
@@ -31,7 +32,7 @@ use Rattle.tk_world.specs.World.{IsFeeder}
 use Rattle.tk_world.specs.declared.seat.Seat.{Seat}
 use Rattle.tk_world.specs.declared.work.Work.{Work}
 use Rattle.tk_world.proofs.EventLemmas.{down_taken}
-use Rattle.tk_world.proofs.EnabledLemmas.{check_enabled, down_enabled, there_at, up_enabled}
+use Rattle.tk_world.proofs.EnabledLemmas.{check_enabled, down_enabled, up_enabled}
 use Rattle.tk_world.proofs.SeatLemmas.{inside}
 use Rattle.tk_world.proofs.TurnLemmas.{Adds, up_taken}
 use Rattle.tk_world.proofs.WorldLemmas.{Leaves, check_leaves, check_stays, down_leaves, down_stays, raise_ends, raise_leaves, retune_leaves, unchanged, up_leaves, up_stays}

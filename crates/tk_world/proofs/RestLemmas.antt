@@ -60,7 +60,8 @@ all_rest s rest = record { check = λ mon m. (rest mon).check; up = λ mon m. (r
 
 -- ---- what some entries send
 
-not_passed : (b : Bool) (frame : Frame) (frames : List Frame) → b ≡ false → cons_option (if b then Some frame else None) frames ≡ frames
+-- a frame that is not chosen is left out
+pub not_passed : (b : Bool) (frame : Frame) (frames : List Frame) → b ≡ false → cons_option (if b then Some frame else None) frames ≡ frames
 not_passed true frame frames none = absurd (true≢false none)
 not_passed false frame frames none = refl
 

@@ -2,13 +2,14 @@
 use Rattle.tk_frames.specs.declared.frame.Frame.TheVariants as f
 use Rattle.tk_journal.specs.declared.noted.Noted.TheVariants as n
 use Rattle.std.proofs.Common.{◌≡◌, ℕ, suc, zero, ◌+◌, ◌-◌, ◌≤◌, ◌<◌, pos, Bool, true, false, not, List, [], ◌∷◌, ◌++◌, length, take, set, get_or, Option, Some, None, refl, sym, ap, ◌∙◌, subst, arith, append_assoc, append-nil, inl, inr, ◌⊎◌}
-use Rattle.std.specs.Prelude.{ℤ, unsigned_abs, slice_get, nat_lt, is_some, filter_map, IfSome, if◌then◌else◌}
+use Rattle.std.specs.Prelude.{ℤ, unsigned_abs, slice_get, nat_lt, is_some, filter_map, if◌then◌else◌}
 use Rattle.std.specs.List.{cons_option}
 use Rattle.std.specs.Option.{option_map}
 use Rattle.std.proofs.lemmas.Bool.{eq-eqb, false≢true, ltb-false, not-false}
 use Rattle.std.proofs.lemmas.List.{length-append}
 use Rattle.std.proofs.lemmas.List.Elements.{filter_map-append}
 use Rattle.tk_base.specs.Settings.{Setup}
+use Rattle.tk_base.proofs.OptionLemmas.{if_none, number_is}
 use Rattle.tk_frames.specs.Assigns.{assign_in}
 use Rattle.tk_frames.specs.declared.frame.Frame.{Frame}
 use Rattle.tk_journal.specs.Laws.{IsMonitor}
@@ -31,16 +32,16 @@ use Rattle.tk_trail.specs.Readings.{sent_by, sent_in, seq_of, taken_by, taken_in
 use Rattle.tk_trail.specs.declared.entry.Entry.{Entry}
 use Rattle.tk_trail.specs.declared.entry.Entry.TheVariants.{Raised, Took, Sent}
 use Rattle.tk_trail.proofs.LawLemmas.{allowed_at, answered_at_once, frames_carry, nothing_after}
-use Rattle.tk_trail.proofs.LegalLemmas.{if_none, not_refused}
+use Rattle.tk_trail.proofs.LegalLemmas.{not_refused}
 use Rattle.tk_trail.proofs.ReadingsLemmas.{seq_of-assign}
 use Rattle.tk_input.specs.declared.event.Event.{Event}
 use Rattle.tk_world.specs.Events.{after, begin, next_up, raise_at, check_at, up_at, down_at, retune_at}
 use Rattle.tk_story.specs.Story.{IsStory, StoryView, setup_of, trail_of}
 use Rattle.tk_story.proofs.QuietLemmas.{start_is_set_up}
-use Rattle.tk_journal.proofs.WholeLemmas.{turn_is}
+use Rattle.tk_journal.proofs.WholeLemmas.{turn_is, begins_beyond, one_if}
 use Rattle.tk_world.specs.Order.{entries, events_from, events_of, first_by, first_left, go_by, go_from, left_after, of_entry, toward, trail_next}
 use Rattle.tk_world.specs.Runs.{IsDirect, RunsBy, UsesCheck, UsesDown, UsesRaise, UsesTurn, UsesUp, Walks, further, walked, walked_story, wants_answer}
-use Rattle.tk_world.proofs.WalkLemmas.{Within, answers_if, begins_beyond, Stepped, begins_inputs, begins_within, check_walks, down_walks, raise_walks, retune_walks, runs_there, up_walks}
+use Rattle.tk_world.proofs.WalkLemmas.{Within, answers_if, Stepped, begins_inputs, begins_within, check_walks, down_walks, raise_walks, retune_walks, runs_there, up_walks}
 use Rattle.tk_world.proofs.StepLemmas.{at_end}
 use Rattle.tk_world.proofs.ReadLemmas.{direct_of, direct_none_of}
 
@@ -77,10 +78,6 @@ values_wait s j mon round seq border values none =
 
 -- ---- the walk never meets a frame to take that the walked journal has not sent
 
-number_is : (number seq : ℕ) (x : Option ℕ) → x ≡ Some number → IfSome x (λ q. q ≡ seq) → number ≡ seq
-number_is number seq (Some q) e h = (let same : q ≡ number = cc in sym same ∙ h)
-number_is number seq None e h = absurd (cc)
-
 record Answer (rest : List Entry) (a frame : Frame) : Type 0 where
   same : frame ≡ a
   tail : List Entry
@@ -94,10 +91,6 @@ first_answer (Sent x ∷ rest) a frame more first sent =
     let one : x ≡ a = cc in
     let two : x ≡ frame = cc in
     record { same = sym two ∙ one; tail = rest; is = ap (λ q. Sent q ∷ rest) two }
-
-flag_zero : (b : Bool) → b ≡ true → flag b ≡ 1
-flag_zero true is = refl
-flag_zero false is = absurd (false≢true is)
 
 pub record Stuck (s : StoryView) (journal : List Noted) (trails : List (List Entry)) (mon : ℕ) (frame x : Frame) (rest : List Entry) : Type 0 where
   pub story : IsStory s
@@ -139,7 +132,7 @@ not_asked s journal trails mon frame round asked rest h =
     let legal = legal_there s journal trails mon frame x rest h in
     let a = first_answer rest (values_at setup taken round asked) frame h.more (answered_at_once setup trail rest x (values_at setup taken round asked) legal refl) h.sent in
     let waits = values_wait s.settings journal mon round _ _ _ (ap (refusal_of s.settings journal mon) (sym a.same) ∙ h.none) in
-    let one = flag_zero (waits_for (last_round journal) mon journal) waits in
+    let one = one_if (waits_for (last_round journal) mon journal) waits in
     let count : tally is_collect (frames_to mon journal) ≡ tally is_values (frames_from mon journal) + flag (waits_for (last_round journal) mon journal) =
     each_collect_is_answered (start s.settings) journal mon (start_is_set_up s h.story) h.within.story.journal_legal h.monitor in
     let pairs = values_answer_collects setup trail (h.within.story.trails_legal mon h.monitor) in

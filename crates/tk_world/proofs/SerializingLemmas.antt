@@ -7,6 +7,7 @@ use Rattle.std.proofs.lemmas.Bool.{cases_eq, cases_lt, eq-eqb, ne_eqb}
 use Rattle.std.proofs.lemmas.List.{get_or-set_same, get_or-set_other, length-append, length-replicate, length-set}
 use Rattle.std.proofs.lemmas.List.Elements.{filter_map-append}
 use Rattle.tk_base.specs.declared.memory.NoMemory.{NoMemory}
+use Rattle.tk_base.proofs.ListLemmas.{zeros}
 use Rattle.tk_frames.specs.declared.frame.Frame.{Frame}
 use Rattle.tk_journal.specs.Laws.{IsMonitor}
 use Rattle.tk_journal.specs.Legal.{inputs_of, opened, start}
@@ -20,6 +21,7 @@ use Rattle.tk_trail.specs.Readings.{sent_by, sent_in, taken_by}
 use Rattle.tk_trail.specs.declared.entry.Entry.{Entry}
 use Rattle.tk_trail.specs.declared.entry.Entry.TheVariants.{Raised, Took, Sent}
 use Rattle.tk_input.specs.declared.event.Event.{Event}
+use Rattle.tk_journal.proofs.HeardLemmas.{no_input}
 use Rattle.tk_story.specs.Story.{IsStory, StoryView, setup_of, trail_of}
 use Rattle.tk_world.specs.Events.{raise_at, check_at, up_at, down_at, retune_at}
 use Rattle.tk_world.specs.Order.{left_after, of_entry}
@@ -70,11 +72,6 @@ walks_on s places events left ahead e journal' trails' places' left' ahead' w st
     }
 
 -- ---- at the beginning
-
-zeros : (k i : ℕ) → ◌≡◌ {A = ℕ} (get_or (replicate k 0) i 0) 0
-zeros zero i = refl
-zeros (suc k) zero = refl
-zeros (suc k) (suc i) = zeros k i
 
 no_entries : ℕ → List (List Entry)
 no_entries k = replicate k []
@@ -134,13 +131,6 @@ whole_front xs ys r same = whole_rest xs ys r.rest r.is same
 
 -- ---- turns
 
-no_frames : (mon : ℕ) (batch : List Noted) → inputs_of batch ≡ [] → frames_from mon batch ≡ []
-no_frames mon [] none = refl
-no_frames mon (n.Got from frame ∷ batch) none = absurd (cc)
-no_frames mon (n.Sent to frame ∷ batch) none = no_frames mon batch none
-no_frames mon (n.Published publication ∷ batch) none = no_frames mon batch none
-no_frames mon (n.Tuned k epsilon ∷ batch) none = absurd (cc)
-
 pub tuned_walking : (s : StoryView) (places : List ℕ) (events : List Event) (left : List Noted) (k : ℕ) (epsilon : ℤ) → IsWalking s places events (n.Tuned k epsilon ∷ left) 0
     → IsWalking s places (events ++ retune_at k (unsigned_abs epsilon) ∷ []) left 0
 tuned_walking s places events left k epsilon w =
@@ -153,7 +143,7 @@ tuned_walking s places events left k epsilon w =
     (walks_on s places events (n.Tuned k epsilon ∷ left) 0 (retune_at k e) (w.journal ++ n.Tuned k (pos e) ∷ t.0) w.trails places left 0 w
     (retune_walks s w.journal w.trails k e t.0 w.whole (within s places events (n.Tuned k epsilon ∷ left) 0 w) used) refl (λ more all. (t.0, used, all)) w.count w.walked_to
     (λ mon m. always left _ (w.heard mon m ∙ ap (λ (xs : List Frame). length xs + under_way 0 mon)
-    (sym (frames_from-append mon w.journal (n.Tuned k (pos e) ∷ t.0) ∙ ap (λ xs. frames_from mon w.journal ++ xs) (no_frames mon t.0 used.none) ∙ append-nil (frames_from mon w.journal))))))
+    (sym (frames_from-append mon w.journal (n.Tuned k (pos e) ∷ t.0) ∙ ap (λ xs. frames_from mon w.journal ++ xs) (no_input mon t.0 used.none) ∙ append-nil (frames_from mon w.journal))))))
 
 one_ahead : (xs ys rest : List Frame) (own more : List Frame) (frame : Frame) → ys ≡ xs ++ rest → length ys ≡ length xs + 1 → ys ++ own ≡ xs ++ frame ∷ more → ys ≡ xs ++ frame ∷ []
 one_ahead xs ys [] own more frame is one all = absurd (let l = ap (λ (zs : List Frame). length zs) (is ∙ append-nil xs) in omega (arith, l, one))
@@ -180,7 +170,7 @@ got_frames : (mon other : ℕ) (journal batch : List Noted) (frame : Frame) → 
 got_frames mon other journal batch frame none =
     ap (λ (xs : List Frame). length xs) (frames_from-append other journal (n.Got (record { 0 = mon }) frame ∷ batch))
     ∙ length-append (frames_from other journal) (frames_from other (n.Got (record { 0 = mon }) frame ∷ batch))
-    ∙ ap (λ k. length (frames_from other journal) + k) (got_one (mon == other) frame (frames_from other batch) (no_frames other batch none))
+    ∙ ap (λ k. length (frames_from other journal) + k) (got_one (mon == other) frame (frames_from other batch) (no_input other batch none))
 
 turned : (mon other : ℕ) → under_way mon other ≡ (if mon == other then 1 else 0)
 turned mon other = elim (cases_eq other mon) [

@@ -7,12 +7,13 @@ use Rattle.std.specs.List.{cons_option, enumerate_from}
 use Rattle.std.specs.Option.{option_map}
 use Rattle.std.proofs.lemmas.Bool.{and_parts, cases_eq, eq-eqb, leb-true, ltb-true, ne_eqb}
 use Rattle.std.proofs.lemmas.List.{get_or-set_same, get_or-set_other, length-set}
+use Rattle.std.proofs.Math.Seq.{take-append_seam}
 use Rattle.tk_base.specs.Settings.{Setup, IsWithinLimits}
 use Rattle.tk_base.specs.declared.ids.Feeder.{Feeder}
 use Rattle.tk_frames.specs.declared.frame.Frame.{Frame}
 use Rattle.tk_input.specs.Logs.{AreLogs, IsCut, LogSet}
 use Rattle.tk_journal.specs.Laws.{IsMonitor}
-use Rattle.tk_journal.specs.Legal.{IsAccepted, inputs_of, start, turn_of}
+use Rattle.tk_journal.specs.Legal.{IsAccepted, start, turn_of}
 use Rattle.tk_journal.specs.Links.{frames_from, frames_to, got_from}
 use Rattle.tk_journal.specs.Refusal.{retune_refusal_of}
 use Rattle.tk_journal.specs.declared.noted.Noted.{Noted}
@@ -27,7 +28,7 @@ use Rattle.tk_trail.specs.Readings.{sent_by, taken_by}
 use Rattle.tk_trail.specs.declared.entry.Entry.{Entry}
 use Rattle.tk_trail.specs.declared.entry.Entry.TheVariants.{Raised, Took, Sent}
 use Rattle.tk_trail.proofs.LegalLemmas.{legal_raised, legal_sent, legal_taken}
-use Rattle.tk_trail.proofs.ReadingsLemmas.{sent_by-raised, sent_by-sent, sent_by-took, taken_by-raised, taken_by-sent, taken_by-took}
+use Rattle.tk_trail.proofs.ReadingsLemmas.{sent_by-raised, sent_by-sent, sent_by-took, taken_by-raised, taken_by-sent, taken_by-took, answer_taken}
 use Rattle.tk_input.specs.declared.event.Event.{Event}
 use Rattle.tk_world.specs.Events.{after, begin, has_next, is_monitor, is_of, moved, next_down, next_of, next_up, with_trail, with_turn}
 use Rattle.tk_input.specs.declared.event.Event.TheVariants.{Raise, Check, Up, Down, Retune}
@@ -38,15 +39,12 @@ use Rattle.tk_story.proofs.QuietLemmas.{joined, setup_is, starts_at}
 use Rattle.tk_journal.proofs.WholeLemmas.{goes_on, opened_legal, turn_is}
 use Rattle.tk_story.proofs.UpLemmas.{up_is_taken}
 use Rattle.tk_input.proofs.CountLemmas.{not_some}
+use Rattle.tk_journal.proofs.HeardLemmas.{no_input}
 
 -- ---- fronts
 
-taken_front : {A : Type 0} (xs rest : List A) → take (length xs) (xs ++ rest) ≡ xs
-taken_front [] rest = refl
-taken_front (x ∷ xs) rest = ap (λ ys. x ∷ ys) (taken_front xs rest)
-
 pub front_by : {A : Type 0} (xs ys rest : List A) → ys ≡ xs ++ rest → IsFront xs ys
-front_by xs ys rest is = record { is = sym (ap (take (length xs)) is ∙ taken_front xs rest) }
+front_by xs ys rest is = record { is = sym (ap (take (length xs)) is ∙ take-append_seam xs rest) }
 
 pub front_more : {A : Type 0} (xs ys more : List A) → IsFront xs ys → IsFront xs (ys ++ more)
 front_more xs ys more h = let r = rest_of xs ys h in front_by xs (ys ++ more) (r.rest ++ more) (ap (λ zs. zs ++ more) r.is ∙ append_assoc xs r.rest more)
@@ -146,11 +144,6 @@ check_step s h mon m frame due =
       up = subst (λ xs. IsFront (frames_from mon s.journal) xs) (sym (sent_by-sent trail frame)) (front_more (frames_from mon s.journal) (sent_by trail) (frame ∷ []) (h.links mon m).up);
     })
 
--- a frame of the coordinator that is taken, with its answer
-pub answer_taken : (trail : List Entry) (answer : Option Frame) → taken_by (with_answer trail answer) ≡ taken_by trail
-answer_taken trail None = refl
-answer_taken trail (Some g) = taken_by-sent trail g
-
 answer_sent : (trail : List Entry) (answer : Option Frame) (xs : List Frame) → IsFront xs (sent_by trail) → IsFront xs (sent_by (with_answer trail answer))
 answer_sent trail None xs h = h
 answer_sent trail (Some g) xs h = subst (λ ys. IsFront xs ys) (sym (sent_by-sent trail g)) (front_more xs (sent_by trail) (g ∷ []) h)
@@ -172,13 +165,6 @@ down_step s h mon m frame next =
     })
 
 -- ---- the journal goes on by a turn
-
-pub no_input : (mon : ℕ) (xs : List Noted) → inputs_of xs ≡ [] → frames_from mon xs ≡ []
-no_input mon [] none = refl
-no_input mon (n.Got from frame ∷ xs) none = absurd (cc)
-no_input mon (n.Sent to frame ∷ xs) none = no_input mon xs none
-no_input mon (n.Published p ∷ xs) none = no_input mon xs none
-no_input mon (n.Tuned k epsilon ∷ xs) none = absurd (cc)
 
 pub turn_from : (s : StoryView) (input : Noted) (mon : ℕ) → IsAccepted s.settings s.journal input → frames_from mon (s.journal ++ turn_of s.settings s.journal input) ≡ frames_from mon s.journal ++ cons_option (got_from mon input) []
 turn_from s input mon accepted =

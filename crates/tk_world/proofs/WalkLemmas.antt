@@ -1,7 +1,7 @@
 -- Walking a story by the reader's form is what `next_of` does.
 use Rattle.tk_frames.specs.declared.frame.Frame.TheVariants as f
 use Rattle.tk_journal.specs.declared.noted.Noted.TheVariants as n
-use Rattle.std.proofs.Common.{◌≡◌, ℕ, suc, zero, ◌-◌, ◌<◌, ◌&&◌, pos, Bool, true, false, List, [], ◌∷◌, ◌++◌, length, take, get_or, replicate, Option, Some, None, refl, sym, ap, ◌∙◌, subst, arith, append_assoc, append-nil, inl, inr}
+use Rattle.std.proofs.Common.{◌≡◌, ℕ, suc, zero, ◌-◌, ◌<◌, ◌&&◌, pos, Bool, true, false, List, [], ◌∷◌, ◌++◌, length, take, get_or, replicate, Option, Some, None, refl, sym, ap, ◌∙◌, subst, arith, append_assoc, inl, inr}
 use Rattle.std.specs.Prelude.{drop, nat_lt, nat_le, is_some, slice_get, if◌then◌else◌}
 use Rattle.std.specs.Option.{option_map}
 use Rattle.std.proofs.lemmas.Bool.{and_from, cases_eq, false≢true, le-leb, lt-ltb, true≢false}
@@ -29,7 +29,7 @@ use Rattle.tk_input.specs.declared.event.Event.TheVariants.{Raise, Check, Up, Do
 use Rattle.tk_journal.specs.Whole.{BeginsWithInput}
 use Rattle.tk_story.specs.Story.{IsStory, StoryView, setup_of, trail_of}
 use Rattle.tk_world.proofs.StepLemmas.{at_end, begin_is_story, next_is_story}
-use Rattle.tk_journal.proofs.WholeLemmas.{turn_is}
+use Rattle.tk_journal.proofs.WholeLemmas.{turn_is, begins_beyond, behind_front}
 use Rattle.tk_world.specs.Order.{left_after}
 use Rattle.tk_world.specs.Runs.{IsDirect, RunsBy, UsesCheck, UsesDown, UsesRaise, UsesTurn, UsesUp, Walks, further, walked, walked_story, wants_answer}
 
@@ -150,17 +150,6 @@ down_walks s journal trails mon frame answer h w u =
     (opens t (down_at mon) (of_monitor t mon u.monitor) ∙ ap (option_map (λ (x : Frame). with_trail t mon (after_take setup trail x))) next ∙ ap (λ xs. Some (with_trail t mon xs)) whole)
 
 -- ---- a turn
-
-pub begins_beyond : (s : Setup) (before inputs : List Noted) → AreAccepted s before inputs → (rest : List Noted) × (played_from s before inputs ≡ before ++ rest) × BeginsWithInput rest
-begins_beyond s before [] each = ([], sym (append-nil before), tt)
-begins_beyond s before (input ∷ inputs) each =
-    let b = begins_beyond s (before ++ turn_of s before input) inputs each.1 in
-    let t = turn_is s before input each.0 in
-    (input ∷ (t.rest ++ b.0), b.1 ∙ append_assoc before (turn_of s before input) b.0 ∙ ap (λ xs. before ++ (xs ++ b.0)) t.is, t.kind)
-
-pub behind_front : (xs a b : List Noted) → xs ++ a ≡ xs ++ b → a ≡ b
-behind_front [] a b is = is
-behind_front (x ∷ xs) a b is = let e : xs ++ a ≡ xs ++ b = cc in behind_front xs a b e
 
 first_kind : (x : Noted) (xs : List Noted) → inputs_of (x ∷ xs) ≡ [] → (is_input x ≡ false) × (inputs_of xs ≡ [])
 first_kind (n.Got from frame) xs none = absurd (cc)

@@ -23,8 +23,8 @@ use Rattle.tk_journal.specs.declared.noted.Noted.{Noted}
 use Rattle.tk_monitor.specs.Monitored.{MonitorView, checked_at}
 use Rattle.tk_monitor.specs.declared.outcome.Checked.{Checked}
 use Rattle.tk_monitor.specs.declared.outcome.Checked.TheVariants.{Reported, ToldEnd, Nothing}
-use Rattle.tk_monitor.proofs.KeptLemmas.{none_when, nothing_when, reported_when, told_when}
-use Rattle.tk_trail.specs.Frames.{due_at, end_is_due, report_at, report_is_due, settled_at}
+use Rattle.tk_monitor.proofs.KeptLemmas.{none_when, nothing_when, reported_when, told_when, end_when, report_when}
+use Rattle.tk_trail.specs.Frames.{due_at, report_at, settled_at}
 use Rattle.tk_trail.specs.Legal.{HasNext, after_check, after_take, part_length, place_of, with_answer}
 use Rattle.tk_trail.specs.Readings.{at_ends, is_broken, sent_by, taken_by}
 use Rattle.tk_trail.specs.Setup.{MonitorSetup}
@@ -142,16 +142,6 @@ raise_ends S L F j seats raises work mon g seat h m at ended =
     (ap (λ b. nat_le 1 g.0 && nat_le g.0 (length (setup_of s mon.0).parts) && b) end ∙ and-false (nat_le 1 g.0 && nat_le g.0 (length (setup_of s mon.0).parts))))
 
 -- ---- a check
-
-report_when : (setup : MonitorSetup) (trail : List Entry) → report_is_due setup trail ≡ true → due_at setup trail ≡ Some (report_at setup trail)
-unfolding due_at
-report_when setup trail is = ap (λ b. if b then Some (report_at setup trail) else (if end_is_due setup trail then Some (settled_at setup trail) else None)) is
-
-end_when : (setup : MonitorSetup) (trail : List Entry) → report_is_due setup trail ≡ false → end_is_due setup trail ≡ true → due_at setup trail ≡ Some (settled_at setup trail)
-unfolding due_at
-end_when setup trail not_report is =
-    ap (λ b. if b then Some (report_at setup trail) else (if end_is_due setup trail then Some (settled_at setup trail) else None)) not_report
-    ∙ ap (λ b. if b then Some (settled_at setup trail) else None) is
 
 pub due_there : (setup : MonitorSetup) (trail : List Entry) (checked : Checked) → checked ≡ checked_at setup trail → (checked ≡ Nothing → ⊥) → (frame : Frame) × (due_at setup trail ≡ Some frame)
 due_there setup trail Reported is some = (report_at setup trail, report_when setup trail (reported_when setup trail is))

@@ -7,13 +7,14 @@ use Rattle.std.proofs.lemmas.List.{length-map}
 use Rattle.std.proofs.lemmas.Result.{IfOk-weaker}
 use Rattle.tk_base.specs.Objects.{objects}
 use Rattle.tk_base.specs.Pairs.{objects_of}
+use Rattle.tk_base.proofs.MemberLemmas.{length-objects}
 use Rattle.tk_rows.specs.declared.mon_change.MonChange.{MonChange}
 use Rattle.tk_rows.specs.declared.reallocation.Reallocation.{Reallocation}
 use Rattle.tk_rows.specs.Replacing.{IsReplacement}
 use Rattle.tk_alloc.specs.Pick.{picked}
 use Rattle.tk_alloc.specs.Rounds.{IsWideRound, KeepsOwn, KeepsLevels, AreSlight, total, totals}
 use Rattle.tk_alloc.specs.declared.reported.Reported.{Reported}
-use Rattle.tk_alloc.proofs.WideLemmas.{IsAsked, IsWide, asked_terms, asked_is_wide, reports_count, first_objects, catalogue_length, wide_replaces, wide_own_slight, wide_at_slight, wide_keeps_own, wide_keeps_levels}
+use Rattle.tk_alloc.proofs.WideLemmas.{IsAsked, IsWide, asked_terms, asked_is_wide, reports_count, first_objects, wide_replaces, wide_own_slight, wide_at_slight, wide_keeps_own, wide_keeps_levels}
 use Rattle.tk_alloc.proofs.wide_round.wide.Goals as goal
 
 pub totals-requires-clause-count : goal.totals-requires-clause-count
@@ -24,7 +25,7 @@ pub pick-requires-clause-enough : goal.pick-requires-clause-enough
 pick-requires-clause-enough c =
     let all = first_objects c.args.settings.now c.args.reports.now c.index-reports-0.result c.k-k.ensures.limits c.requires.reports c.index-reports-0.is in
     let long = length-map {B = ℕ × ℤ} (objects_of c.index-reports-0.result.values) (λ (o : ℕ). (o, total c.args.reports.now o)) in
-    omega (arith, c.k-k.ensures.value, c.k-k.ensures.limits.members, ap length (c.in_ok-totals.ensures ∙ ap (λ (r : Reported). totals c.args.reports.now (objects_of r.values)) (sym c.index-reports-0.is)), long, ap length all, catalogue_length c.args.settings.now.objects)
+    omega (arith, c.k-k.ensures.value, c.k-k.ensures.limits.members, ap length (c.in_ok-totals.ensures ∙ ap (λ (r : Reported). totals c.args.reports.now (objects_of r.values)) (sym c.index-reports-0.is)), long, ap length all, length-objects c.args.settings.now.objects)
 
 asked : (c : goal.After-terms-2-1) → IsAsked c.args.settings.now c.args.table.now c.args.members.now c.args.reports.now c.index-reports-0.result c.in_ok-totals.totals c.in_ok-chosen.chosen c.in_ok-own_values.field-0
 asked c = record {

@@ -3,7 +3,8 @@ use Rattle.std.specs.Int.{w128}
 use Rattle.std.proofs.lemmas.Int.{ints, to_z-of_z}
 use Rattle.std.proofs.lemmas.List.{take_all}
 use Rattle.tk_alloc.specs.Resolving.{own_factors}
-use Rattle.tk_coord.proofs.BoardLemmas.{own_count, own_more}
+use Rattle.tk_alloc.proofs.BorderLemmas.{factors_count}
+use Rattle.tk_coord.proofs.BoardLemmas.{own_more}
 use Rattle.tk_coord.proofs.board.own_levels.Goals as goal
 
 pub loop-place-init : goal.loop-place-init
@@ -30,5 +31,5 @@ loop-place-preserved c =
 pub returns : goal.returns
 returns c =
     let table = c.args.table.now in
-    let all : length (own_factors table) ≤ c.loop-place.place = (let size = c.requires in let count = own_count table in let over = c.loop-place-test.false in omega (arith, size, count, over)) in
+    let all : length (own_factors table) ≤ c.loop-place.place = (let size = c.requires in let count = factors_count table in let over = c.loop-place-test.false in omega (arith, size, count, over)) in
     c.loop-place.invariant.same ∙ take_all c.loop-place.place (own_factors table) all

@@ -5,8 +5,8 @@ use Rattle.std.proofs.lemmas.Bool.{lt-ltb}
 use Rattle.std.proofs.lemmas.List.Folds.{list_all_at}
 use Rattle.tk_base.specs.Ascending.{ascends}
 use Rattle.tk_base.specs.Objects.{is_in}
+use Rattle.tk_border.proofs.AscendsLemmas.{ascending_passes}
 use Rattle.tk_coord.specs.Checks.{known_in}
-use Rattle.tk_journal.proofs.AscendsLemmas.{ascending_passes}
 use Rattle.tk_coord.proofs.SearchLemmas.{all_pass}
 use Rattle.tk_coord.proofs.checks.are_outsiders.Goals as goal
 

@@ -3,10 +3,10 @@ use Rattle.std.specs.Prelude.{FitsSigned}
 use Rattle.std.specs.Int.{w128}
 use Rattle.std.proofs.lemmas.Int.{to_z-of_z, ints}
 use Rattle.std.proofs.lemmas.Option.{slice_get-get_or}
+use Rattle.tk_base.proofs.FindLemmas.{find_first, find_none, passed_more}
 use Rattle.tk_border.specs.Levels.{is_above}
 use Rattle.tk_journal.specs.Refusal.{Known, least_in, level_in}
 use Rattle.tk_coord.specs.Checks.{known_in}
-use Rattle.tk_coord.proofs.SearchLemmas.{find_first, find_none, passed_more}
 use Rattle.tk_coord.proofs.checks.not_broken.Goals as goal
 
 abbrev whole : Known → List (ℕ × ℤ) → ℕ → Bool

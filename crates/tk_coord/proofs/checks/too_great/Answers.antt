@@ -2,8 +2,8 @@ use Rattle.std.proofs.Common.{◌≡◌, ℕ, ℤ, Bool, true, false, arith, ap,
 use Rattle.std.specs.Prelude.{FitsSigned}
 use Rattle.std.specs.Int.{w128}
 use Rattle.std.proofs.lemmas.Int.{to_z-of_z, ints}
+use Rattle.tk_base.proofs.FindLemmas.{find_first, find_none, passed_more}
 use Rattle.tk_coord.specs.Checks.{is_too_great}
-use Rattle.tk_coord.proofs.SearchLemmas.{find_first, find_none, passed_more}
 use Rattle.tk_coord.proofs.checks.too_great.Goals as goal
 
 abbrev great : ℕ × ℤ → Bool

@@ -1,8 +1,9 @@
 use Rattle.std.proofs.Common.{◌≡◌, ◌+◌, ℕ, List, [], ◌∷◌, ◌++◌, length, map, sym, ap, ◌∙◌, arith}
 use Rattle.std.specs.List.{range_with_len}
+use Rattle.tk_border.proofs.RisingLemmas.{counted_more}
 use Rattle.tk_journal.specs.Readings.{Progress}
 use Rattle.tk_coord.specs.Closing.{said_at}
-use Rattle.tk_coord.proofs.RangeLemmas.{counted_more, map_twice}
+use Rattle.tk_coord.proofs.RangeLemmas.{map_twice}
 use Rattle.tk_coord.proofs.publishing.cut_of.Goals as goal
 
 -- where the places of one monitor more were pushed

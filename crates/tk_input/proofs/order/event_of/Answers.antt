@@ -1,11 +1,6 @@
-use Rattle.std.proofs.Common.{◌∙◌, ap, ℕ, List, [], ◌∷◌, Option, Bor}
-use Rattle.std.specs.Option.{option_map_or}
-use Rattle.tk_input.specs.Order.{words}
-use Rattle.tk_input.proofs.LinesLemmas.{four_words}
+use Rattle.std.proofs.Common.{◌∙◌, ap}
+use Rattle.tk_input.proofs.LinesLemmas.{four_words, after}
 use Rattle.tk_input.proofs.order.event_of.Goals as goal
-
-abbrev after : (verb : List ℕ) → Option (Bor (List ℕ)) → List (List ℕ)
-after verb rest = verb ∷ option_map_or (λ r. words r.now) rest []
 
 -- a fourth word
 pub returns-in-Some-more : goal.returns-in-Some-more

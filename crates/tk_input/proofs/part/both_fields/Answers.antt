@@ -1,11 +1,7 @@
-use Rattle.std.proofs.Common.{ℕ, List, Option, Bor, sym, ap, ◌∙◌}
-use Rattle.std.specs.Prelude.{option_map}
+use Rattle.std.proofs.Common.{sym, ap, ◌∙◌}
 use Rattle.csv.specs.Records.{fields_of}
-use Rattle.tk_input.proofs.LogLemmas.{both_found, no_first, no_second}
+use Rattle.tk_input.proofs.LogLemmas.{both_found, no_first, no_second, bytes_of}
 use Rattle.tk_input.proofs.part.both_fields.Goals as goal
-
-abbrev bytes_of : Option (Bor (List ℕ)) → Option (List ℕ)
-bytes_of o = option_map (λ s. s.now) o
 
 pub returns-in_err-get : goal.returns-in_err-get
 returns-in_err-get c = let none = no_first (fields_of c.args.row.now) (sym c.len.ensures ∙ c.if-len-ne2.false) (sym c.get.ensures.value ∙ ap bytes_of c.in_err-get.was) in absurd none

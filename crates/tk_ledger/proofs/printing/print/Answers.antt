@@ -1,10 +1,11 @@
 use Rattle.std.proofs.Common.{subst}
 use Rattle.std.specs.Prelude.{OnErr, OnOk}
+use Rattle.tk_base.proofs.OptionLemmas.{on_err}
 use Rattle.tk_input.specs.Sink.{Grows, GrowsByFront}
 use Rattle.tk_ledger.specs.Ledger.{ledger_of}
 use Rattle.tk_ledger.specs.Text.{ledger_text, sets_text, text_of}
 use Rattle.tk_ledger.specs.declared.ledger.Ledger.{Ledger}
-use Rattle.tk_ledger.proofs.SinkLemmas.{front_longer, front_of, on_err, then_err, then_ok}
+use Rattle.tk_ledger.proofs.SinkLemmas.{front_longer, front_of, then_err, then_ok}
 use Rattle.tk_ledger.proofs.printing.print.Goals as goal
 
 pub returns-in_err-print_sets-clause-err : goal.returns-in_err-print_sets-clause-err

@@ -1,5 +1,6 @@
+use Rattle.tk_base.proofs.OptionLemmas.{on_err}
 use Rattle.tk_ledger.specs.Text.{publications_text}
-use Rattle.tk_ledger.proofs.SinkLemmas.{front_more, grows_more, on_err, put_done, put_failed, put_front}
+use Rattle.tk_ledger.proofs.SinkLemmas.{front_more, grows_more, put_done, put_failed, put_front}
 use Rattle.tk_ledger.proofs.printing.print_last.Goals as goal
 
 pub returns-in_err-put_line-clause-err : goal.returns-in_err-put_line-clause-err

@@ -1,5 +1,6 @@
+use Rattle.tk_base.proofs.OptionLemmas.{on_err}
 use Rattle.tk_ledger.specs.Text.{monitors_text, totals_text}
-use Rattle.tk_ledger.proofs.SinkLemmas.{front_longer, on_err, then_err}
+use Rattle.tk_ledger.proofs.SinkLemmas.{front_longer, then_err}
 use Rattle.tk_ledger.proofs.printing.print_ledger.Goals as goal
 
 pub returns-in_err-print_totals-clause-err : goal.returns-in_err-print_totals-clause-err

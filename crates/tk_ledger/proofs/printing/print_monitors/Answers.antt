@@ -1,7 +1,8 @@
 use Rattle.std.proofs.Common.{◌+◌, ◌∙◌, take, arith}
+use Rattle.tk_base.proofs.OptionLemmas.{on_err}
 use Rattle.tk_ledger.specs.Text.{monitor_text, monitors_text}
 use Rattle.tk_ledger.proofs.LineLemmas.{monitors_more, monitors_split}
-use Rattle.tk_ledger.proofs.SinkLemmas.{goes_on, on_err, stops_before, stops_within}
+use Rattle.tk_ledger.proofs.SinkLemmas.{goes_on, stops_before, stops_within}
 use Rattle.tk_ledger.proofs.printing.print_monitors.Goals as goal
 
 pub returns-in_err-monitor_line-clause-err : goal.returns-in_err-monitor_line-clause-err

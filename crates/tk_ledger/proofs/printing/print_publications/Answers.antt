@@ -1,9 +1,10 @@
 use Rattle.std.proofs.Common.{◌≡◌, ◌+◌, ◌||◌, ◌∙◌, subst, take, ap, sym, refl, ℕ, List, Option, Bor, option_map}
 use Rattle.std.specs.List.{concat, list_any}
+use Rattle.tk_base.proofs.OptionLemmas.{on_err}
 use Rattle.tk_input.specs.Sink.{Grows}
 use Rattle.tk_ledger.specs.Text.{is_tuned, line_with, lines_by}
 use Rattle.tk_ledger.proofs.LineLemmas.{concat-push, lines_split, line_is, no_line, no_line_is, one_line, tuned_next}
-use Rattle.tk_ledger.proofs.SinkLemmas.{goes_on, grows_none, on_err, stops_before, stops_within}
+use Rattle.tk_ledger.proofs.SinkLemmas.{goes_on, grows_none, stops_before, stops_within}
 use Rattle.tk_ledger.proofs.printing.print_publications.Goals as goal
 use Rattle.tk_ledger.proofs.printing.print_publications.Goals.{in-Some+in_ok-put_line, in_default}
 

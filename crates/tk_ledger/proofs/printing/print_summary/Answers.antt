@@ -1,13 +1,14 @@
 use Rattle.std.proofs.Common.{◌≡◌, ℕ, List, [], ◌++◌, ◌∙◌, ap, append_assoc, subst, length}
 use Rattle.std.specs.Prelude.{OnErr, OnOk, unwrap_or}
 use Rattle.tk_base.specs.History.{last_of}
+use Rattle.tk_base.proofs.OptionLemmas.{on_err}
 use Rattle.tk_input.specs.Sink.{Grows, GrowsByFront}
 use Rattle.tk_journal.specs.declared.noted.Noted.{Noted}
 use Rattle.tk_ledger.specs.Ledger.{ledger_of}
 use Rattle.tk_ledger.specs.Text.{lines_of, publications_text, summary_of, totals_text}
 use Rattle.tk_ledger.specs.declared.ledger.Ledger.{Ledger}
 use Rattle.tk_ledger.proofs.LineLemmas.{named_at}
-use Rattle.tk_ledger.proofs.SinkLemmas.{front_longer, front_of, on_err, put_done, put_front, then_err, then_ok}
+use Rattle.tk_ledger.proofs.SinkLemmas.{front_longer, front_of, put_done, put_front, then_err, then_ok}
 use Rattle.tk_ledger.proofs.printing.print_summary.Goals as goal
 
 -- how many publications there are, and the line of the last

@@ -1,13 +1,14 @@
 use Rattle.std.proofs.Common.{List, subst}
 use Rattle.std.specs.Prelude.{OnErr, OnOk}
 use Rattle.std.specs.List.{concat}
+use Rattle.tk_base.proofs.OptionLemmas.{on_err}
 use Rattle.tk_input.specs.Sink.{Grows, GrowsByFront}
 use Rattle.tk_journal.specs.declared.noted.Noted.{Noted}
 use Rattle.tk_ledger.specs.Ledger.{ledger_of}
 use Rattle.tk_ledger.specs.Text.{ledger_text, lines_by, ticked_at, ticked_text_of}
 use Rattle.tk_ledger.specs.declared.ledger.Ledger.{Ledger}
 use Rattle.tk_ledger.proofs.LineLemmas.{named_at}
-use Rattle.tk_ledger.proofs.SinkLemmas.{front_longer, front_of, on_err, then_err, then_ok}
+use Rattle.tk_ledger.proofs.SinkLemmas.{front_longer, front_of, then_err, then_ok}
 use Rattle.tk_ledger.proofs.printing.print_ticked.Goals as goal
 
 pub print_publications-requires : goal.print_publications-requires

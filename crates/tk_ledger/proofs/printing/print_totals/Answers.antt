@@ -1,6 +1,7 @@
 use Rattle.std.proofs.Common.{◌++◌}
+use Rattle.tk_base.proofs.OptionLemmas.{on_err}
 use Rattle.tk_ledger.specs.Text.{bytes_text, frames_text, rounds_text}
-use Rattle.tk_ledger.proofs.SinkLemmas.{front_more, front_of, grows_more, on_err, put_done, put_failed, put_front}
+use Rattle.tk_ledger.proofs.SinkLemmas.{front_more, front_of, grows_more, put_done, put_failed, put_front}
 use Rattle.tk_ledger.proofs.printing.print_totals.Goals as goal
 
 pub returns-in_err-put_line-clause-err : goal.returns-in_err-put_line-clause-err

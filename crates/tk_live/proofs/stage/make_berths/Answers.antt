@@ -2,11 +2,11 @@ use Rattle.std.proofs.Common.{◌≡◌, ◌+◌, ◌++◌, ◌∷◌, [], map, 
 use Rattle.std.specs.List.{range_with_len}
 use Rattle.std.proofs.lemmas.List.{map-append}
 use Rattle.std.proofs.lemmas.List.Elements.{All-push}
+use Rattle.tk_border.proofs.RisingLemmas.{counted_more}
 use Rattle.tk_live.specs.Crew.{made_in}
 use Rattle.tk_live.specs.Made.{made_of}
 use Rattle.tk_live.proofs.HostLemmas.{gone_on}
 use Rattle.tk_live.proofs.stage.make_berths.Goals as goal
-use Rattle.tk_coord.proofs.RangeLemmas.{counted_more}
 
 pub returns-in-Err-clause-gone : goal.returns-in-Err-clause-gone
 returns-in-Err-clause-gone g c = gone_on _ _ _ c.loop-j.invariant.gone c.make_berth.ensures.gone

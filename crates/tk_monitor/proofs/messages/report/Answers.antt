@@ -3,9 +3,10 @@ use Rattle.std.specs.Prelude.{All, FitsSigned}
 use Rattle.std.specs.Int.{w128}
 use Rattle.std.proofs.lemmas.Int.{ints, to_z-of_z}
 use Rattle.tk_border.specs.Levels.{resolution, holds}
+use Rattle.tk_border.proofs.UnionLemmas.{resolution_within}
 use Rattle.tk_frames.specs.declared.frame.Frame.TheVariants as f
 use Rattle.tk_monitor.specs.Kept.{report_on}
-use Rattle.tk_monitor.proofs.MessageLemmas.{broken_within, resolution_holds, resolution_within, report_made, same_ok}
+use Rattle.tk_monitor.proofs.MessageLemmas.{broken_within, resolution_holds, report_made, same_ok}
 use Rattle.tk_monitor.proofs.messages.report.Goals as goal
 
 pub values_over-requires : goal.values_over-requires

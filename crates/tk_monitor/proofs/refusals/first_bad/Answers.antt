@@ -2,8 +2,8 @@ use Rattle.std.proofs.Common.{◌≡◌, ℤ, true, false, arith, ap, sym, ◌�
 use Rattle.std.specs.Prelude.{FitsSigned}
 use Rattle.std.specs.Int.{w128}
 use Rattle.std.proofs.lemmas.Int.{to_z-of_z, ints}
+use Rattle.tk_base.proofs.FindLemmas.{find_first, find_none, passed_more}
 use Rattle.tk_trail.specs.Refusal.{is_bad_change}
-use Rattle.tk_monitor.proofs.RefusalLemmas.{find_first, find_none, passed_more}
 use Rattle.tk_monitor.proofs.refusals.first_bad.Goals as goal
 
 pub returns-then-is_bad : goal.returns-then-is_bad

@@ -3,9 +3,10 @@ use Rattle.std.specs.Prelude.{replicate}
 use Rattle.std.proofs.lemmas.Bool.{cases_eq}
 use Rattle.std.proofs.lemmas.List.{length-set, length-replicate, get_or-set_same, get_or-set_other}
 use Rattle.std.proofs.lemmas.Grind.{same_number_lists}
+use Rattle.tk_base.proofs.ListLemmas.{zeros}
 use Rattle.tk_input.specs.Logs.{AreParts}
 use Rattle.tk_monitor.specs.Start.{StandsAt}
-use Rattle.tk_monitor.proofs.StartLemmas.{stands_size, zero_place, zero_values}
+use Rattle.tk_monitor.proofs.StartLemmas.{stands_size, zero_values}
 use Rattle.tk_monitor.proofs.start.start.Goals as goal
 
 pub loop-i-init : goal.loop-i-init
@@ -16,7 +17,7 @@ loop-i-init c =
     record {
       shape = ap (λ (ns : List ℕ). length ns) items ∙ length-replicate m 0;
       done = λ q below. absurd (omega arith);
-      rest = λ q above. ap (λ (ns : List ℕ). get_or ns q 0) items ∙ zero_place m q;
+      rest = λ q above. ap (λ (ns : List ℕ). get_or ns q 0) items ∙ zeros m q;
       stands = subst (λ (ns : List ℕ). StandsAt n c.args.parts.now ns c.args.board.now) (sym items) (record {
         values = c.requires.zeros.values ∙ sym (zero_values n c.args.parts.now m);
         levels = c.requires.zeros.levels ∙ sym (zero_values n c.args.parts.now m);

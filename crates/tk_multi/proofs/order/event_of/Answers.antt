@@ -1,11 +1,7 @@
-use Rattle.std.proofs.Common.{◌∙◌, sym, ap, ℕ, List, [], ◌∷◌, Option, Bor}
-use Rattle.std.specs.Option.{option_map_or}
-use Rattle.tk_input.specs.Order.{words}
+use Rattle.std.proofs.Common.{◌∙◌, sym, ap}
+use Rattle.tk_input.proofs.LinesLemmas.{after}
 use Rattle.tk_multi.proofs.OrderLemmas.{four_words}
 use Rattle.tk_multi.proofs.order.event_of.Goals as goal
-
-abbrev after : (verb : List ℕ) → Option (Bor (List ℕ)) → List (List ℕ)
-after verb rest = verb ∷ option_map_or (λ r. words r.now) rest []
 
 -- a fourth word
 pub returns-in-Some : goal.returns-in-Some

@@ -1,6 +1,7 @@
 use Rattle.std.specs.Prelude.{codes}
+use Rattle.tk_base.proofs.OptionLemmas.{on_err}
 use Rattle.tk_ledger.specs.Text.{sets_text}
-use Rattle.tk_ledger.proofs.SinkLemmas.{front_longer, front_more, on_err}
+use Rattle.tk_ledger.proofs.SinkLemmas.{front_longer, front_more}
 use Rattle.tk_run.proofs.check.print_yes.Goals as goal
 
 pub returns-in_err-print_sets-clause-err : goal.returns-in_err-print_sets-clause-err

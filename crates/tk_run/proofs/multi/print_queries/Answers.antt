@@ -3,9 +3,10 @@ use Rattle.std.specs.Prelude.{flat_map}
 use Rattle.std.specs.List.{zip}
 use Rattle.std.proofs.lemmas.List.{take_all}
 use Rattle.std.proofs.lemmas.Slice.Zip.{get_or-zip, length-zip}
+use Rattle.tk_base.proofs.OptionLemmas.{on_err}
 use Rattle.tk_input.specs.Sink.{Grows}
 use Rattle.tk_ledger.specs.Text.{text_of}
-use Rattle.tk_ledger.proofs.SinkLemmas.{goes_on, on_err, stops_before, stops_within}
+use Rattle.tk_ledger.proofs.SinkLemmas.{goes_on, stops_before, stops_within}
 use Rattle.tk_multi.specs.Queries.{QueryView}
 use Rattle.tk_story.specs.Kept.{KeptStory}
 use Rattle.tk_run.specs.Multi.{query_text}

@@ -3,9 +3,10 @@ use Rattle.std.specs.Prelude.{flat_map}
 use Rattle.std.specs.List.{enumerate_from}
 use Rattle.std.proofs.lemmas.List.{take_all}
 use Rattle.std.proofs.lemmas.List.FromFn.{length-enumerate_from}
+use Rattle.tk_base.proofs.OptionLemmas.{on_err}
 use Rattle.tk_input.specs.Sink.{Grows}
 use Rattle.tk_ledger.specs.Text.{text_of}
-use Rattle.tk_ledger.proofs.SinkLemmas.{goes_on, on_err, stops_before, stops_within}
+use Rattle.tk_ledger.proofs.SinkLemmas.{goes_on, stops_before, stops_within}
 use Rattle.tk_story.specs.Kept.{KeptStory}
 use Rattle.tk_run.specs.Sessions.{numbered_text}
 use Rattle.tk_run.proofs.MultiLemmas.{texts_split}

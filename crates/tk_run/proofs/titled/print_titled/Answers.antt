@@ -1,5 +1,6 @@
+use Rattle.tk_base.proofs.OptionLemmas.{on_err}
 use Rattle.tk_ledger.specs.Text.{text_of}
-use Rattle.tk_ledger.proofs.SinkLemmas.{front_longer, on_err, then_err}
+use Rattle.tk_ledger.proofs.SinkLemmas.{front_longer, then_err}
 use Rattle.tk_run.proofs.titled.print_titled.Goals as goal
 
 pub returns-in_err-put-clause-err : goal.returns-in_err-put-clause-err

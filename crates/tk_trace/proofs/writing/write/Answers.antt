@@ -1,5 +1,6 @@
 use Rattle.std.proofs.Common.{[], ◌∙◌}
-use Rattle.tk_ledger.proofs.SinkLemmas.{front_of, grows_none, on_err, put_done, put_front}
+use Rattle.tk_base.proofs.OptionLemmas.{on_err}
+use Rattle.tk_ledger.proofs.SinkLemmas.{front_of, grows_none, put_done, put_front}
 use Rattle.tk_trace.specs.Recorded.{recorded_of}
 use Rattle.tk_trace.specs.Spelling.{trace}
 use Rattle.tk_trace.proofs.writing.write.Goals as goal

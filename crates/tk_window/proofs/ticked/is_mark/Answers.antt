@@ -1,11 +1,9 @@
-use Rattle.std.proofs.Common.{◌≡◌, ℕ, List, Option, Some, Bor, sym, ap, ◌∙◌}
-use Rattle.std.specs.Prelude.{bytes_eq, option_map}
+use Rattle.std.proofs.Common.{◌≡◌, ℕ, List, Some, sym, ap, ◌∙◌}
+use Rattle.std.specs.Prelude.{bytes_eq}
 use Rattle.csv.specs.Records.{field_at, fields_of}
+use Rattle.tk_input.proofs.LogLemmas.{bytes_of}
 use Rattle.tk_window.proofs.ReadingLemmas.{mark_found, no_field}
 use Rattle.tk_window.proofs.ticked.is_mark.Goals as goal
-
-abbrev bytes_of : Option (Bor (List ℕ)) → Option (List ℕ)
-bytes_of o = option_map (λ s. s.now) o
 
 pub returns-in-Some : goal.returns-in-Some
 returns-in-Some c =

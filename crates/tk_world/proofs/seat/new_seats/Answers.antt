@@ -1,8 +1,8 @@
 use Rattle.std.proofs.Common.{◌++◌, ◌∷◌, [], List, ap₂, arith, sym, ◌∙◌}
+use Rattle.tk_border.proofs.RisingLemmas.{counted_more}
 use Rattle.tk_world.specs.Nodes.{fresh_seat}
 use Rattle.tk_world.specs.declared.seat.Seat.{Seat}
 use Rattle.tk_world.proofs.seat.new_seats.Goals as goal
-use Rattle.tk_coord.proofs.RangeLemmas.{counted_more}
 
 pub loop-j-preserved : goal.loop-j-preserved
 loop-j-preserved c = record {

@@ -5,6 +5,7 @@ use Rattle.tk_coord.specs.Coordinator.{CoordinatorView}
 use Rattle.tk_hub.specs.Hub.{HubView}
 use Rattle.tk_journal.specs.Legal.{inputs_of}
 use Rattle.tk_wire.specs.SureWire.{SureView}
+use Rattle.tk_border.proofs.RisingLemmas.{counted_more}
 use Rattle.tk_world.specs.Nodes.{fresh_seat}
 use Rattle.tk_world.specs.declared.seat.Seat.{Seat}
 use Rattle.tk_bytes.specs.Greeting.{AreMade}
@@ -12,7 +13,6 @@ use Rattle.tk_bytes.specs.Wired.{seat_of}
 use Rattle.tk_bytes.specs.declared.walked.Walked.{Walked}
 use Rattle.tk_bytes.proofs.MakingLemmas.{can_join, made_more}
 use Rattle.tk_bytes.proofs.wired.making.new_lines.Goals as goal
-use Rattle.tk_coord.proofs.RangeLemmas.{counted_more}
 
 pub loop-j-init : goal.loop-j-init
 loop-j-init c =

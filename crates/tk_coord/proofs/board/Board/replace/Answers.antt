@@ -2,16 +2,17 @@ use Rattle.std.proofs.Common.{ℕ, length, sym, ap, ◌∙◌, subst}
 use Rattle.tk_border.specs.Levels.{AreMembers}
 use Rattle.tk_rank.specs.Rank.{RankView}
 use Rattle.tk_rows.specs.Replacing.{IsReplacement}
+use Rattle.tk_alloc.proofs.BorderLemmas.{factors_count}
 use Rattle.tk_coord.specs.Board.{BoardView}
 use Rattle.tk_coord.specs.Steps.{IsReplaced}
-use Rattle.tk_coord.proofs.BoardLemmas.{length-relevelled, own_count, ranks_after}
+use Rattle.tk_coord.proofs.BoardLemmas.{length-relevelled, ranks_after}
 use Rattle.tk_coord.proofs.board.Board.replace.Goals as goal
 
 pub set_members-requires : goal.set_members-requires
 set_members-requires c =
     let f = c.self.inside in
     let change = c.args.reallocation in
-    let same = ap (λ (r : RankView). length r.levels) (c.relevel.ensures.value) ∙ length-relevelled change.own f.ranks.levels ∙ ap (λ (r : RankView). length r.levels) c.self.invariant ∙ own_count f.table in
+    let same = ap (λ (r : RankView). length r.levels) (c.relevel.ensures.value) ∙ length-relevelled change.own f.ranks.levels ∙ ap (λ (r : RankView). length r.levels) c.self.invariant ∙ factors_count f.table in
     subst (λ (n : ℕ). AreMembers n change.members) (sym same) (subst (λ (b : BoardView). AreMembers (length b.table.rows) change.members) (sym c.self.view_is) c.requires.members)
 
 pub invariant_of-self : goal.invariant_of-self

@@ -1,4 +1,5 @@
-use Rattle.std.proofs.Common.{◌≡◌, Bool, false, true, not, nat_lt, refl, sym, ◌∙◌, subst}
+use Rattle.std.proofs.Common.{◌≡◌, false, true, nat_lt, refl, sym, ◌∙◌, subst}
+use Rattle.tk_base.proofs.BoolLemmas.{not_true, not_false}
 use Rattle.tk_journal.specs.declared.turn.TurnKind.{TurnKind}
 use Rattle.tk_journal.specs.Turns.{passes_at, streak}
 use Rattle.tk_coord.specs.Steps.{IsCounted, IsStep, asks_wide, report_frame}
@@ -8,15 +9,6 @@ use Rattle.tk_coord.proofs.GroundLemmas.{entries_of, force_large}
 use Rattle.tk_coord.proofs.OutcomesLemmas.{alone_can_end}
 use Rattle.tk_coord.proofs.ReportTurns.{open_follows, same_test, short_follows, tired_follows}
 use Rattle.tk_coord.proofs.coordinator.Coordinator.answered.Goals as goal
-
--- what is not refused holds, and what is does not
-not_false : (b t : Bool) → t ≡ not b → t ≡ false → b ≡ true
-not_false true t is fell = refl
-not_false false t is fell = cc
-
-not_true : (b t : Bool) → t ≡ not b → t ≡ true → b ≡ false
-not_true true t is held = cc
-not_true false t is held = refl
 
 pub passes-requires-clause-ready : goal.passes-requires-clause-ready
 passes-requires-clause-ready c = (deals c.args.self.now.settings c.args.self.now.journal c.grounds-grounds.result c.args.report c.args.frame.now c.grounds-grounds.ensures c.requires).ready

@@ -1,8 +1,9 @@
 use Rattle.std.proofs.Common.{◌≡◌, ℕ, ◌∙◌, ◌<◌, ◌≤◌, List, length, ap, sym, subst, arith}
 use Rattle.std.specs.Prelude.{ℤ, All}
+use Rattle.tk_base.proofs.OptionLemmas.{on_err}
 use Rattle.tk_monitor.specs.Board.{BoardView, IsBoard, AreLimited, assigned, values_under}
 use Rattle.tk_monitor.specs.Factors.{HasFactor}
-use Rattle.tk_monitor.proofs.AssignLemmas.{on_err, set_levels, set_size, set_values, levels_back, board_taken}
+use Rattle.tk_monitor.proofs.AssignLemmas.{set_levels, set_size, set_values, levels_back, board_taken}
 use Rattle.tk_monitor.proofs.ValuesLemmas.{values_same, view_same, board_made}
 use Rattle.tk_monitor.proofs.FactorsLemmas.{factors_over-all}
 use Rattle.tk_monitor.proofs.board.Board.assign.Goals as goal
