@@ -7,7 +7,6 @@
 
 mod alloc_fault;
 mod candidate;
-mod extremes;
 mod full_round;
 mod laws;
 mod limit;

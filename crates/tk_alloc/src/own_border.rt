@@ -5,8 +5,8 @@ ghost use Rattle.tk_base.specs.Pairs.{objects_of};
 ghost use Rattle.tk_border.specs.Levels.{greatest_outside as greatest_outside_of, least_member as least_member_of};
 ghost use Rattle.tk_alloc.specs.Resolving.{IsReady, own_factors, round_border};
 
-use crate::extremes::{lower, raise};
 use tk_base::{Obj, ObjSet, Pairs, Settings};
+use tk_border::{lower, raise};
 use tk_rows::Table;
 
 /// Whether an object is among those of some values.

@@ -8,7 +8,6 @@ ghost use Rattle.tk_alloc.specs.Rounds.{AreValues, KeepsLevels, KeepsOwn};
 ghost use Rattle.tk_alloc.specs.Search.{BoundsOthers, IsReachedBelow, joint_of};
 
 use crate::alloc_fault::AllocFault;
-use crate::extremes::raise;
 use crate::limit::within_limit;
 use crate::own_border::own_border;
 use crate::picking::is_member;
@@ -18,6 +17,7 @@ use crate::terms::{Borders, Terms};
 use std::alloc::Global;
 use std::slice;
 use tk_base::{Obj, ObjSet, Settings};
+use tk_border::raise;
 use tk_rows::{Reallocation, Table};
 
 /// The level of the object at a place, at the coordinator and the monitor together, without epsilon.

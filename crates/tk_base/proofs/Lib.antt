@@ -10,3 +10,4 @@ pub mod ListLemmas
 pub mod SumLemmas
 pub mod MemberLemmas
 pub mod FindLemmas
+pub mod DigitsLemmas

@@ -1,5 +1,5 @@
 -- What a binary search by the number of an element says of the list of the numbers.
-use Rattle.std.proofs.Common.{◌≡◌, ℕ, ◌<◌, ◌≤◌, List, [], ◌∷◌, length, map, get_or, Contains, Result, Ok, Err, sym, ◌∙◌, subst, arith, inl, inr}
+use Rattle.std.proofs.Common.{◌≡◌, ℕ, ◌<◌, ◌≤◌, List, length, map, get_or, Contains, Result, Ok, Err, sym, ◌∙◌, subst, arith, inl, inr}
 use Rattle.std.specs.Prelude.{IfSome, IfNone, MatchResult}
 use Rattle.std.specs.Result.{result_ok}
 use Rattle.std.specs.List.{HoldsAt, AllWithin}
@@ -11,15 +11,11 @@ use Rattle.std.proofs.lemmas.List.Sorted.{searched}
 use Rattle.std.proofs.lemmas.Bool.{cases_lt}
 use Rattle.tk_base.specs.Ascending.{IsAscending}
 use Rattle.tk_base.proofs.AscendingLemmas.{ascending_along}
-
--- some element of a list that has a place
-one_of : {X : Type 0} (xs : List X) (i : ℕ) → i < length xs → X
-one_of [] i within = absurd (omega arith)
-one_of (x ∷ xs) i within = x
+use Rattle.tk_base.proofs.ListLemmas.{there_at}
 
 mapped_at : {X : Type 0} (f : X → ℕ) (P : ℕ → Type 0) (xs : List X) (i : ℕ) → i < length xs → HoldsAt (λ y. P (f y)) xs i → HoldsAt P (map f xs) i
 mapped_at f P xs i within holds d =
-    let e = one_of xs i within in
+    let e = (there_at xs i within).0 in
     subst P (sym (get_or-map f xs i e d within)) (holds e)
 
 mapped_within : {X : Type 0} (f : X → ℕ) (P : ℕ → Type 0) (xs : List X) (low high : ℕ) → high ≤ length xs → AllWithin (λ y. P (f y)) xs low high → AllWithin P (map f xs) low high

@@ -6,3 +6,4 @@ pub mod Pairs
 pub mod Settings
 pub mod Sum
 pub mod Texts
+pub mod Digits

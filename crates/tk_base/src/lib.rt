@@ -7,6 +7,7 @@
 #![tactic(auto)]
 
 mod cut;
+mod digits;
 mod ids;
 mod memory;
 mod narrow_pair;
@@ -17,6 +18,7 @@ mod places;
 mod settings;
 
 pub use cut::Cut;
+pub use digits::{digits_of, short_of};
 pub use ids::{Feeder, Mon, Obj};
 pub use memory::NoMemory;
 pub use narrow_pair::NarrowPair;

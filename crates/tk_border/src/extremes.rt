@@ -14,7 +14,8 @@ pub(crate) fn level(levels: &[i128], o: Obj) -> i128
     levels[(o.0 - 1) as usize]
 }
 
-fn lower(least: Option<i128>, number: i128) -> Option<i128>
+/// The lesser of a number and the least so far.
+pub fn lower(least: Option<i128>, number: i128) -> Option<i128>
     ensures { result ≡ lowered least number }
 {
     Some(match least {
@@ -23,7 +24,8 @@ fn lower(least: Option<i128>, number: i128) -> Option<i128>
     })
 }
 
-fn raise(greatest: Option<i128>, number: i128) -> Option<i128>
+/// The greater of a number and the greatest so far.
+pub fn raise(greatest: Option<i128>, number: i128) -> Option<i128>
     ensures { result ≡ raised greatest number }
 {
     Some(match greatest {

@@ -13,5 +13,6 @@ mod union;
 
 pub use borders::{border, own_border};
 pub use broken::failed;
+pub use extremes::{lower, raise};
 pub use members::{are_members, holds};
 pub use union::resolution;

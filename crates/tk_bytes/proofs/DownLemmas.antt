@@ -34,7 +34,6 @@ use Rattle.tk_base.specs.declared.memory.NoMemory.{NoMemory}
 use Rattle.std.specs.Prelude.{Result}
 use Rattle.tk_port.specs.Port.{TurnsOne as TurnsPort, TakesFrame as TakesDown, hello_of}
 use Rattle.tk_port.specs.Port.{course_of as port_course_of}
-use Rattle.tk_port.specs.Side.{taking}
 use Rattle.tk_port.specs.declared.turn.Turn.{Turn}
 use Rattle.tk_port.specs.declared.turn.Turn.TheVariants as u
 use Rattle.tk_port.proofs.SideLemmas.{sent_after, taken_after}
@@ -45,6 +44,7 @@ use Rattle.tk_trail.specs.Readings.{is_stopped as has_stopped}
 use Rattle.tk_trail.specs.declared.entry.Entry.{Entry}
 use Rattle.tk_trail.specs.declared.refusal.MonitorRefusal.{MonitorRefusal}
 use Rattle.tk_trail.specs.declared.refusal.MonitorRefusal.TheVariants.{AfterStop as AfterStopDown}
+use Rattle.tk_monitor.specs.Stepped.{taking}
 use Rattle.tk_bytes.proofs.LineLemmas.{front_taken, none_given, open_link, open_port, seated, some_length, sure_of, no_frames}
 
 -- ---- a piece that left the hub's wire

@@ -21,9 +21,7 @@ use Rattle.tk_trail.specs.Setup.{MonitorSetup}
 use Rattle.tk_wire.specs.SureWire.{SureView}
 use Rattle.tk_end.specs.Link.{LinkView}
 use Rattle.tk_port.specs.Port.{IsPort, PortView}
-use Rattle.tk_port.specs.Turn.{checking}
 use Rattle.tk_port.proofs.SideLemmas.{taken_after}
-use Rattle.tk_port.specs.Side.{taking}
 use Rattle.tk_hub.proofs.DeskLemmas.{heard_after, no_input}
 use Rattle.tk_journal.proofs.Appends.{frames_from-append}
 use Rattle.tk_journal.proofs.WholeLemmas.{turn_is}
@@ -31,11 +29,12 @@ use Rattle.tk_monitor.specs.declared.outcome.Raised.{Raised}
 use Rattle.tk_monitor.specs.declared.outcome.Raised.TheVariants.{Done, Ended}
 use Rattle.tk_trail.specs.Frames.{due_at}
 use Rattle.tk_trail.proofs.ReadingsLemmas.{taken_by-raised, answer_taken}
+use Rattle.tk_monitor.specs.Stepped.{checking, taking}
 use Rattle.tk_bytes.specs.Way.{AreJoined}
 use Rattle.tk_hub.specs.Desk.{getting}
 use Rattle.tk_hub.specs.Hub.{HubView, IsHub}
 use Rattle.tk_hub.specs.Seats.{link_at}
-use Rattle.tk_world.specs.Nodes.{AtSeat, CanGoDown, CanGoUp, GoesDown, GoesUp, HasSeat, RaisesAt, checked, having_taken, with_input, with_seat}
+use Rattle.tk_world.specs.Nodes.{AtSeat, CanGoDown, CanGoUp, GoesDown, GoesUp, HasSeat, RaisesAt, with_input, with_seat}
 use Rattle.tk_world.specs.declared.seat.Seat.{Seat}
 use Rattle.tk_world.proofs.RestLemmas.{not_passed}
 use Rattle.tk_bytes.specs.Line.{ComesDown, ComesUp, IsLine, KeepsOthers}
@@ -173,10 +172,10 @@ raised_at mon hub lines w port feeder raised has at raises =
     (record { monitor = port.monitor; answer = raises; is = seen_set hub hub lines mon (record w { line = record { port = port; up = w.line.up; down = w.line.down } }) })
 
 pub checked_seen : (mon : ℕ) (hub : HubView SureView) (lines : List Walked) (w : Walked) (port : PortView SureView) → HasSeat (seen_of hub lines) mon → w ≡ get_or lines (mon - 1) w → port ≡ record w.line.port { monitor = checking w.line.port.monitor }
-    → AtSeat (seen_of hub lines) mon (λ seat. seen_of hub (set lines (mon - 1) (record w { line = record { port = port; up = w.line.up; down = w.line.down } })) ≡ with_seat (seen_of hub lines) mon (record seat { monitor = checked seat.monitor }))
+    → AtSeat (seen_of hub lines) mon (λ seat. seen_of hub (set lines (mon - 1) (record w { line = record { port = port; up = w.line.up; down = w.line.down } })) ≡ with_seat (seen_of hub lines) mon (record seat { monitor = checking seat.monitor }))
 checked_seen mon hub lines w port has at is =
     let w' : Walked = record w { line = record { port = port; up = w.line.up; down = w.line.down } } in
-    at_walked hub lines mon (λ seat. seen_of hub (set lines (mon - 1) w') ≡ with_seat (seen_of hub lines) mon (record seat { monitor = checked seat.monitor })) w has at
+    at_walked hub lines mon (λ seat. seen_of hub (set lines (mon - 1) w') ≡ with_seat (seen_of hub lines) mon (record seat { monitor = checking seat.monitor })) w has at
     (seen_set hub hub lines mon w' ∙ ap (λ (p : PortView SureView). with_seat (seen_of hub lines) mon (record { monitor = p.monitor; taken = w.taken; got = w.got })) is)
 
 pub same_seen : (mon : ℕ) (hub : HubView SureView) (lines : List Walked) (w : Walked) (port : PortView SureView) → w ≡ get_or lines (mon - 1) w → port ≡ w.line.port → seen_of hub (set lines (mon - 1) (record w { line = record { port = port; up = w.line.up; down = w.line.down } })) ≡ seen_of hub lines
@@ -284,7 +283,7 @@ down_seen mon hub hub' lines w line has at g taken kept =
     (record {
       frame = g.frame;
       next = g.next;
-      is = seats_set hub hub' lines mon w (record { line = line; taken = w.taken + 1; got = w.got }) (record { monitor = having_taken w.line.port.monitor g.frame; taken = w.taken + 1; got = w.got }) hub.coordinator kept
+      is = seats_set hub hub' lines mon w (record { line = line; taken = w.taken + 1; got = w.got }) (record { monitor = taking w.line.port.monitor g.frame; taken = w.taken + 1; got = w.got }) hub.coordinator kept
           (ap (λ (m : MonitorView). record { monitor = m; taken = w.taken + 1; got = w.got }) taken);
     })
 

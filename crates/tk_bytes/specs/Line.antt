@@ -12,8 +12,8 @@ use Rattle.tk_trail.specs.Refusal.{refusal_of as monitor_refusal_of}
 use Rattle.tk_wire.specs.Buffered.{IsFull}
 use Rattle.tk_wire.specs.SureWire.{SureView}
 use Rattle.tk_end.specs.Link.{LinkView, Says}
+use Rattle.tk_monitor.specs.Stepped.{taking}
 use Rattle.tk_port.specs.Port.{IsPort}
-use Rattle.tk_port.specs.Side.{taking}
 use Rattle.tk_port.specs.declared.course.Course.TheVariants as c
 use Rattle.tk_hub.specs.Desk.{getting}
 use Rattle.tk_hub.specs.Hub.{HubView, IsHub}

@@ -10,6 +10,7 @@ use Rattle.tk_journal.specs.Legal.{IsAccepted, IsLegal, Opening, turn_of}
 use Rattle.tk_journal.specs.Refusal.{refusal_of, retune_refusal_of}
 use Rattle.tk_journal.specs.Turns.{rounds, streak}
 use Rattle.tk_journal.specs.declared.noted.Noted.{Noted}
+use Rattle.tk_journal.specs.RoundEnds.{openings}
 use Rattle.tk_journal.specs.declared.noted.Noted.TheVariants as n
 use Rattle.tk_journal.proofs.Firm.{IsFirm}
 use Rattle.tk_journal.proofs.KindLemmas.{rounds_read, streak_read}
@@ -18,7 +19,6 @@ use Rattle.tk_journal.proofs.Orderly.{IsOrderly}
 use Rattle.tk_journal.proofs.SoundLemmas.{legal_firm}
 use Rattle.tk_journal.proofs.WholeLemmas.{goes_on}
 use Rattle.tk_coord.specs.Coordinator.{IsJournal}
-use Rattle.tk_coord.specs.Turns.{opened_in}
 
 -- ---- what holds of the journal of a coordinator
 
@@ -35,8 +35,8 @@ pub limits_at : (s : Setup) (j : List Noted) → IsJournal s j → IsWithinLimit
 limits_at s j h = subst IsWithinLimits h.settings h.set_up.limits
 
 -- how many rounds were opened is read of its turns
-pub rounds_at : (s : Setup) (j : List Noted) → IsJournal s j → rounds s j ≡ opened_in (turns_of s j)
-rounds_at s j h = subst (λ (q : Setup). rounds q j ≡ opened_in (turns_of q j)) h.settings (rounds_read h.opening j h.set_up h.legal)
+pub rounds_at : (s : Setup) (j : List Noted) → IsJournal s j → rounds s j ≡ openings (turns_of s j)
+rounds_at s j h = subst (λ (q : Setup). rounds q j ≡ openings (turns_of q j)) h.settings (rounds_read h.opening j h.set_up h.legal)
 
 -- and so is the streak
 pub streak_at : (s : Setup) (j : List Noted) → IsJournal s j → streak s j ≡ streak_of (turns_of s j)

@@ -7,9 +7,10 @@ use Rattle.std.proofs.lemmas.List.{append-nil}
 use Rattle.tk_base.specs.Settings.{Setup}
 use Rattle.tk_base.specs.declared.ids.Mon.{Mon}
 use Rattle.tk_frames.specs.declared.frame.Frame.{Frame}
+use Rattle.tk_frames.specs.Carried.{is_numbered}
 use Rattle.tk_frames.specs.declared.frame.Frame.TheVariants as f
 use Rattle.tk_alloc.specs.declared.reported.Reported.{Reported}
-use Rattle.tk_journal.specs.Readings.{Progress, assigns_sent, seqs_to, answer_of, progress_of, told as tells, assigns_on, is_answer, last_round, asked_of, values_of, values_for, waits_for, is_open}
+use Rattle.tk_journal.specs.Readings.{Progress, assigns_sent, seqs_to, answer_of, progress_of, told as tells, assigns_on, last_round, asked_of, values_of, values_for, waits_for, is_open}
 use Rattle.tk_journal.specs.Links.{link_of}
 use Rattle.tk_journal.specs.Links.Passed.{Up}
 use Rattle.tk_journal.specs.Laws.{IsMonitor}
@@ -59,7 +60,7 @@ waits_kept q j mon frame same =
 -- the frame of another monitor is no answer of this one
 pub answer_other : (q : ℕ) (j : List Noted) (mon : Mon) (frame : Frame) → mon.0 == q ≡ false → answer_of q (with_got j mon frame) ≡ answer_of q j
 answer_other q j mon frame apart =
-    got_answer q j mon frame ∙ ap (λ b. if b then (if is_answer (assigns_sent q j) frame then Some frame else answer_of q j) else answer_of q j) apart
+    got_answer q j mon frame ∙ ap (λ b. if b then (if is_numbered (assigns_sent q j) frame then Some frame else answer_of q j) else answer_of q j) apart
 
 -- nor does it tell of its progress
 progress_other : (q : ℕ) (j : List Noted) (mon : Mon) (frame : Frame) → mon.0 == q ≡ false → progress_of q (with_got j mon frame) ≡ progress_of q j
@@ -138,11 +139,11 @@ if_same true x y h = h refl
 if_same false x y h = refl
 
 -- no answer comes under another number
-pub answer_stale : (q : ℕ) (j : List Noted) (mon : Mon) (frame : Frame) → is_answer (assigns_sent mon.0 j) frame ≡ false → answer_of q (with_got j mon frame) ≡ answer_of q j
+pub answer_stale : (q : ℕ) (j : List Noted) (mon : Mon) (frame : Frame) → is_numbered (assigns_sent mon.0 j) frame ≡ false → answer_of q (with_got j mon frame) ≡ answer_of q j
 answer_stale q j mon frame stale =
     got_answer q j mon frame
-    ∙ if_same (mon.0 == q) (if is_answer (assigns_sent q j) frame then Some frame else answer_of q j) (answer_of q j)
-    (λ own. ap (λ b. if b then Some frame else answer_of q j) (ap (λ p. is_answer (assigns_sent p j) frame) (sym (eqb-true mon.0 q own)) ∙ stale))
+    ∙ if_same (mon.0 == q) (if is_numbered (assigns_sent q j) frame then Some frame else answer_of q j) (answer_of q j)
+    (λ own. ap (λ b. if b then Some frame else answer_of q j) (ap (λ p. is_numbered (assigns_sent p j) frame) (sym (eqb-true mon.0 q own)) ∙ stale))
 
 -- the turn of a stale frame opens no round
 stale_kind : (s : Setup) (b : Bool) (kind : TurnKind) → b ≡ true → is_lone_full s (if b then Stale else kind) ≡ false
@@ -194,10 +195,10 @@ settled_stale s j mon seq last places stale = same_tells s j mon (f.Settled seq 
 -- ---- fresh answers
 
 -- a fresh answer is the answer from then on
-pub fresh_answered : (j : List Noted) (mon : Mon) (frame : Frame) → is_answer (assigns_sent mon.0 j) frame ≡ true → answer_of mon.0 (with_got j mon frame) ≡ Some frame
+pub fresh_answered : (j : List Noted) (mon : Mon) (frame : Frame) → is_numbered (assigns_sent mon.0 j) frame ≡ true → answer_of mon.0 (with_got j mon frame) ≡ Some frame
 fresh_answered j mon frame fresh =
     got_answer mon.0 j mon frame
-    ∙ ap (λ b. if b then (if is_answer (assigns_sent mon.0 j) frame then Some frame else answer_of mon.0 j) else answer_of mon.0 j) (eq-eqb mon.0 mon.0 refl)
+    ∙ ap (λ b. if b then (if is_numbered (assigns_sent mon.0 j) frame then Some frame else answer_of mon.0 j) else answer_of mon.0 j) (eq-eqb mon.0 mon.0 refl)
     ∙ ap (λ b. if b then Some frame else answer_of mon.0 j) fresh
 
 -- what a frame without Values tells, by the peer of its monitor

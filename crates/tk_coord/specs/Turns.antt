@@ -1,16 +1,11 @@
 -- The turns that the coordinator keeps, and what it counts of them. No public clause cites this.
 use Rattle.std.specs.Prelude.{ℕ, ◌+◌, nat_lt, if◌then◌else◌, List}
-use Rattle.tk_journal.specs.Kinds.{counts_of}
 use Rattle.tk_journal.specs.declared.turn.Turn.{Turn}
 
 -- the turns, and for how many more there is room
 pub record TurnsView : Type 0 where
   pub list : List Turn
   pub spare : ℕ
-
--- how many rounds some turns opened
-abbrev pub opened_in : List Turn → ℕ
-opened_in turns = (counts_of turns).full + (counts_of turns).wide
 
 -- a count, up to eight
 abbrev pub up_to_eight : ℕ → ℕ

@@ -4,12 +4,13 @@ ghost use Rattle.tk_alloc.specs.Parts.{value_of as value_in};
 ghost use Rattle.tk_base.specs.Ascending.{IsAscending};
 ghost use Rattle.tk_base.specs.Objects.{is_in};
 ghost use Rattle.tk_base.specs.Pairs.{objects_of};
-ghost use Rattle.tk_border.specs.Levels.{holds, is_above as is_above_of, lowered, resolution};
+ghost use Rattle.tk_border.specs.Levels.{holds, is_above as is_above_of, resolution};
 ghost use Rattle.tk_journal.specs.Refusal.{are_outsiders as are_outsiders_of, are_places as are_places_of, are_same, bad_border, go_on as go_on_of, least_in, level_in, not_broken as not_broken_of, refusal_of_report, refusal_of_values, too_great as too_great_of};
 ghost use Rattle.tk_coord.specs.Checks.{AreSmall, AreWithin, IsKnown, is_too_great, known_in};
 
 use crate::answer::Progress;
 use tk_base::{Mon, Obj, ObjSet, Pairs, Places};
+use tk_border::lower;
 use tk_journal::CoordRefusal;
 use tk_rows::Table;
 
@@ -170,16 +171,6 @@ fn level(known: Known, values: &Pairs, o: Obj) -> i128
     ensures { result ≡ level_in (known_in known.entry) values.now o.0 }
 {
     value_of(values, o) + known.table.at(known.mon, o)
-}
-
-/// The least of what was seen before and one more number.
-fn lower(least: Option<i128>, number: i128) -> Option<i128>
-    ensures { result ≡ lowered least number }
-{
-    Some(match least {
-        None => number,
-        Some(least) => least.min(number),
-    })
 }
 
 /// The least level of a member at the monitor.

@@ -1,7 +1,8 @@
 // The turns of the journal, and what is counted of them.
 ghost use Rattle.std.specs.Prelude.{◌≡◌, ◌+◌, ◌-◌, ◌<◌, ◌≤◌, cond, not, nat_lt, [], ◌∷◌, ◌++◌, IfOk, OnOk};
 ghost use Rattle.tk_journal.specs.Kinds.{is_full_kind, streak_of};
-ghost use Rattle.tk_coord.specs.Turns.{opened_in, streak_with};
+ghost use Rattle.tk_coord.specs.Turns.{streak_with};
+ghost use Rattle.tk_journal.specs.RoundEnds.{openings};
 
 use std::alloc::Global;
 use std::marker::Model;
@@ -25,14 +26,15 @@ pub struct Turns {
 impl Model for Turns {
     ghost use Rattle.std.specs.Prelude.{◌≡◌, ◌+◌, ◌-◌, ◌^◌, ◌≤◌, length, min, vec_capacity};
     ghost use Rattle.tk_journal.specs.Kinds.{streak_of};
-    ghost use Rattle.tk_coord.specs.Turns.{TurnsView, opened_in, up_to_eight};
+    ghost use Rattle.tk_coord.specs.Turns.{TurnsView, up_to_eight};
+    ghost use Rattle.tk_journal.specs.RoundEnds.{openings};
 
     ghost Value = { TurnsView };
 
     ghost view = { λ t. record { list = t.list.items; spare = t.spare } };
 
     ghost invariant = { λ t. (length t.list.items + t.spare ≤ vec_capacity t.list)
-        × (t.rounds ≡ min (opened_in t.list.items) (2 ^ 64 - 1))
+        × (t.rounds ≡ min (openings t.list.items) (2 ^ 64 - 1))
         × (t.streak ≡ up_to_eight (streak_of t.list.items)) };
 }
 
@@ -52,7 +54,7 @@ fn one_if(test: bool) -> u64
 
 /// How many rounds a turn opens.
 fn opened(turn: Turn) -> u64
-    ensures { result ≡ opened_in (turn ∷ []) }
+    ensures { result ≡ openings (turn ∷ []) }
 {
     one_if(is_full(turn.kind)) + one_if(turn.widens)
 }
@@ -114,7 +116,7 @@ impl Turns {
 
     /// How many rounds were opened, unless they are past counting.
     pub fn rounds(&self) -> Result<u64, NoMemory>
-        ensures { IfOk result (λ n. n ≡ opened_in self.now.list) }
+        ensures { IfOk result (λ n. n ≡ openings self.now.list) }
     {
         if self.rounds == u64::MAX {
             return Err(NoMemory);

@@ -10,7 +10,7 @@ use Rattle.tk_frames.specs.Assigns.{Assign, row, members_of}
 use Rattle.tk_frames.specs.declared.frame.Frame.{Frame}
 use Rattle.tk_trail.specs.Setup.{MonitorSetup}
 use Rattle.tk_trail.specs.Frames.{report_at, settled_at, values_at}
-use Rattle.tk_frames.specs.Carried.{seq_in}
+use Rattle.tk_frames.specs.Carried.{seq_in, is_numbered}
 use Rattle.tk_trail.specs.Readings.{assigns_of, value_of_object, level_of, levels_of, broken_at, is_broken, sent_by}
 use Rattle.tk_trail.specs.declared.entry.Entry.{Entry}
 use Rattle.tk_trail.specs.declared.entry.Entry.TheVariants.{Sent}
@@ -18,7 +18,7 @@ use Rattle.tk_trail.proofs.LawLemmas.{allowed_at}
 use Rattle.tk_trail.proofs.LevelsLemmas.{is_broken-same}
 use Rattle.tk_journal.specs.Legal.{Opening}
 use Rattle.tk_journal.specs.Links.{frames_from}
-use Rattle.tk_journal.specs.Readings.{Progress, answer_of, assigns_sent, assigns_to, factor, is_answer, members_at, settled_in}
+use Rattle.tk_journal.specs.Readings.{Progress, answer_of, assigns_sent, assigns_to, factor, members_at, settled_in}
 use Rattle.tk_journal.specs.declared.noted.Noted.{Noted}
 use Rattle.tk_journal.proofs.Answering.{answer_fresh}
 use Rattle.tk_journal.proofs.LawLemmas.{orderly}
@@ -119,7 +119,7 @@ settled_answer seq (Some (f.Values round s border values)) p is = absurd (cc)
 settled_answer seq (Some (f.Assign s members changes)) p is = absurd (cc)
 settled_answer seq (Some f.Stop) p is = absurd (cc)
 
-settled_number : (seq : ℕ) (frame : Frame) → is_settled frame ≡ true → is_answer seq frame ≡ true → seq_in frame ≡ Some seq
+settled_number : (seq : ℕ) (frame : Frame) → is_settled frame ≡ true → is_numbered seq frame ≡ true → seq_in frame ≡ Some seq
 settled_number seq (f.Settled s last places) is own = ap Some (exact_unsigned_eq s seq own)
 settled_number seq (f.Hello run version mon) is own = absurd (cc)
 settled_number seq (f.Report s border failed values) is own = absurd (cc)

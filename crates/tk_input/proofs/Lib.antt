@@ -13,7 +13,6 @@ pub mod ThroughLemmas
 pub mod NamesLemmas
 pub mod DifferLemmas
 pub mod PrefixLemmas
-pub mod DigitsLemmas
 pub mod LinesLemmas
 pub mod LogLemmas
 pub mod OrderLemmas

@@ -1,5 +1,5 @@
 -- Which logs some parts make, or the first test that refuses them.
-use Rattle.std.specs.Prelude.{◌≡◌, ℕ, ◌+◌, ◌^◌, ◌≤◌, max, ℤ, Bool, List, length, map, filter, fold, find, position, sum_by, Option, Some, None, is_some, option_map, option_and_then, Result, Ok, Err, ◌==◌, nat_lt, if◌then◌else◌}
+use Rattle.std.specs.Prelude.{◌≡◌, ℕ, ◌+◌, ◌^◌, ◌≤◌, max, ℤ, Bool, List, length, map, filter, fold, find, position, sum_by, Option, Some, None, is_some, option_map, option_and_then, Result, Ok, Err, ◌==◌, nat_lt, if◌then◌else◌, [], ◌∷◌, ◌++◌}
 use Rattle.std.specs.List.{range_with_len}
 use Rattle.tk_base.specs.Objects.{objects}
 use Rattle.tk_base.specs.declared.ids.Mon.{Mon}
@@ -86,3 +86,12 @@ Refuses (MonitorGap mon) meant = meant ≡ Err (MonitorGap mon)
 Refuses (TooManyFeeders mon) meant = meant ≡ Err (TooManyFeeders mon)
 Refuses TooManyUpdates meant = meant ≡ Err TooManyUpdates
 Refuses (TooGreat mon obj) meant = meant ≡ Err (TooGreat mon obj)
+
+-- the parts of a monitor, each under its number
+abbrev pub under : ℕ → List (List (ℕ × ℤ)) → Assigned
+under mon parts = map (λ part. (record { 0 = mon }, part)) parts
+
+-- the parts of all monitors from number n on, each under that of its monitor
+abbrev pub assigned_from : ℕ → List (List (List (ℕ × ℤ))) → Assigned
+assigned_from n [] = []
+assigned_from n (parts ∷ logs) = under n parts ++ assigned_from (n + 1) logs

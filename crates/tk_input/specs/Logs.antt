@@ -5,6 +5,7 @@ use Rattle.std.specs.Prelude.{◌≡◌, ℕ, ◌-◌, ◌^◌, ◌≤◌, ℤ, 
 use Rattle.std.specs.List.{zip}
 use Rattle.tk_base.specs.Ascending.{IsAscending}
 use Rattle.tk_base.specs.Sum.{int_sum}
+use Rattle.tk_base.specs.Objects.{IsOneOf}
 
 -- the changes of one object, summed
 abbrev pub sum_for : ℕ → List (ℕ × ℤ) → ℤ
@@ -55,7 +56,7 @@ pub record IsValid (logs : List (List (List (ℕ × ℤ)))) (n k : ℕ) (epsilon
 
 -- a number is an object of a catalogue of n
 abbrev pub IsObject : ℕ → ℕ → Type 0
-IsObject n o = (1 ≤ o) × (o ≤ n)
+IsObject n o = IsOneOf n o
 
 -- the sizes of the changes of one object, summed
 abbrev pub weight_for : ℕ → List (ℕ × ℤ) → ℕ

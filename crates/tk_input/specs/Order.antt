@@ -2,10 +2,10 @@
 use Rattle.std.specs.Prelude.{◌≡◌, ℕ, ◌+◌, ◌-◌, ◌^◌, min, Bool, false, not, ◌&&◌, ◌==◌, nat_le, nat_lt, if◌then◌else◌, List, [], ◌∷◌, ◌++◌, length, filter, Option, Some, None, IsSome, IsTrue, is_ok, option_map, option_and_then, Result, Ok, Err, bytes_eq, codes}
 use Rattle.std.specs.List.{slice_split}
 use Rattle.std.specs.Str.Lines.{lines}
-use Rattle.tk_input.specs.Number.{digits_in}
 use Rattle.tk_input.specs.Records.{through}
 use Rattle.tk_base.specs.declared.ids.Mon.{Mon}
 use Rattle.tk_base.specs.declared.memory.NoMemory.{NoMemory}
+use Rattle.tk_base.specs.Digits.{digits_in, short_in}
 use Rattle.tk_input.specs.declared.event.Event.{Event}
 use Rattle.tk_input.specs.declared.event.Event.TheVariants.{Raise, Check, Up, Down, Retune}
 use Rattle.tk_input.specs.declared.order.OrderFault.{OrderFault}
@@ -28,13 +28,9 @@ event_at make word = option_map (λ n. make (record { 0 = n })) (number_in word)
 abbrev pub raise_at : List ℕ → List ℕ → Option Event
 raise_at mon feeder = option_and_then (λ m. option_map (λ f. Raise (record { 0 = m }) (record { 0 = f })) (number_in feeder)) (number_in mon)
 
--- the k that a word of 1 to 18 decimal digits writes
-abbrev pub k_in : List ℕ → Option ℕ
-k_in word = if nat_le (length word) 18 then digits_in word else None
-
 -- the retune to a k and an epsilon, the latter of 1 to 38 decimal digits
 abbrev pub retune_at : List ℕ → List ℕ → Option Event
-retune_at k epsilon = option_and_then (λ asked. option_map (λ e. Retune (record { k = asked; epsilon = e })) (digits_in epsilon)) (k_in k)
+retune_at k epsilon = option_and_then (λ asked. option_map (λ e. Retune (record { k = asked; epsilon = e })) (digits_in epsilon)) (short_in k)
 
 -- the event of a verb and one word
 abbrev pub event_of_one : List ℕ → List ℕ → Option Event

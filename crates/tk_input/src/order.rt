@@ -1,18 +1,14 @@
 ghost use Rattle.std.specs.Prelude.{◌≡◌, ◌<◌, IfOk, IfErr, OnOk, Ok, length, slice_get, Some};
-ghost use Rattle.tk_input.specs.Order.{AddsLine, IsFault, IsLineFault, IsReadAs, event_in, event_of_one as of_one, event_of_two as of_two, is_short as is_short_word, k_in, line_added, number_in, order_of, ordered, raise_at, retune_at, words};
+ghost use Rattle.tk_input.specs.Order.{AddsLine, IsFault, IsLineFault, IsReadAs, event_in, event_of_one as of_one, event_of_two as of_two, is_short as is_short_word, line_added, number_in, order_of, ordered, raise_at, retune_at, words};
 ghost use Rattle.tk_input.specs.declared.order.OrderFault.TheVariants.{NoMemory as OutOfMemory};
 
 use crate::event::Event;
 use crate::lines::{Lines, split_word};
-use crate::number::digits_of;
 use std::alloc::{AllocFailed, Global};
 use std::error::Error;
 use std::fmt;
 use std::marker::Model;
-use tk_base::{Feeder, Mon, NoMemory};
-
-/// The most digits of a k.
-const K_DIGITS: usize = 18;
+use tk_base::{Feeder, Mon, NoMemory, digits_of, short_of};
 
 /// Why a file is no order. The number is that of the line, from 1.
 #[derive(Clone, Copy, Debug, PartialEq, Eq)]
@@ -106,20 +102,10 @@ fn event_of_one(verb: &[u8], mon: &[u8]) -> Option<Event>
     }
 }
 
-fn k_of(word: &[u8]) -> Option<u64>
-    ensures { result ≡ k_in word.now }
-{
-    if word.len() <= K_DIGITS {
-        Some(digits_of(word)? as u64)
-    } else {
-        None
-    }
-}
-
 fn retune_of(alloc: Global, k: &[u8], epsilon: &[u8]) -> Option<Result<Event, NoMemory>>
     ensures { IsReadAs result (retune_at k.now epsilon.now) }
 {
-    Some(Event::retune(alloc, k_of(k)?, digits_of(epsilon)?))
+    Some(Event::retune(alloc, short_of(k)?, digits_of(epsilon)?))
 }
 
 fn event_of_two(

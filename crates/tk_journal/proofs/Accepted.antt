@@ -7,8 +7,9 @@ use Rattle.tk_base.specs.Settings.{Setup}
 use Rattle.tk_base.specs.declared.ids.Mon.{Mon}
 use Rattle.tk_base.proofs.OptionLemmas.{if_none}
 use Rattle.tk_frames.specs.declared.frame.Frame.{Frame}
+use Rattle.tk_frames.specs.Carried.{is_numbered}
 use Rattle.tk_frames.specs.declared.frame.Frame.TheVariants as f
-use Rattle.tk_journal.specs.Readings.{assigns_sent, answer_of, is_answer, last_round, asked_of, values_for, waits_for, is_stopped}
+use Rattle.tk_journal.specs.Readings.{assigns_sent, answer_of, last_round, asked_of, values_for, waits_for, is_stopped}
 use Rattle.tk_journal.specs.Refusal.{Shown, Known, refusal_of, refusal_of_kind, refusal_of_answer, refusal_of_awaited, refusal_of_values, refusal_of_report, refusal_of_cut, is_awaited, asked_in, waits_at, shown_by, known_by, is_report}
 use Rattle.tk_journal.specs.declared.noted.Noted.{Noted}
 use Rattle.tk_journal.specs.declared.noted.Noted.TheVariants as n
@@ -93,7 +94,7 @@ blocked s j mon seq content none standing =
     ]
 
 no_answer : (s : Setup) (j : List Noted) (mon : ℕ) (frame : Frame) → refusal_of_kind (shown_by mon j) (known_by s mon j) frame ≡ None → is_report (answer_of mon j) ≡ true
-    → is_answer (assigns_sent mon j) frame ≡ false
+    → is_numbered (assigns_sent mon j) frame ≡ false
 no_answer s j mon (f.Hello run version m) none standing = refl
 no_answer s j mon (f.Report seq border failed values) none standing = blocked s j mon seq (refusal_of_report (known_by s mon j) border failed values) none standing
 no_answer s j mon (f.Collect round asked) none standing = refl
@@ -110,7 +111,7 @@ pub report_stays : (s : Setup) (j : List Noted) (mon : ℕ) (from : Mon) (frame 
     → answer_of mon (j ++ n.Got from frame ∷ []) ≡ answer_of mon j
 report_stays s j mon from frame none standing =
     got_answer mon j from frame
-    ∙ stays (from.0 == mon) (is_answer (assigns_sent mon j) frame) frame (answer_of mon j) (λ same.
+    ∙ stays (from.0 == mon) (is_numbered (assigns_sent mon j) frame) frame (answer_of mon j) (λ same.
     let e : from.0 ≡ mon = eqb-true from.0 mon same in
     no_answer s j mon frame (subst (λ (q : ℕ). refusal_of_kind (shown_by q j) (known_by s q j) frame ≡ None) e (accepted_kind s j from.0 frame none).1) standing)
 

@@ -12,11 +12,12 @@ use Rattle.tk_base.proofs.ListLemmas.{any_in_range}
 use Rattle.tk_base.proofs.MemberLemmas.{is_in-head}
 use Rattle.tk_border.proofs.RisingLemmas.{Rises, is_in-filter, is_in-objects, rises-filter, rises-objects}
 use Rattle.tk_frames.specs.declared.frame.Frame.{Frame}
+use Rattle.tk_frames.specs.Carried.{is_numbered}
 use Rattle.tk_alloc.specs.declared.reported.Reported.{Reported}
 use Rattle.tk_alloc.specs.Parts.{monitor, new_factor}
 use Rattle.tk_alloc.specs.Resolving.{round_parts}
 use Rattle.tk_journal.specs.Laws.{IsMonitor}
-use Rattle.tk_journal.specs.Readings.{monitors, assigns_sent, is_answer, in_force, table_at, members_at, is_open, last_round, asked_of, values_of, waits_for}
+use Rattle.tk_journal.specs.Readings.{monitors, assigns_sent, in_force, table_at, members_at, is_open, last_round, asked_of, values_of, waits_for}
 use Rattle.tk_journal.specs.Deciding.{Decided, reports_at, short_decides}
 use Rattle.tk_journal.specs.Refusal.{refusal_of, is_report}
 use Rattle.tk_journal.specs.Turns.{reported, short_at, full_at, wide_at, rounds, collects, wide_collects, assigns, demanded}
@@ -42,7 +43,7 @@ pub data Cause (s : Setup) (before : List Noted) (from : Mon) (frame : Frame) : 
 
 pub data Grows (s : Setup) (before : List Noted) (from : Mon) (frame : Frame) (after : List Noted) : Type 0 where
   Nothing : after ≡ with_got before from frame → is_open s (with_got before from frame) ≡ is_open s before
-      → (is_answer (assigns_sent from.0 before) frame ≡ true → is_report (Some frame) ≡ true → is_open s before ≡ true) → Grows s before from frame after
+      → (is_numbered (assigns_sent from.0 before) frame ≡ true → is_report (Some frame) ≡ true → is_open s before ≡ true) → Grows s before from frame after
   ToOne : (members : List ℕ) (row : Row) (border : ℤ) (failed : List ℕ) (values : List (ℕ × ℤ)) → IsFreshReport s before from frame border failed values → row.0 ≡ from.0 → is_open s before ≡ false → is_open s (with_got before from frame) ≡ false
       → after ≡ with_got before from frame ++ sends (with_got before from frame) members (row ∷ []) → Grows s before from frame after
   ToAll : (members : List ℕ) (rows : List Row) → Cause s before from frame → map (λ (d : Row). d.0) rows ≡ range_with_len 1 s.monitors → is_open s (with_got before from frame) ≡ false

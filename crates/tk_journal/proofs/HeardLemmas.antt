@@ -13,14 +13,14 @@ use Rattle.tk_base.specs.Settings.{Setup}
 use Rattle.tk_base.specs.declared.ids.Mon.{Mon}
 use Rattle.tk_frames.specs.Assigns.{assign_in}
 use Rattle.tk_frames.specs.declared.frame.Frame.{Frame}
-use Rattle.tk_frames.specs.Carried.{seq_in}
+use Rattle.tk_frames.specs.Carried.{seq_in, is_numbered}
 use Rattle.tk_journal.specs.Laws.{IsMonitor, IsSetUp}
 use Rattle.tk_journal.specs.Legal.{Opening, IsLegal, opened, inputs_of}
 use Rattle.tk_journal.specs.Links.{Passed, frames_from, link_of}
 use Rattle.tk_journal.specs.Links.Passed.{Up, Down}
 use Rattle.tk_journal.specs.Walks.{walk}
 use Rattle.tk_journal.specs.Publishing.{closing}
-use Rattle.tk_journal.specs.Readings.{assigns_sent, assigns_to, assigns_on, answer_of, answered, is_answer, is_open, last_round, asked_of, values_of, monitors, waits_for}
+use Rattle.tk_journal.specs.Readings.{assigns_sent, assigns_to, assigns_on, answer_of, answered, is_open, last_round, asked_of, values_of, monitors, waits_for}
 use Rattle.tk_journal.specs.Refusal.{refusal_of, is_report}
 use Rattle.tk_journal.specs.Turns.{collects, demanded, rounds, wide_collects}
 use Rattle.tk_journal.specs.declared.noted.Noted.{Noted}
@@ -62,7 +62,7 @@ walked : (front : List Passed) (answer : Option Frame) (link : List Passed) (g :
 unfolding ups up_in
 walked front answer [] g is = inl is
 walked front answer (Up frame ∷ link) g is = elim (walked (front ++ Up frame ∷ []) (answered front answer (Up frame)) link g is) [
-  | inl old ↦ elim (kept_or_new (is_answer (assigns_on front) frame) frame g answer old) [ inl older ↦ inl older | inr new ↦ inr (zero, omega arith, new) ]
+  | inl old ↦ elim (kept_or_new (is_numbered (assigns_on front) frame) frame g answer old) [ inl older ↦ inl older | inr new ↦ inr (zero, omega arith, new) ]
   | inr later ↦ inr (next_in Frame frame g (filter_map up_in link) later)
 ]
 walked front answer (Down frame ∷ link) g is = elim (walked (front ++ Down frame ∷ []) (answered front answer (Down frame)) link g is) [
@@ -106,7 +106,7 @@ HasHeard s j = (mon : ℕ) → IsMonitor s mon → (number : ℕ) → 1 ≤ numb
 heard_in : (mon : ℕ) (a b : List Noted) (number : ℕ) → ((g : Frame) → Contains (frames_from mon a) g → Contains (frames_from mon b) g) → WasHeard mon a number → WasHeard mon b number
 heard_in mon a b number more h = record { frame = h.frame; among = more h.frame h.among; carries = h.carries }
 
-numbered_answer : (seq : ℕ) (frame : Frame) → is_answer seq frame ≡ true → seq_in frame ≡ Some seq
+numbered_answer : (seq : ℕ) (frame : Frame) → is_numbered seq frame ≡ true → seq_in frame ≡ Some seq
 numbered_answer seq (f.Report s border failed values) is = ap Some (exact_unsigned_eq s seq is)
 numbered_answer seq (f.Settled s last places) is = ap Some (exact_unsigned_eq s seq is)
 numbered_answer seq (f.Hello run version mon) is = absurd (cc)

@@ -8,10 +8,11 @@ use Rattle.tk_frames.specs.Assigns.{assign_in}
 use Rattle.tk_frames.specs.declared.frame.Frame.{Frame}
 use Rattle.tk_base.specs.declared.ids.Mon.{Mon}
 use Rattle.tk_base.specs.History.{last_of}
+use Rattle.tk_frames.specs.Carried.{is_numbered}
 use Rattle.tk_journal.specs.Walks.{walk}
 use Rattle.tk_journal.specs.Links.{Passed, frames_to, frames_from, link_of}
 use Rattle.tk_journal.specs.Links.Passed.{Up, Down}
-use Rattle.tk_journal.specs.Readings.{Progress, assigns_to, assigns_sent, assigns_on, assign_down, members_at, answer_of, answered, is_answer, progress_of, told, last_round, asked_of, values_of, values_for, is_stopped}
+use Rattle.tk_journal.specs.Readings.{Progress, assigns_to, assigns_sent, assigns_on, assign_down, members_at, answer_of, answered, progress_of, told, last_round, asked_of, values_of, values_for, is_stopped}
 use Rattle.tk_journal.specs.declared.noted.Noted.{Noted}
 use Rattle.tk_journal.specs.declared.noted.Noted.TheVariants as n
 use Rattle.tk_journal.proofs.Appends.{later, assigns_to-append, members_at-append, last_round-append, asked_of-append, values_of-append, answer_of-append, progress_of-append, is_stopped-append}
@@ -76,11 +77,11 @@ answer_one true front answer frame = refl
 answer_one false front answer frame = refl
 
 pub got_answer : (mon : ℕ) (b : List Noted) (from : Mon) (frame : Frame)
-    → answer_of mon (b ++ n.Got from frame ∷ []) ≡ (if from.0 == mon then (if is_answer (assigns_sent mon b) frame then Some frame else answer_of mon b) else answer_of mon b)
+    → answer_of mon (b ++ n.Got from frame ∷ []) ≡ (if from.0 == mon then (if is_numbered (assigns_sent mon b) frame then Some frame else answer_of mon b) else answer_of mon b)
 got_answer mon b from frame =
     answer_of-append mon b (n.Got from frame ∷ [])
     ∙ answer_one (from.0 == mon) (link_of mon b) (answer_of mon b) frame
-    ∙ ap (λ s. if from.0 == mon then (if is_answer s frame then Some frame else answer_of mon b) else answer_of mon b) (assigns_on-sent mon b)
+    ∙ ap (λ s. if from.0 == mon then (if is_numbered s frame then Some frame else answer_of mon b) else answer_of mon b) (assigns_on-sent mon b)
 
 progress_one : (b : Bool) (front : List Passed) (progress : Option Progress) (frame : Frame)
     → walk told front progress (cons_option (if b then Some (Up frame) else None) []) ≡ (if b then told front progress (Up frame) else progress)

@@ -7,10 +7,11 @@ use Rattle.std.proofs.lemmas.Bool.{cases_eq, true≢false, eq-eqb, eqb-true, ne_
 use Rattle.tk_base.specs.Settings.{Setup}
 use Rattle.tk_base.specs.declared.ids.Mon.{Mon}
 use Rattle.tk_frames.specs.declared.frame.Frame.{Frame}
+use Rattle.tk_frames.specs.Carried.{is_numbered}
 use Rattle.tk_journal.specs.Laws.{IsMonitor, IsSetUp}
 use Rattle.tk_journal.specs.Legal.{Opening, IsLegal, opened}
 use Rattle.tk_journal.specs.Publishing.{closing}
-use Rattle.tk_journal.specs.Readings.{assigns_sent, answer_of, is_answer, is_open}
+use Rattle.tk_journal.specs.Readings.{assigns_sent, answer_of, is_open}
 use Rattle.tk_journal.specs.Refusal.{is_report}
 use Rattle.tk_journal.specs.Turns.{demanded, rounds}
 use Rattle.tk_journal.specs.declared.noted.Noted.{Noted}
@@ -30,18 +31,18 @@ abbrev pub NoReport : Setup → List Noted → Type 0
 NoReport s j = is_open s j ≡ false → (mon : ℕ) → IsMonitor s mon → is_report (answer_of mon j) ≡ false
 
 -- the answer of a monitor once a frame is taken, where no Report may come
-got_quiet : (s : Setup) (before : List Noted) (from : Mon) (frame : Frame) (mon : ℕ) (own fresh : Bool) → from.0 == mon ≡ own → is_answer (assigns_sent mon before) frame ≡ fresh → (own ≡ true → fresh ≡ true → is_report (Some frame) ≡ false)
+got_quiet : (s : Setup) (before : List Noted) (from : Mon) (frame : Frame) (mon : ℕ) (own fresh : Bool) → from.0 == mon ≡ own → is_numbered (assigns_sent mon before) frame ≡ fresh → (own ≡ true → fresh ≡ true → is_report (Some frame) ≡ false)
     → is_report (answer_of mon before) ≡ false → is_report (if own then (if fresh then Some frame else answer_of mon before) else answer_of mon before) ≡ false
 got_quiet s before from frame mon true true o f quiet old = quiet refl refl
 got_quiet s before from frame mon true false o f quiet old = old
 got_quiet s before from frame mon false fresh o f quiet old = old
 
-got_no_report : (s : Setup) (before : List Noted) (from : Mon) (frame : Frame) (mon : ℕ) → (from.0 ≡ mon → is_answer (assigns_sent from.0 before) frame ≡ true → is_report (Some frame) ≡ false) → is_report (answer_of mon before) ≡ false
+got_no_report : (s : Setup) (before : List Noted) (from : Mon) (frame : Frame) (mon : ℕ) → (from.0 ≡ mon → is_numbered (assigns_sent from.0 before) frame ≡ true → is_report (Some frame) ≡ false) → is_report (answer_of mon before) ≡ false
     → is_report (answer_of mon (with_got before from frame)) ≡ false
 got_no_report s before from frame mon quiet old =
     ap is_report (got_answer mon before from frame)
-    ∙ got_quiet s before from frame mon (from.0 == mon) (is_answer (assigns_sent mon before) frame) refl refl
-    (λ own fresh. let e : from.0 ≡ mon = eqb-true from.0 mon own in quiet e (subst (λ q. is_answer (assigns_sent q before) frame ≡ true) (sym e) fresh)) old
+    ∙ got_quiet s before from frame mon (from.0 == mon) (is_numbered (assigns_sent mon before) frame) refl refl
+    (λ own fresh. let e : from.0 ≡ mon = eqb-true from.0 mon own in quiet e (subst (λ q. is_numbered (assigns_sent q before) frame ≡ true) (sym e) fresh)) old
 
 grown_no_report : (s : Setup) (before : List Noted) (from : Mon) (frame : Frame) (after : List Noted) → Grows s before from frame after → NoReport s before → NoReport s after
 grown_no_report s before from frame after (Nothing e same resting) h closed mon m =

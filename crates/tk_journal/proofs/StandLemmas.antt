@@ -25,7 +25,7 @@ use Rattle.tk_journal.specs.Laws.{IsMonitor, IsSetUp}
 use Rattle.tk_journal.specs.Legal.{IsAccepted, IsLegal, Opening, opened, turn_of}
 use Rattle.tk_journal.specs.Links.{Passed, frames_to, link_of}
 use Rattle.tk_journal.specs.Links.Passed.{Up, Down}
-use Rattle.tk_journal.specs.Readings.{Progress, answer_of, answered, assigns_sent, in_force, is_answer, is_calm, is_open, is_stopped, members_at, monitors, progress_of, settled_in, settled_of, told}
+use Rattle.tk_journal.specs.Readings.{Progress, answer_of, answered, assigns_sent, in_force, is_calm, is_open, is_stopped, members_at, monitors, progress_of, settled_in, settled_of, told}
 use Rattle.tk_journal.specs.Publishing.{closing, differs, is_due, is_last, publication_at, publications, published_in, stops}
 use Rattle.tk_journal.specs.Turns.{collects, demanded, rounds, wide_collects}
 use Rattle.tk_journal.specs.declared.publication.Publication.{Publication}
@@ -36,7 +36,7 @@ use Rattle.tk_journal.proofs.Appends.{answer_of-append, assigns_sent-append, fra
 use Rattle.tk_journal.proofs.LawLemmas.{one_less, orderly}
 use Rattle.tk_journal.proofs.LegalLemmas.{orderly_tuned, tuned_round}
 use Rattle.tk_journal.proofs.Same.{AreSame, calm_same, force_same, maps_same, same_closing}
-use Rattle.tk_frames.specs.Carried.{tally}
+use Rattle.tk_frames.specs.Carried.{tally, is_numbered}
 use Rattle.tk_frames.proofs.CarriedLemmas.{tally-append}
 use Rattle.tk_journal.proofs.GrowLemmas.{asks_open}
 use Rattle.tk_journal.proofs.HeardLemmas.{answer_was_got}
@@ -69,7 +69,7 @@ kept_if false fresh frame f answer is = (f, is)
 
 got_keeps : (s : Setup) (a : List Noted) (from : Mon) (frame : Frame) (mon : ℕ) (report : Bool) → refusal_of s a from.0 frame ≡ None → IsAnswered mon a report → IsAnswered mon (a ++ n.Got from frame ∷ []) report
 got_keeps s a from frame mon report none h =
-    let kept = kept_if (from.0 == mon) (is_answer (assigns_sent mon a) frame) frame h.frame (answer_of mon a) h.is in
+    let kept = kept_if (from.0 == mon) (is_numbered (assigns_sent mon a) frame) frame h.frame (answer_of mon a) h.is in
     let is = got_answer mon a from frame ∙ kept.1 in
     record { frame = kept.0; is = is; report = λ own. ap is_report (sym is) ∙ ap is_report (report_stays s a mon from frame none (ap is_report h.is ∙ h.report own)) ∙ ap is_report h.is ∙ h.report own }
 
@@ -107,7 +107,7 @@ rest_keeps o a (e ∷ b) c mon report legal none h =
 
 -- ---- a frame under the last number stands
 
-fresh_now : (s : Setup) (a : List Noted) (mon : ℕ) (frame : Frame) (number : ℕ) → refusal_of s a mon frame ≡ None → is_answer number frame ≡ true → number ≤ assigns_sent mon a
+fresh_now : (s : Setup) (a : List Noted) (mon : ℕ) (frame : Frame) (number : ℕ) → refusal_of s a mon frame ≡ None → is_numbered number frame ≡ true → number ≤ assigns_sent mon a
 fresh_now s a mon (f.Report seq border failed values) number none is =
     let same = eqb-true seq number is in
     elim (accepted_answer (shown_by mon a) seq _ (accepted_kind s a mon (f.Report seq border failed values) none).1) [
@@ -126,7 +126,7 @@ fresh_now s a mon (f.Values round seq border values) number none is = absurd (fa
 fresh_now s a mon (f.Assign seq members changes) number none is = absurd (false≢true is)
 fresh_now s a mon f.Stop number none is = absurd (false≢true is)
 
-pub answer_stands : (o : Opening) (a after : List Noted) (from : Mon) (frame : Frame) → IsLegal o (a ++ n.Got from frame ∷ after) → is_answer (assigns_sent from.0 (a ++ n.Got from frame ∷ after)) frame ≡ true → IsAnswered from.0 (a ++ n.Got from frame ∷ after) (is_report (Some frame))
+pub answer_stands : (o : Opening) (a after : List Noted) (from : Mon) (frame : Frame) → IsLegal o (a ++ n.Got from frame ∷ after) → is_numbered (assigns_sent from.0 (a ++ n.Got from frame ∷ after)) frame ≡ true → IsAnswered from.0 (a ++ n.Got from frame ∷ after) (is_report (Some frame))
 answer_stands o a after from frame legal is =
     let mon = from.0 in
     let s = o.settings in
@@ -138,8 +138,8 @@ answer_stands o a after from frame legal is =
     let all : assigns_sent mon (a ++ n.Got from frame ∷ after) ≡ assigns_sent mon now + assigns_sent mon after = ap (assigns_sent mon) (sym next) ∙ assigns_sent-append mon now after in
     let here = got_sent mon a from frame in
     let most = fresh_now s a mon frame (assigns_sent mon (a ++ n.Got from frame ∷ after)) none is in
-    let fresh : is_answer (assigns_sent mon a) frame ≡ true = subst (λ q. is_answer q frame ≡ true) (omega (arith, all, here, most)) is in
-    let answer : answer_of mon now ≡ Some frame = got_answer mon a from frame ∙ ap (λ b. if b then (if is_answer (assigns_sent mon a) frame then Some frame else answer_of mon a) else answer_of mon a) (eq-eqb mon mon refl) ∙ ap (λ b. if b then Some frame else answer_of mon a) fresh in
+    let fresh : is_numbered (assigns_sent mon a) frame ≡ true = subst (λ q. is_numbered q frame ≡ true) (omega (arith, all, here, most)) is in
+    let answer : answer_of mon now ≡ Some frame = got_answer mon a from frame ∙ ap (λ b. if b then (if is_numbered (assigns_sent mon a) frame then Some frame else answer_of mon a) else answer_of mon a) (eq-eqb mon mon refl) ∙ ap (λ b. if b then Some frame else answer_of mon a) fresh in
     let first : IsAnswered mon now (is_report (Some frame)) = record { frame = frame; is = answer; report = λ own. own } in
     subst (λ xs. IsAnswered mon xs (is_report (Some frame))) next
     (rest_keeps o now after [] mon (is_report (Some frame)) (subst (IsLegal o) (sym (append-nil (now ++ after))) (subst (IsLegal o) (sym next) legal)) (omega (arith, all, here, most)) first)

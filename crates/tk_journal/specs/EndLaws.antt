@@ -2,12 +2,13 @@
 use Rattle.std.specs.Prelude.{ℕ, ◌≡◌, ◌≤◌, ◌+◌, true, false, List, ◌∷◌, ◌++◌, Some, is_some, slice_index_or}
 use Rattle.tk_base.specs.declared.ids.Mon.{Mon}
 use Rattle.tk_frames.specs.declared.frame.Frame.{Frame}
+use Rattle.tk_frames.specs.Carried.{is_numbered}
 use Rattle.tk_frames.specs.declared.frame.Frame.TheVariants as f
 use Rattle.tk_input.specs.Logs.{places_of}
 use Rattle.tk_journal.specs.Laws.{IsMonitor, IsSetUp}
 use Rattle.tk_journal.specs.Legal.{IsLegal, Opening}
 use Rattle.tk_journal.specs.Publishing.{is_last}
-use Rattle.tk_journal.specs.Readings.{Progress, answer_of, asked_of, assigns_sent, is_answer, is_calm, is_open, is_stopped, last_round, progress_of}
+use Rattle.tk_journal.specs.Readings.{Progress, answer_of, asked_of, assigns_sent, is_calm, is_open, is_stopped, last_round, progress_of}
 use Rattle.tk_journal.specs.Refusal.{is_report}
 use Rattle.tk_journal.specs.Sending.{IsAnswered, WasHeard}
 use Rattle.tk_journal.specs.declared.noted.Noted.{Noted}
@@ -25,7 +26,7 @@ abbrev pub AnswerStands : Type 0
 AnswerStands =
     (o : Opening) (a after : List Noted) (from : Mon) (frame : Frame)
     → IsLegal o (a ++ n.Got from frame ∷ after)
-    → is_answer (assigns_sent from.0 (a ++ n.Got from frame ∷ after)) frame ≡ true
+    → is_numbered (assigns_sent from.0 (a ++ n.Got from frame ∷ after)) frame ≡ true
     → IsAnswered from.0 (a ++ n.Got from frame ∷ after) (is_report (Some frame))
 
 -- a told end stays told

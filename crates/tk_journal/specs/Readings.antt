@@ -13,6 +13,7 @@ use Rattle.tk_alloc.specs.declared.reported.Reported.{Reported}
 use Rattle.tk_journal.specs.Links.{Passed, frames_to, frames_from, link_of}
 use Rattle.tk_journal.specs.Links.Passed.{Up, Down}
 use Rattle.tk_base.specs.History.{last_of}
+use Rattle.tk_frames.specs.Carried.{is_numbered}
 use Rattle.tk_journal.specs.Walks.{walk}
 use Rattle.tk_journal.specs.declared.noted.Noted.{Noted}
 use Rattle.tk_journal.specs.declared.noted.Noted.TheVariants as n
@@ -75,15 +76,9 @@ assign_down (Down frame) = assign_in frame
 abbrev pub assigns_on : List Passed → ℕ
 assigns_on link = length (filter_map assign_down link)
 
--- whether a frame is a Report or a Settled under a sequence number
-abbrev pub is_answer : ℕ → Frame → Bool
-is_answer seq (f.Report s border failed values) = s == seq
-is_answer seq (f.Settled s last places) = s == seq
-is_answer seq frame = false
-
 -- an Assign clears the answer, and a fresh Report or Settled is the answer from then on
 abbrev pub answered : List Passed → Option Frame → Passed → Option Frame
-answered before answer (Up frame) = if is_answer (assigns_on before) frame then Some frame else answer
+answered before answer (Up frame) = if is_numbered (assigns_on before) frame then Some frame else answer
 answered before answer (Down frame) = if is_some (assign_in frame) then None else answer
 
 -- the current answer of a monitor: its last fresh Report or Settled after the last Assign to it

@@ -6,7 +6,8 @@ use Rattle.tk_base.specs.Pairs.{objects_of}
 use Rattle.tk_base.specs.Settings.{Setup}
 use Rattle.tk_base.specs.declared.ids.Mon.{Mon}
 use Rattle.tk_frames.specs.declared.frame.Frame.{Frame}
-use Rattle.tk_journal.specs.Readings.{monitors, assigns_sent, is_answer, is_open}
+use Rattle.tk_frames.specs.Carried.{is_numbered}
+use Rattle.tk_journal.specs.Readings.{monitors, assigns_sent, is_open}
 use Rattle.tk_journal.specs.Refusal.{is_report}
 use Rattle.tk_journal.specs.Deciding.{reports_at, is_within_limit}
 use Rattle.tk_journal.specs.Turns.{reported, passes_at, short_at, fails_at, streak, rounds, collects, wide_collects, assigns, full_at, wide_at, is_wide}
@@ -29,7 +30,7 @@ pub record IsLastValues (s : Setup) (before : List Noted) (from : Mon) (frame : 
 -- the shape of the turn of a taken frame: it demands nothing, or Assigns, or the Collects of a round
 pub data Shape (s : Setup) (before : List Noted) (from : Mon) (frame : Frame) (demands : List Noted) : Type 0 where
   Plain : demands ≡ [] → fails_at s before from.0 frame ≡ false → is_open s (before ++ n.Got from frame ∷ []) ≡ is_open s before
-      → (is_answer (assigns_sent from.0 before) frame ≡ true → is_report (Some frame) ≡ true → is_open s before ≡ true) → Shape s before from frame demands
+      → (is_numbered (assigns_sent from.0 before) frame ≡ true → is_report (Some frame) ≡ true → is_open s before ≡ true) → Shape s before from frame demands
   Short : (border : ℤ) (failed : List ℕ) (values : List (ℕ × ℤ)) → IsFreshReport s before from frame border failed values → passes_at s before (reported from.0 border values) ≡ true
       → is_within_limit (short_at s before (reported from.0 border values)) ≡ true → demands ≡ assigns before (short_at s before (reported from.0 border values)) → Shape s before from frame demands
   Wide : (border : ℤ) (failed : List ℕ) (values : List (ℕ × ℤ)) → IsFreshReport s before from frame border failed values → demands ≡ wide_collects s (rounds s before + 1) → Shape s before from frame demands

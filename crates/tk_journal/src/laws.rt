@@ -7,7 +7,8 @@ ghost use Rattle.tk_frames.specs.declared.frame.Frame.{Frame};
 ghost use Rattle.tk_journal.specs.Laws.{AreFactorsSmall, AreMembers, AreNotLast, AreRoundsCounted, AreSentShort, HasEnded, IsSetUp, KeepsConstraint, SaysWhatIsDue};
 ghost use Rattle.tk_journal.specs.Legal.{Opening, IsLegal, start};
 ghost use Rattle.tk_journal.specs.Publishing.{publications};
-ghost use Rattle.tk_journal.specs.Readings.{answer_of, assigns_sent, factor, is_answer, monitors, is_stopped, own};
+ghost use Rattle.tk_journal.specs.Readings.{answer_of, assigns_sent, factor, monitors, is_stopped, own};
+ghost use Rattle.tk_frames.specs.Carried.{is_numbered};
 ghost use Rattle.tk_journal.specs.declared.noted.Noted.{Noted};
 ghost use Rattle.tk_journal.specs.DealingLaws.{AssignsAreNumbered, EachMonitorIsSentTheMembers, FullRoundCanBeDealtWith, ReportCanBeDealtWith};
 
@@ -69,7 +70,7 @@ pub fn only_the_final_one_is_last()
 /// A current answer is fresh: it speaks of the last Assign.
 pub fn answers_are_fresh()
     ensures { (mon : ℕ) (j : List Noted) (answer : Frame) → answer_of mon j ≡ Some answer
-        → is_answer (assigns_sent mon j) answer ≡ true }
+        → is_numbered (assigns_sent mon j) answer ≡ true }
 {}
 
 /// The last Assign to each monitor names the members.

@@ -1,10 +1,9 @@
 //! The input of a coordinator that restarts.
 
-ghost use Rattle.std.specs.Prelude.{◌≡◌, ◌≤◌, IfOk, sum_by};
-ghost use Rattle.tk_input.specs.Logs.{IsMonitor, parts_of, updates_of};
+ghost use Rattle.std.specs.Prelude.{◌≡◌, IfOk};
 ghost use Rattle.tk_load.specs.Faults.{order_fault, telling};
 ghost use Rattle.tk_load.specs.Reads.{AreKept, Counts, Meets, Reads, ReadsOrder, name_in, reads_by};
-ghost use Rattle.tk_load.specs.SessionInput.{LoadsSessions, changes_of, few_changes, line_kind, lines_tested, session_order_by, session_order_from, session_order_in};
+ghost use Rattle.tk_load.specs.SessionInput.{LoadsSessions, few_changes, line_kind, lines_tested, session_order_by, session_order_from, session_order_in};
 ghost use Rattle.tk_load.specs.Whole.{AreAgreed};
 ghost use Rattle.tk_session.specs.Order.{session_order_of};
 ghost use Rattle.tk_words.specs.Asked.{AreOfMonitors, asked_sources};
@@ -16,8 +15,8 @@ use crate::status::{InputKind, Status};
 use std::alloc::Global;
 use std::marker::Sync;
 use std::thread::Threads;
-use tk_base::{Feeder, Mon, Settings};
-use tk_input::{Catalog, Files, Logs, OrderFault};
+use tk_base::Settings;
+use tk_input::{Catalog, Files, Logs, OrderFault, updates_in};
 use tk_session::{SessionLine, SessionOrder};
 use tk_words::Sources;
 
@@ -32,30 +31,6 @@ pub struct SessionInput {
     pub logs: Logs,
     /// Where there is none, there is one session.
     pub order: Option<SessionOrder>,
-}
-
-fn changes_at(logs: &Logs, mon: Mon) -> u32
-    requires { IsMonitor logs.now mon.0 }
-    ensures value { result ≡ updates_of (parts_of logs.now.logs mon.0) }
-    ensures most { result ≤ 8000000 }
-{
-    let mut changes = 0;
-    for f in 0..logs.feeders(mon) {
-        changes += logs.length(mon, Feeder(f + 1));
-    }
-    changes
-}
-
-/// How many changes some logs have.
-fn changes_in(logs: &Logs) -> u32
-    ensures value { result ≡ changes_of logs.now }
-    ensures most { result ≤ 4000000 }
-{
-    let mut changes = 0;
-    for j in 0..logs.monitors() {
-        changes += changes_at(logs, Mon(j + 1));
-    }
-    changes
 }
 
 /// The events and restarts of an order file.
@@ -73,7 +48,7 @@ fn order_of(alloc: Global, bytes: &[u8], file: &str) -> Result<SessionOrder, Sta
 fn check_changes(alloc: Global, logs: &Logs, order: &SessionOrder, file: &str) -> Result<(), Status>
     ensures { Meets (λ done. tt) (few_changes logs.now file.now order.now) result }
 {
-    if order.sessions() * changes_in(logs) > MOST_CHANGES {
+    if order.sessions() * updates_in(logs) > MOST_CHANGES {
         return Err(bad_file(alloc, file, 0, InputKind::TooManyUpdates));
     }
     Ok(())

@@ -12,3 +12,4 @@ pub use Rattle.tk_trail.specs.Readings
 pub use Rattle.tk_trail.specs.Refusal
 pub use Rattle.tk_trail.specs.Setup
 pub use Rattle.tk_trail.specs.Slack
+pub mod Stepped

@@ -1,11 +1,10 @@
 // Which refusal a frame meets, as a function of what a monitor shows.
 ghost use Rattle.std.specs.Prelude.{◌≡◌, ℕ, ℤ, List, find, option_map};
-ghost use Rattle.std.specs.List.{list_all};
-ghost use Rattle.tk_base.specs.Objects.{is_in};
 ghost use Rattle.tk_trail.specs.Refusal.{are_some_of as are_some, is_bad_change, is_collect, refusal_of_assign, refusal_over};
 ghost use Rattle.tk_monitor.specs.Refusals.{shown_in, refused};
 
 use tk_base::{Obj, ObjSet, Pairs};
+use tk_border::holds;
 use tk_frames::Frame;
 use tk_trail::MonitorRefusal;
 
@@ -101,15 +100,4 @@ fn is_bad(objects: u32, o: Obj, factor: i128) -> bool
     ensures { result ≡ is_bad_change objects (o.0, factor) }
 {
     o.0 > objects || factor.unsigned_abs() > MAX_FACTOR
-}
-
-fn holds(set: &ObjSet, members: &ObjSet) -> bool
-    ensures { result ≡ list_all (is_in set.now) members.now }
-{
-    for i in 0..members.len() {
-        if !set.has(members.at(i)) {
-            return false;
-        }
-    }
-    true
 }

@@ -1,9 +1,9 @@
 -- Parts under their monitors, and the logs that they make.
 use Rattle.std.proofs.Common.{◌≡◌, ℕ, suc, ℤ, ◌+◌, ◌-◌, ◌<◌, List, [], ◌∷◌, ◌++◌, length, map, get_or, take, Option, ap, sym, ◌∙◌, arith}
 use Rattle.std.proofs.lemmas.List.{append-nil, append_assoc, length-map, length-take, map_more}
-use Rattle.tk_input.specs.Judged.{Assigned}
+use Rattle.tk_input.specs.Judged.{Assigned, under, assigned_from}
 use Rattle.tk_input.specs.Logs.{parts_of}
-use Rattle.tk_multi.specs.Projection.{assigned_from, seen_logs, under, watched_in}
+use Rattle.tk_multi.specs.Projection.{seen_logs, watched_in}
 
 -- the parts of one monitor more
 assigned_push : (n : ℕ) (logs : List (List (List (ℕ × ℤ)))) (parts : List (List (ℕ × ℤ))) → assigned_from n (logs ++ parts ∷ []) ≡ assigned_from n logs ++ under (n + length logs) parts

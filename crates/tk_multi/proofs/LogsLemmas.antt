@@ -10,11 +10,11 @@ use Rattle.std.proofs.lemmas.List.Sums.{fold-append, position_or_len_is, sum_by-
 use Rattle.tk_base.specs.Objects.{objects}
 use Rattle.tk_base.specs.declared.ids.Mon.{Mon}
 use Rattle.tk_base.proofs.FindLemmas.{find_none}
-use Rattle.tk_input.specs.Judged.{Assigned, feeders_of, first_at, first_crowded, first_gap, great_in, great_object, Refuses, judged, logs_by_monitor, logs_of, too_great, unless}
+use Rattle.tk_input.specs.Judged.{Assigned, feeders_of, first_at, first_crowded, first_gap, great_in, great_object, Refuses, judged, logs_by_monitor, logs_of, too_great, unless, under, assigned_from}
 use Rattle.tk_input.specs.Logs.{AreLogs, AreParts, IsObject, LogSet, updates_of, weight_for, weight_of}
 use Rattle.tk_input.specs.declared.logs.LogsFault.{LogsFault}
 use Rattle.tk_input.specs.declared.logs.LogsFault.TheVariants as f
-use Rattle.tk_multi.specs.Projection.{Numbers, anew, assigned_from, seen_logs, under, watched_change, watched_in}
+use Rattle.tk_multi.specs.Projection.{Numbers, anew, seen_logs, watched_change, watched_in}
 
 -- ---- the parts under their monitors make these logs
 

@@ -1,7 +1,6 @@
 -- What a query sees of the objects, of the logs and of a list of events.
 use Rattle.std.specs.Prelude.{◌≡◌, ℕ, ◌+◌, ◌-◌, ◌≤◌, ℤ, Bool, false, ◌&&◌, ◌==◌, nat_le, is_some, if◌then◌else◌, List, [], ◌∷◌, ◌++◌, length, map, filter_map, count_by, slice_get, slice_index_or, Option, Some, None, option_map, option_and_then, option_to_list}
 use Rattle.tk_input.specs.Catalog.{names_with, object_of}
-use Rattle.tk_input.specs.Judged.{Assigned}
 use Rattle.tk_input.specs.Logs.{IsObject, LogSet, part_of, parts_of}
 use Rattle.tk_input.specs.declared.event.Event.{Event}
 use Rattle.tk_input.specs.declared.event.Event.TheVariants as alone
@@ -83,15 +82,6 @@ projected all watch q events = projected_from all watch q [] events
 pub record Numbers (count : ℕ) (watch : List (Option ℕ)) : Type 0 where
   pub within : (o n : ℕ) → anew watch o ≡ Some n → IsObject count n
   pub once : (a b n : ℕ) → 1 ≤ a → 1 ≤ b → anew watch a ≡ Some n → anew watch b ≡ Some n → a ≡ b
-
--- the parts of a monitor, each under its number
-abbrev pub under : ℕ → List (List (ℕ × ℤ)) → Assigned
-under mon parts = map (λ part. (record { 0 = mon }, part)) parts
-
--- the parts of all monitors from number n on, each under that of its monitor
-abbrev pub assigned_from : ℕ → List (List (List (ℕ × ℤ))) → Assigned
-assigned_from n [] = []
-assigned_from n (parts ∷ logs) = under n parts ++ assigned_from (n + 1) logs
 
 -- the parts of some logs as a query sees them
 abbrev pub seen_logs : List (Option ℕ) → List (List (List (ℕ × ℤ))) → List (List (List (ℕ × ℤ)))

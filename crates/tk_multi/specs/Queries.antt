@@ -2,9 +2,8 @@
 use Rattle.std.specs.Prelude.{◌≡◌, ℕ, ◌+◌, ◌-◌, ◌≤◌, Bool, IsSome, not, ◌&&◌, nat_le, if◌then◌else◌, List, [], ◌∷◌, ◌++◌, length, Option, Some, None, option_and_then, Result, Ok, Err, bytes_eq, slice_get}
 use Rattle.std.specs.List.{list_all, list_any}
 use Rattle.tk_base.specs.declared.memory.NoMemory.{NoMemory}
+use Rattle.tk_base.specs.Digits.{digits_in, short_in}
 use Rattle.tk_input.specs.Catalog.{is_name}
-use Rattle.tk_input.specs.Number.{digits_in}
-use Rattle.tk_input.specs.Order.{k_in}
 use Rattle.tk_input.specs.Records.{and_then, records_in, through}
 use Rattle.tk_input.specs.declared.catalog.CatalogFault.{CatalogFault}
 use Rattle.tk_input.specs.declared.catalog.CatalogFault.TheVariants.{Empty, TooMany, BadRow, BadName, Repeated, NoMemory as OutOfMemory}
@@ -32,7 +31,7 @@ query_in [] = None
 query_in (name ∷ []) = None
 query_in (name ∷ k ∷ []) = None
 query_in (name ∷ k ∷ epsilon ∷ []) = None
-query_in (name ∷ k ∷ epsilon ∷ prefix ∷ []) = query_with name (k_in k) (digits_in epsilon) prefix
+query_in (name ∷ k ∷ epsilon ∷ prefix ∷ []) = query_with name (short_in k) (digits_in epsilon) prefix
 query_in (name ∷ k ∷ epsilon ∷ prefix ∷ more ∷ rest) = None
 
 -- whether one of some queries has a name
@@ -78,10 +77,6 @@ IsReadAs (Some (Err no_room)) meant = IsSome meant
 -- there are 1 to 16 queries
 abbrev pub IsWithin : List QueryView → Type 0
 IsWithin queries = (1 ≤ length queries) × (length queries ≤ 16)
-
--- a number is that of one of so many queries
-abbrev pub IsQuery : ℕ → ℕ → Type 0
-IsQuery count q = (1 ≤ q) × (q ≤ count)
 
 -- what stands of a query in a list with an entry for each, if there is such a query
 abbrev pub entry_at : {A : Type 0} → List A → ℕ → Option A

@@ -2,24 +2,21 @@ ghost use Rattle.std.specs.Prelude.{◌≡◌, ◌≤◌, IfOk, IfErr, OnOk, Ok,
 ghost use Rattle.std.specs.List.{list_all};
 ghost use Rattle.csv.specs.Records.{fields_of};
 ghost use Rattle.tk_input.specs.Catalog.{is_name as is_name_of};
-ghost use Rattle.tk_input.specs.Number.{digits_in};
-ghost use Rattle.tk_input.specs.Order.{k_in};
-ghost use Rattle.tk_multi.specs.Queries.{IsFault, IsQuery, IsReadAs, IsWithin, entry_at, has_name as has_name_of, is_prefix as is_prefix_of, queries_of, query_added, query_in, query_with as query_with_of};
+ghost use Rattle.tk_base.specs.Digits.{digits_in, short_in};
+ghost use Rattle.tk_multi.specs.Queries.{IsFault, IsReadAs, IsWithin, entry_at, has_name as has_name_of, is_prefix as is_prefix_of, queries_of, query_added, query_in, query_with as query_with_of};
+ghost use Rattle.tk_base.specs.Objects.{IsOneOf};
 
 use crate::query::Query;
 use csv::ByteRecord;
 use std::alloc::Global;
 use std::marker::Model;
-use tk_base::NoMemory;
-use tk_input::{CatalogFault, Records, digits_of};
+use tk_base::{NoMemory, digits_of, short_of};
+use tk_input::{CatalogFault, Records};
 
 const MAX_QUERIES: usize = 16;
 
 /// The most bytes of a name, and of a prefix.
 const MAX_NAME: usize = 255;
-
-/// The most digits of a k.
-const K_DIGITS: usize = 18;
 
 /// The queries of a file, by their numbers from 1.
 #[derive(Debug, Drop)]
@@ -56,16 +53,6 @@ fn is_prefix(prefix: &[u8]) -> bool
     prefix.len() <= MAX_NAME && is_visible(prefix)
 }
 
-fn k_of(word: &[u8]) -> Option<u64>
-    ensures { result ≡ k_in word.now }
-{
-    if word.len() <= K_DIGITS {
-        Some(digits_of(word)? as u64)
-    } else {
-        None
-    }
-}
-
 fn query_with(
     alloc: Global,
     name: &[u8],
@@ -73,9 +60,9 @@ fn query_with(
     epsilon: &[u8],
     prefix: &[u8],
 ) -> Option<Result<Query, NoMemory>>
-    ensures { IsReadAs result (query_with_of name.now (k_in k.now) (digits_in epsilon.now) prefix.now) }
+    ensures { IsReadAs result (query_with_of name.now (short_in k.now) (digits_in epsilon.now) prefix.now) }
 {
-    let k = k_of(k)?;
+    let k = short_of(k)?;
     let epsilon = digits_of(epsilon)?;
     if is_prefix(prefix) {
         Some(Query::new(alloc, name, k, epsilon, prefix))
@@ -158,7 +145,7 @@ impl Queries {
 
     /// The name of a query, by its number from 1.
     pub fn name(&self, q: u32) -> &[u8]
-        requires { IsQuery (length self.now) q }
+        requires { IsOneOf (length self.now) q }
         ensures { option_map (λ query. query.name) (entry_at self.now q) ≡ Some result.now }
     {
         self.list[q as usize - 1].name()
@@ -166,7 +153,7 @@ impl Queries {
 
     /// How many members a query asks for, as the file says: it may be past the limits.
     pub fn k(&self, q: u32) -> u64
-        requires { IsQuery (length self.now) q }
+        requires { IsOneOf (length self.now) q }
         ensures { option_map (λ query. query.k) (entry_at self.now q) ≡ Some result }
     {
         self.list[q as usize - 1].k()
@@ -174,7 +161,7 @@ impl Queries {
 
     /// Within which epsilon, as the file says: it may be past the limits.
     pub fn epsilon(&self, q: u32) -> u128
-        requires { IsQuery (length self.now) q }
+        requires { IsOneOf (length self.now) q }
         ensures { option_map (λ query. query.epsilon) (entry_at self.now q) ≡ Some result }
     {
         self.list[q as usize - 1].epsilon()
@@ -182,7 +169,7 @@ impl Queries {
 
     /// How the names of the objects of a query begin.
     pub fn prefix(&self, q: u32) -> &[u8]
-        requires { IsQuery (length self.now) q }
+        requires { IsOneOf (length self.now) q }
         ensures { option_map (λ query. query.prefix) (entry_at self.now q) ≡ Some result.now }
     {
         self.list[q as usize - 1].prefix()

@@ -9,7 +9,7 @@ use crate::fault::MultiFault;
 use crate::queries::Queries;
 use crate::query::Query;
 use crate::watch::Watch;
-use crate::watched::{logs_for, updates_in};
+use crate::watched::logs_for;
 use std::alloc::Global;
 use tk_base::{NoMemory, Settings};
 use tk_input::{Catalog, Logs};

@@ -1,9 +1,10 @@
 //! The logs of a query: of each part the changes of the objects that it watches.
 
-ghost use Rattle.std.specs.Prelude.{◌≡◌, ◌≤◌, ◌++◌, IfOk, OnOk, length, map, sum_by};
+ghost use Rattle.std.specs.Prelude.{◌≡◌, ◌≤◌, ◌++◌, IfOk, OnOk, length, map};
 ghost use Rattle.tk_input.specs.Judged.{Assigned};
-ghost use Rattle.tk_input.specs.Logs.{AreLogs, IsMonitor, parts_of, updates_of};
-ghost use Rattle.tk_multi.specs.Projection.{Numbers, assigned_from, seen_logs, under, watched_in};
+ghost use Rattle.tk_input.specs.Logs.{AreLogs, IsMonitor, parts_of};
+ghost use Rattle.tk_multi.specs.Projection.{Numbers, seen_logs, watched_in};
+ghost use Rattle.tk_input.specs.Judged.{assigned_from, under};
 
 use crate::watch::Watch;
 use std::alloc::Global;
@@ -60,28 +61,4 @@ pub fn logs_for(alloc: Global, logs: &Logs, watch: &Watch, objects: u32) -> Resu
         Ok(own) => Ok(own),
         Err(fault) => Err(of_logs(fault)),
     }
-}
-
-fn updates_at(logs: &Logs, mon: Mon) -> u32
-    requires { IsMonitor logs.now mon.0 }
-    ensures value { result ≡ updates_of (parts_of logs.now.logs mon.0) }
-    ensures most { result ≤ 8000000 }
-{
-    let mut updates = 0;
-    for f in 0..logs.feeders(mon) {
-        updates += logs.length(mon, Feeder(f + 1));
-    }
-    updates
-}
-
-/// How many changes some logs have.
-pub fn updates_in(logs: &Logs) -> u32
-    ensures value { result ≡ sum_by updates_of logs.now.logs }
-    ensures most { result ≤ 4000000 }
-{
-    let mut updates = 0;
-    for j in 0..logs.monitors() {
-        updates += updates_at(logs, Mon(j + 1));
-    }
-    updates
 }

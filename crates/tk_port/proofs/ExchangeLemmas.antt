@@ -17,17 +17,18 @@ use Rattle.tk_end.specs.Hearing.{Hears}
 use Rattle.tk_end.specs.Link.{IsEnd, LinkView, Says}
 use Rattle.tk_end.proofs.EndLemmas.{hears_end, said_grown, says_end}
 use Rattle.tk_end.proofs.PassingLemmas.{passes_heard, passes_nothing, passes_on, passes_said}
-use Rattle.tk_port.specs.Side.{heard_by, refuses, said_by, takes, taking}
+use Rattle.tk_port.specs.Side.{heard_by, refuses, said_by, takes}
 use Rattle.std.proofs.lemmas.Bool.{false≢true}
 use Rattle.tk_base.proofs.BoolLemmas.{not_true, not_false}
 use Rattle.tk_base.proofs.HistoryLemmas.{front_size}
 use Rattle.tk_port.specs.declared.turn.Turn.{Turn}
 use Rattle.tk_port.specs.declared.turn.Turn.TheVariants as t
-use Rattle.tk_port.specs.Turn.{CountsTurned, Ends, Exchanges, IsSteady, HasSaid, IsAtRest, goes_on, pieces_of, Reaches, Stays, Takes, Checks, checking}
+use Rattle.tk_port.specs.Turn.{CountsTurned, Ends, Exchanges, IsSteady, HasSaid, IsAtRest, goes_on, pieces_of, Reaches, Stays, Takes, Checks}
 use Rattle.tk_port.specs.declared.side.Side.{Side}
 use Rattle.tk_port.proofs.SideLemmas.{answered_sent}
 use Rattle.tk_input.proofs.CountLemmas.{not_some}
 use Rattle.tk_trail.proofs.ReadingsLemmas.{answer_taken}
+use Rattle.tk_monitor.specs.Stepped.{taking, checking}
 
 pub reaches_on : (a b c : MonitorView) → Reaches a b → Reaches b c → Reaches a c
 reaches_on a b c (Stays from to is) q = subst (λ m. Reaches m c) is q

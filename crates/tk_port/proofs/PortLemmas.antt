@@ -18,9 +18,9 @@ use Rattle.tk_end.specs.Link.{IsEnd, IsShut, LinkView, Says, over}
 use Rattle.tk_wire.specs.Meanings.{Traffic}
 use Rattle.tk_wire.specs.Parse.{IsEncoding, IsParse}
 use Rattle.tk_end.proofs.EndLemmas.{shut_end}
+use Rattle.tk_monitor.specs.Stepped.{taking, checking}
 use Rattle.tk_port.specs.Port.{IsOnCourse, IsPort}
-use Rattle.tk_port.specs.Side.{taking}
-use Rattle.tk_port.specs.Turn.{Exchanges, Reaches, Stays, Takes, Checks, checking}
+use Rattle.tk_port.specs.Turn.{Exchanges, Reaches, Stays, Takes, Checks}
 use Rattle.tk_port.specs.declared.course.Course.{Course}
 use Rattle.tk_port.specs.declared.course.Course.TheVariants as c
 use Rattle.tk_port.specs.declared.side.Side.{Side}

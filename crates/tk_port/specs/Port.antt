@@ -18,7 +18,8 @@ use Rattle.std.specs.Option.{option_map}
 use Rattle.tk_end.specs.Link.{IsEnd, IsShut, LinkView, Passes}
 use Rattle.tk_port.specs.Turn.{CountsTurned, Ends, IsAtRest, Reaches, goes_on, pieces_of}
 use Rattle.tk_trail.specs.Refusal.{refusal_of}
-use Rattle.tk_port.specs.Side.{refuses, taking}
+use Rattle.tk_monitor.specs.Stepped.{taking}
+use Rattle.tk_port.specs.Side.{refuses}
 use Rattle.tk_port.specs.declared.course.Course.{Course}
 use Rattle.tk_port.specs.declared.course.Course.TheVariants as c
 use Rattle.tk_port.specs.declared.turn.Turn.{Turn}

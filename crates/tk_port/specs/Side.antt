@@ -1,12 +1,11 @@
 -- A monitor as one who takes frames and has frames to send.
 use Rattle.std.specs.Prelude.{ℕ, Bool, List, Option}
 use Rattle.tk_frames.specs.declared.frame.Frame.{Frame}
-use Rattle.tk_monitor.specs.Monitored.{MonitorView}
-use Rattle.tk_trail.specs.Legal.{after_take}
 use Rattle.tk_trail.specs.Readings.{is_stopped, sent_by, taken_by}
 use Rattle.tk_trail.specs.Refusal.{refusal_of}
 use Rattle.tk_trail.specs.Setup.{IsSetup}
 use Rattle.tk_trail.specs.declared.refusal.MonitorRefusal.{MonitorRefusal}
+use Rattle.tk_monitor.specs.Stepped.{taking}
 use Rattle.tk_port.specs.declared.side.Side.{Side}
 
 -- the parts and the starting places of the monitor are within their limits
@@ -28,10 +27,6 @@ stops peer side = is_stopped side.monitor.trail
 -- which refusal a frame meets at the monitor, if it meets one
 abbrev pub refuses : ℕ → Frame → Side → Option MonitorRefusal
 refuses peer frame side = refusal_of side.monitor.setup side.monitor.trail frame
-
--- the monitor once it has taken a frame
-abbrev pub taking : MonitorView → Frame → MonitorView
-taking monitor frame = record monitor { trail = after_take monitor.setup monitor.trail frame }
 
 -- the side once its monitor has taken a frame
 abbrev pub takes : ℕ → Frame → Side → Side

@@ -5,7 +5,6 @@ use Rattle.tk_frames.specs.declared.answer.Next.TheVariants as n
 use Rattle.tk_frames.specs.Answer.{Answers}
 use Rattle.tk_monitor.specs.Monitored.{MonitorView}
 use Rattle.tk_trail.specs.Frames.{due_at}
-use Rattle.tk_trail.specs.Legal.{after_check}
 use Rattle.tk_trail.specs.Readings.{is_stopped, sent_by, taken_by}
 use Rattle.tk_trail.specs.Refusal.{refusal_of}
 use Rattle.tk_trail.specs.declared.refusal.MonitorRefusal.{MonitorRefusal}
@@ -15,14 +14,11 @@ use Rattle.tk_end.specs.Hearing.{IsRefused}
 use Rattle.tk_end.specs.declared.hearing.Heard.{Heard}
 use Rattle.tk_end.specs.declared.hearing.Heard.TheVariants as h
 use Rattle.tk_end.specs.Link.{IsEnd, LinkView, Passes}
-use Rattle.tk_port.specs.Side.{refuses, taking}
+use Rattle.tk_monitor.specs.Stepped.{taking, checking}
+use Rattle.tk_port.specs.Side.{refuses}
 use Rattle.tk_port.specs.declared.side.Side.{Side}
 use Rattle.tk_port.specs.declared.turn.Turn.{Turn}
 use Rattle.tk_port.specs.declared.turn.Turn.TheVariants as t
-
--- the monitor once it is checked
-abbrev pub checking : MonitorView → MonitorView
-checking monitor = record monitor { trail = after_check monitor.setup monitor.trail }
 
 -- from one monitor the other is reached by frames that are taken, each refused by no test, and by checks
 pub data Reaches : MonitorView → MonitorView → Type 0 where

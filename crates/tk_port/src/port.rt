@@ -8,7 +8,7 @@ ghost use Rattle.tk_wire.specs.Buffered.{counts_pushed};
 ghost use Rattle.tk_end.specs.Link.{Covers, IsShut, LeavesFull, Says};
 ghost use Rattle.tk_end.specs.Piping.{Drains, Fills};
 ghost use Rattle.tk_port.specs.Port.{IsLeft, IsPort, IsStanding, LeavesOdd, Turns, TurnsOne, answer_of, halted_of, hello_of};
-ghost use Rattle.tk_port.specs.Turn.{checking};
+ghost use Rattle.tk_monitor.specs.Stepped.{checking};
 ghost use Rattle.tk_port.specs.declared.turn.Turn.{Turn as Turned};
 
 use crate::course::Course;

@@ -40,7 +40,7 @@ use Rattle.tk_trail.specs.declared.entry.Entry.{Entry}
 use Rattle.tk_trail.proofs.LevelsLemmas.{length-levels_of, level_at-levels_of, value-small}
 use Rattle.tk_story.proofs.QuietLemmas.{level_by}
 use Rattle.tk_trail.specs.Says.{SaysReport, SaysValues}
-use Rattle.tk_trail.proofs.BorderLemmas.{sum_low, lesser_low}
+use Rattle.tk_trail.proofs.BorderLemmas.{sum_low, lesser_low, Low}
 use Rattle.tk_journal.proofs.ProgressLemmas.{are_same_by}
 
 -- a place of a trail with the Assigns that were sent so far
@@ -80,9 +80,6 @@ least_said s j mon setup x h asked among =
 
 -- ---- the border
 
-abbrev pub Low : ℤ → Type 0
-Low z = neg_ℤ (pos (2 ^ 113)) ≤ℤ z
-
 level_low : (s : Setup) (j : List Noted) (mon : ℕ) (setup : MonitorSetup) (x : List Entry) → IsSpeaking s j mon setup x → (o : ℕ) → 1 ≤ o → o ≤ setup.objects → Low (level_at (levels_of setup x) o)
 level_low s j mon setup x h o low high =
     let size = h.objects in
@@ -90,9 +87,6 @@ level_low s j mon setup x h o low high =
     let v : unsigned_abs (value_of_object setup x o) ≤ 2 ^ 100 = (let a = value-small setup h.limits x o in let w = h.limits.parts.weights o in omega (arith, a, w)) in
     let w : unsigned_abs (factor mon j o) ≤ 2 ^ 112 = h.standing.sizes.each o mon r h.m in
     subst Low (sym (level_at-levels_of setup x o low high ∙ level_by setup x j mon o h.assigns)) (sum_low (value_of_object setup x o) (factor mon j o) v w)
-
-zero_low : Low (pos 0)
-zero_low = omega (arith, ints)
 
 lesser_most : (x : ℤ) (g : Option ℤ) → lesser x g ≤ℤ x
 lesser_most x None = omega (arith, ints)

@@ -20,7 +20,7 @@ use Rattle.tk_journal.specs.Laws.{IsMonitor, IsSetUp}
 use Rattle.tk_journal.specs.Legal.{IsLegal, Opening}
 use Rattle.tk_journal.specs.Links.{frames_from, frames_to}
 use Rattle.tk_journal.specs.Publishing.{stops}
-use Rattle.tk_journal.specs.Readings.{answer_of, assigns_sent, is_answer, is_stopped as is_stopped_journal, members_at as members_at_journal, monitors, seqs_to, seq_in as seq_of_assign}
+use Rattle.tk_journal.specs.Readings.{answer_of, assigns_sent, is_stopped as is_stopped_journal, members_at as members_at_journal, monitors, seqs_to, seq_in as seq_of_assign}
 use Rattle.tk_journal.specs.declared.noted.Noted.{Noted}
 use Rattle.tk_journal.proofs.Answering.{answer_fresh}
 use Rattle.tk_journal.proofs.Appends.{frames_from-append, frames_to-append, last_of-append, later}
@@ -28,7 +28,7 @@ use Rattle.tk_journal.proofs.Ended.{legal_ends}
 use Rattle.tk_journal.proofs.LawLemmas.{one_less, orderly}
 use Rattle.tk_journal.proofs.Pieces.{batch_to}
 use Rattle.tk_story.specs.Links.{IsJoined}
-use Rattle.tk_frames.specs.Carried.{tally}
+use Rattle.tk_frames.specs.Carried.{tally, is_numbered}
 use Rattle.tk_frames.proofs.CarriedLemmas.{tally-append}
 use Rattle.tk_border.proofs.AscendsLemmas.{ascending_passes}
 use Rattle.tk_journal.proofs.GatheredLemmas.{in_front}
@@ -155,7 +155,7 @@ told_since : (x y : List Entry) (g : Frame) → assigns_of y ≡ [] → is_end (
 told_since x y g none is =
     ap (λ es. list_any is_end es) (since-more x (Sent g ∷ y) none) ∙ list_any-append is_end (since_assign x) (Sent g ∷ y) ∙ ap (λ b. list_any is_end (since_assign x) || (b || list_any is_end y)) is ∙ or-true (list_any is_end (since_assign x))
 
-pub settled_seq : (seq number : ℕ) (last : Bool) (places : List ℕ) → is_answer number (f.Settled seq last places) ≡ true → seq ≡ number
+pub settled_seq : (seq number : ℕ) (last : Bool) (places : List ℕ) → is_numbered number (f.Settled seq last places) ≡ true → seq ≡ number
 settled_seq seq number last places is = Rattle.std.proofs.lemmas.Bool.eqb-true seq number is
 
 -- a frame that a front of the journal had got stands in the trail

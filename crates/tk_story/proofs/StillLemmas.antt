@@ -15,7 +15,7 @@ use Rattle.tk_frames.specs.declared.frame.Frame.{Frame}
 use Rattle.tk_journal.specs.Laws.{IsMonitor}
 use Rattle.tk_journal.specs.Legal.{IsLegal, Opening, start}
 use Rattle.tk_journal.specs.Links.{frames_from}
-use Rattle.tk_journal.specs.Readings.{Progress, answer_of, assigns_sent, is_answer, is_calm, is_open, is_stopped, monitors, progress_of, settled_in, settled_of}
+use Rattle.tk_journal.specs.Readings.{Progress, answer_of, assigns_sent, is_calm, is_open, is_stopped, monitors, progress_of, settled_in, settled_of}
 use Rattle.tk_journal.specs.Refusal.{is_report}
 use Rattle.tk_journal.specs.declared.noted.Noted.{Noted}
 use Rattle.tk_journal.proofs.Answering.{answer_fresh}
@@ -184,12 +184,12 @@ got_at mon (n.Sent to frame ∷ j) g in' = later_got mon (n.Sent to frame) j g (
 got_at mon (n.Published p ∷ j) g in' = later_got mon (n.Published p) j g (got_at mon j g in')
 got_at mon (n.Tuned k epsilon ∷ j) g in' = later_got mon (n.Tuned k epsilon) j g (got_at mon j g in')
 
-stands_by : (o : Opening) (j : List Noted) (mon : ℕ) (g : Frame) → IsLegal o j → Contains (frames_from mon j) g → is_answer (assigns_sent mon j) g ≡ true → IsAnswered mon j (is_report (Some g))
+stands_by : (o : Opening) (j : List Noted) (mon : ℕ) (g : Frame) → IsLegal o j → Contains (frames_from mon j) g → is_numbered (assigns_sent mon j) g ≡ true → IsAnswered mon j (is_report (Some g))
 stands_by o j mon g legal in' is =
     let at = got_at mon j g in' in
     subst (λ (m : ℕ). IsAnswered m j (is_report (Some g))) at.own
     (subst (λ xs. IsAnswered at.from.0 xs (is_report (Some g))) (sym at.is)
-    (answer_stands o at.a at.after at.from g (subst (IsLegal o) at.is legal) (subst (λ xs. is_answer (assigns_sent at.from.0 xs) g ≡ true) at.is (subst (λ (m : ℕ). is_answer (assigns_sent m j) g ≡ true) (sym at.own) is))))
+    (answer_stands o at.a at.after at.from g (subst (IsLegal o) at.is legal) (subst (λ xs. is_numbered (assigns_sent at.from.0 xs) g ≡ true) at.is (subst (λ (m : ℕ). is_numbered (assigns_sent m j) g ≡ true) (sym at.own) is))))
 
 -- ---- one monitor of a still story
 
@@ -201,7 +201,7 @@ counted_has : (p : Frame → Bool) (xs : List Frame) → 1 ≤ count_by p xs →
 counted_has p [] some = absurd (omega (arith, some))
 counted_has p (x ∷ xs) some = let c = sum_by-cons (λ q. if p q then 1 else 0) x xs in counted_or p x xs (p x) refl (omega (arith, some, c)) (counted_has p xs)
 
-numbered_is : (q : ℕ) (g : Frame) → is_numbered q g ≡ true → is_answer q g ≡ true
+numbered_is : (q : ℕ) (g : Frame) → is_numbered q g ≡ true → is_numbered q g ≡ true
 numbered_is q (f.Report seq border failed values) is = is
 numbered_is q (f.Settled seq last places) is = is
 numbered_is q (f.Hello run version mon) is = absurd (false≢true is)
@@ -221,9 +221,9 @@ still_closed : (s : StoryView) → IsStory s → IsStill s → is_open s.setting
 still_closed s h still = empty_links_close s h still.down still.up
 
 -- a frame under the last number that the trail sent was got, so it stands
-sent_stands : (s : StoryView) → IsStory s → IsStill s → (mon : ℕ) → IsMonitor s.settings mon → (g : Frame) → Contains (sent_by (trail_of s mon)) g → is_answer (seq_of (trail_of s mon)) g ≡ true → IsAnswered mon s.journal (is_report (Some g))
+sent_stands : (s : StoryView) → IsStory s → IsStill s → (mon : ℕ) → IsMonitor s.settings mon → (g : Frame) → Contains (sent_by (trail_of s mon)) g → is_numbered (seq_of (trail_of s mon)) g ≡ true → IsAnswered mon s.journal (is_report (Some g))
 sent_stands s h still mon m g in' is =
-    stands_by (start s.settings) s.journal mon g h.journal_legal (subst (λ xs. Contains xs g) (sym (still.up mon m)) in') (subst (λ (q : ℕ). is_answer q g ≡ true) (count_same s still mon m) is)
+    stands_by (start s.settings) s.journal mon g h.journal_legal (subst (λ xs. Contains xs g) (sym (still.up mon m)) in') (subst (λ (q : ℕ). is_numbered q g ≡ true) (count_same s still mon m) is)
 
 has_answer : (s : StoryView) → IsStory s → IsStill s → (mon : ℕ) → IsMonitor s.settings mon → (g : Frame) × (answer_of mon s.journal ≡ Some g)
 has_answer s h still mon m =
@@ -281,7 +281,7 @@ still_told s h still mon m ends =
     told_by (may_report trail) (is_broken setup trail) (at_ends setup trail) (is_end_told trail) (may s h still mon m) (still_sound s h still mon m) ends (nothing_due setup trail (still.idle mon m)).1
 
 -- a current answer that is no Report is a Settled
-settled_by : (q : ℕ) (g : Frame) → is_answer q g ≡ true → is_report (Some g) ≡ false → is_some (settled_in (Some g)) ≡ true
+settled_by : (q : ℕ) (g : Frame) → is_numbered q g ≡ true → is_report (Some g) ≡ false → is_some (settled_in (Some g)) ≡ true
 settled_by q (f.Settled seq last places) is no' = refl
 settled_by q (f.Report seq border failed values) is no' = absurd (true≢false no')
 settled_by q (f.Hello run version mon) is no' = absurd (false≢true is)

@@ -6,10 +6,10 @@ use Rattle.std.proofs.lemmas.Bool.{eq-eqb}
 use Rattle.std.proofs.lemmas.List.{map-append, append-nil}
 use Rattle.std.proofs.lemmas.List.Elements.{All-append, All-head, All-map, All-nil, All-tail, filter-append}
 use Rattle.tk_base.specs.declared.ids.Mon.{Mon}
-use Rattle.tk_input.specs.Judged.{Assigned, feeders_of, last_monitor, logs_by_monitor}
+use Rattle.tk_input.specs.Judged.{Assigned, feeders_of, last_monitor, logs_by_monitor, under, assigned_from}
 use Rattle.std.proofs.lemmas.List.Sums.{fold-append}
-use Rattle.tk_trace.specs.Spelling.{IsOneOf}
-use Rattle.tk_trace.specs.Assigned.{assigned_from, monitor, under}
+use Rattle.tk_base.specs.Objects.{IsOneOf}
+use Rattle.tk_trace.specs.Assigned.{monitor}
 
 -- ---- the parts of a monitor
 

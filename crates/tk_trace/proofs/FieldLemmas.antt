@@ -5,15 +5,16 @@ use Rattle.std.specs.Int.{w128}
 use Rattle.std.proofs.lemmas.Bool.{ltb-false, ltb-true, leb-true, lt-ltb, le-leb, le-ltb, and_parts}
 use Rattle.std.proofs.lemmas.List.{drop_at, length-append, length-take, take-append-drop, take_at}
 use Rattle.std.proofs.lemmas.Int.{ints}
-use Rattle.tk_frames.specs.Reading.{◌>>=◌, bytes_at, counted_at as frame_counted_at, items_at, number_at as frame_number_at, object_at as frame_object_at, signed_at as frame_signed_at}
+use Rattle.tk_frames.specs.Reading.{◌>>=◌, bytes_at, counted_at as frame_counted_at, items_at, number_at as frame_number_at, object_at as frame_object_at, signed_at as frame_signed_at, flag_at}
 use Rattle.tk_frames.specs.Spelling.{ArePlaces, IsSet, flag, object_itself, places, set, signed}
 use Rattle.tk_base.specs.Ascending.{IsAscending}
+use Rattle.tk_base.specs.Objects.{IsOneOf}
 use Rattle.tk_frames.proofs.AscentLemmas.{objects_ascend}
 use Rattle.tk_frames.proofs.ExactLemmas.{IsExact, exact_as, exact_both, exact_fact}
 use Rattle.tk_frames.proofs.FieldLemmas.{exact_set as set_is_exact, exact_places as places_are_exact, exact_signed as signed_is_exact}
 use Rattle.tk_frames.proofs.Steps.{bind_some, passed, some_is}
-use Rattle.tk_trace.specs.Reading.{bounds_at, epsilon_at, flag_at, is_epsilon, is_one_of, name_at, number_at, object_at, places_at, set_at, signed_at, tested_at, text_at}
-use Rattle.tk_trace.specs.Spelling.{IsEpsilon, IsOneOf, bounds, name, number}
+use Rattle.tk_trace.specs.Reading.{bounds_at, epsilon_at, is_epsilon, is_one_of, name_at, number_at, object_at, places_at, set_at, signed_at, tested_at, text_at}
+use Rattle.tk_trace.specs.Spelling.{IsEpsilon, bounds, name, number}
 use Rattle.tk_trace.proofs.ExactLemmas.{exact_number, exact_tested}
 
 pub exact_signed : IsExact (FitsSigned w128) (signed 1) signed_at

@@ -8,9 +8,9 @@ use Rattle.std.proofs.lemmas.List.Elements.{All-weaker}
 use Rattle.std.proofs.lemmas.List.{get_or_default}
 use Rattle.std.proofs.lemmas.List.Sums.{position_or_len_is, sum_by-cons}
 use Rattle.std.proofs.lemmas.Int.{ints}
-use Rattle.tk_base.specs.Objects.{objects}
+use Rattle.tk_base.specs.Objects.{objects, IsOneOf}
 use Rattle.tk_base.proofs.OptionLemmas.{unmapped}
-use Rattle.tk_input.specs.Judged.{first_at, first_crowded, first_gap, Assigned, great_in, great_object, judged, logs_by_monitor, logs_of, unless}
+use Rattle.tk_input.specs.Judged.{first_at, first_crowded, first_gap, Assigned, great_in, great_object, judged, logs_by_monitor, logs_of, unless, assigned_from}
 use Rattle.tk_input.specs.Logs.{AreLogs, AreParts, IsObject, LogSet, updates_of, weight_for, weight_of}
 use Rattle.tk_input.specs.declared.logs.LogsFault.{LogsFault}
 use Rattle.tk_input.specs.declared.logs.LogsFault.TheVariants.{MonitorGap, TooManyFeeders, TooManyUpdates}
@@ -21,11 +21,10 @@ use Rattle.tk_frames.specs.Reading.{◌>>=◌}
 use Rattle.tk_frames.proofs.BytesLemmas.{IsBytes}
 use Rattle.tk_frames.proofs.ExactLemmas.{IsExact, exact_both, exact_fact}
 use Rattle.tk_frames.proofs.Steps.{bind_some, some_is}
-use Rattle.tk_trace.specs.Assigned.{assigned_from}
 use Rattle.tk_trace.specs.declared.fault.ParseFault.{ParseFault}
 use Rattle.tk_trace.specs.declared.fault.ParseFault.TheVariants as fault
 use Rattle.tk_trace.specs.Reading.{Fails, change_at, if_ok, log_set, logs_at, number_at, part_at, row_at, tested_at, times_at}
-use Rattle.tk_trace.specs.Spelling.{IsOneOf, change, number, part, row}
+use Rattle.tk_trace.specs.Spelling.{change, number, part, row}
 use Rattle.tk_trace.proofs.AssignedLemmas.{are_monitors, are_parts, logs_again}
 use Rattle.tk_trace.proofs.ExactLemmas.{exact_behind, exact_number, exact_tested, exact_times}
 use Rattle.tk_trace.proofs.FieldLemmas.{exact_one_of, exact_signed}

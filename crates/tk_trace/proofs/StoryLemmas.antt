@@ -7,7 +7,7 @@ use Rattle.std.proofs.lemmas.Bool.{eq-eqb}
 use Rattle.std.proofs.lemmas.List.{get_or_default, take-append-drop}
 use Rattle.std.proofs.lemmas.List.Elements.{All-append, All-cons, All-contains_itself, All-filter, All-head, All-map, All-nil, All-push, All-tail, All-take, All-weaker}
 use Rattle.tk_base.specs.History.{EachFrom, IsFront, last_of}
-use Rattle.tk_base.specs.Objects.{objects}
+use Rattle.tk_base.specs.Objects.{objects, IsOneOf}
 use Rattle.tk_base.specs.Settings.{Setup}
 use Rattle.tk_base.specs.declared.ids.Mon.{Mon}
 use Rattle.tk_base.proofs.HistoryLemmas.{each_place}
@@ -59,7 +59,6 @@ use Rattle.tk_story.proofs.PublishedLemmas.{published_holds}
 use Rattle.tk_story.proofs.QuietLemmas.{setup_is}
 use Rattle.tk_trace.specs.Writing.{CanBeEntered, CanBeNoted, CanBePublished, CanBeSpelled}
 use Rattle.std.proofs.lemmas.Option.{get_or_from_slice_get, cond_some}
-use Rattle.tk_trace.specs.Spelling.{IsOneOf}
 
 -- ---- each monitor that a legal journal names is there
 

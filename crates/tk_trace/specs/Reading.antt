@@ -1,5 +1,5 @@
 -- Reading from left to right, as the code does. No public clause cites it.
-use Rattle.std.specs.Prelude.{◌≡◌, ◌==◌, ◌&&◌, ◌^◌, ℕ, zero, suc, ℤ, pos, Bool, true, false, List, [], ◌∷◌, length, take, drop, Option, Some, None, Result, Ok, Err, nat_lt, nat_le, nat_eq, if◌then◌else◌, ⊤}
+use Rattle.std.specs.Prelude.{◌≡◌, ◌==◌, ◌&&◌, ◌^◌, ℕ, zero, suc, ℤ, pos, Bool, List, [], ◌∷◌, length, take, drop, Option, Some, None, Result, Ok, Err, nat_lt, nat_le, nat_eq, if◌then◌else◌, ⊤}
 use Rattle.std.specs.Cmp.Lexicographic.{pointwise}
 use Rattle.std.specs.Int.{w128, cast_signed}
 use Rattle.byteorder.specs.Endian.{big_number}
@@ -10,7 +10,7 @@ use Rattle.tk_input.specs.Logs.{LogSet}
 use Rattle.tk_frames.specs.declared.frame.Frame.{Frame}
 use Rattle.tk_frames.specs.declared.answer.Next.{Next}
 use Rattle.tk_frames.specs.declared.answer.Next.TheVariants.{Whole, Part, Bad}
-use Rattle.tk_frames.specs.Reading.{Found, ◌>>=◌, as_at, both_at, items_at, next_of, object_if}
+use Rattle.tk_frames.specs.Reading.{Found, ◌>>=◌, as_at, both_at, items_at, next_of, object_if, flag_at}
 use Rattle.tk_frames.specs.Spelling.{no_object, object_itself}
 use Rattle.tk_journal.specs.declared.noted.Noted.{Noted}
 use Rattle.tk_journal.specs.declared.noted.Noted.TheVariants as n
@@ -68,13 +68,6 @@ counted_at size few read bytes = tested_at few (number_at size) bytes >>= λ cou
 -- a signed number in 16 bytes, in two's complement
 unfoldable pub signed_at : List ℕ → Found ℤ
 signed_at bytes = as_at (cast_signed w128) (number_at 16) bytes
-
--- yes or no: a byte of 1 or of 0
-unfoldable pub flag_at : List ℕ → Found Bool
-flag_at [] = None
-flag_at (zero ∷ rest) = Some (false, rest)
-flag_at (suc zero ∷ rest) = Some (true, rest)
-flag_at (suc (suc b) ∷ rest) = None
 
 -- an object above the one before
 unfoldable pub object_at : ℕ → List ℕ → Found ℕ

@@ -4,6 +4,7 @@ use Rattle.std.specs.Int.{w128}
 use Rattle.std.specs.List.{flat_map, All, AllZip}
 use Rattle.byteorder.specs.Endian.{big_bytes}
 use Rattle.tk_base.specs.Settings.{Setup, IsWithinLimits}
+use Rattle.tk_base.specs.Objects.{IsOneOf}
 use Rattle.tk_input.specs.Catalog.{catalog_from}
 use Rattle.tk_input.specs.Logs.{AreLogs}
 use Rattle.tk_frames.specs.declared.frame.Frame.{Frame}
@@ -97,10 +98,6 @@ pub record IsEpsilon (epsilon : ℤ) : Type 0 where
 -- a frame that has a spelling
 abbrev pub IsFrame : Frame → Type 0
 IsFrame frame = IsSpelling 1 frame (spelling 1 frame)
-
--- a number of one of so many, from 1
-abbrev pub IsOneOf : ℕ → ℕ → Type 0
-IsOneOf many number = (1 ≤ number) × (number ≤ many)
 
 -- a publication among so many monitors: each number within its type, an ascending set, and the places of each monitor
 pub record IsPublication (many : ℕ) (p : Publication) : Type 0 where

@@ -1,6 +1,7 @@
 -- What the entries of a story are, so that they can be written. No public clause cites it.
 use Rattle.std.specs.Prelude.{◌<◌, ◌≡◌, ◌^◌, ◌≤ℤ◌, ℕ, pos, length}
 use Rattle.std.specs.List.{All}
+use Rattle.tk_base.specs.Objects.{IsOneOf}
 use Rattle.tk_frames.specs.Encoding.{IsBadHello}
 use Rattle.tk_frames.specs.Size.{IsShort}
 use Rattle.tk_frames.specs.declared.frame.Frame.{Frame}
@@ -9,7 +10,6 @@ use Rattle.tk_journal.specs.declared.noted.Noted.TheVariants as n
 use Rattle.tk_journal.specs.declared.publication.Publication.{Publication}
 use Rattle.tk_trail.specs.declared.entry.Entry.{Entry}
 use Rattle.tk_trail.specs.declared.entry.Entry.TheVariants as e
-use Rattle.tk_trace.specs.Spelling.{IsOneOf}
 
 -- a frame that fits, and no Hello that names no monitor or no version
 pub record CanBeSpelled (frame : Frame) : Type 0 where

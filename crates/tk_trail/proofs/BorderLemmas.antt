@@ -99,14 +99,14 @@ taken_well setup trail each = each_carries (Allowed setup) (λ front. AreTakenWe
 
 -- ---- levels
 
-abbrev Low : ℤ → Type 0
+abbrev pub Low : ℤ → Type 0
 Low z = neg_ℤ (pos (2 ^ 113)) ≤ℤ z
 
 -- the sum of two small numbers is not too low
 pub sum_low : (v w : ℤ) → unsigned_abs v ≤ 2 ^ 100 → unsigned_abs w ≤ 2 ^ 112 → Low (v +ℤ w)
 sum_low v w a b = omega (arith, ints, a, b)
 
-zero_low : Low (pos 0)
+pub zero_low : Low (pos 0)
 zero_low = omega (arith, ints)
 
 level_low : (setup : MonitorSetup) (x : List Entry) (o : ℕ) → IsSetup setup → AreTakenWell setup.objects (assigns_of x) → 1 ≤ o → o ≤ setup.objects → Low (level_at (levels_of setup x) o)

@@ -1,3 +1,2 @@
-mod DigitsLemmas
 mod FoundLemmas
 mod LogsLemmas

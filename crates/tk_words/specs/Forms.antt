@@ -1,16 +1,7 @@
 -- The forms of the values of words.
 use Rattle.std.specs.Prelude.{ℕ, bytes_eq, codes, ◌&&◌, ◌==◌, nat_lt, nat_le, if◌then◌else◌, List, [], ◌∷◌, length, Option, Some, None, option_map, option_and_then}
 use Rattle.std.specs.List.{after_first, before_first, position_or_len}
-use Rattle.std.specs.Str.{all_ascii_digits}
-use Rattle.std.specs.Str.Parse.{digits_value}
-
--- the number that 1 to 38 decimal digits write
-abbrev pub digits_in : List ℕ → Option ℕ
-digits_in text = if nat_lt 0 (length text) && nat_le (length text) 38 && all_ascii_digits text then Some (digits_value 10 text) else None
-
--- the number that 1 to 18 decimal digits write
-abbrev pub short_in : List ℕ → Option ℕ
-short_in text = if nat_le (length text) 18 then digits_in text else None
+use Rattle.tk_base.specs.Digits.{digits_in, short_in}
 
 -- a number as that of a monitor: 1 to 64
 abbrev pub monitor_from : Option ℕ → Option ℕ

@@ -2,10 +2,11 @@
 use Rattle.std.specs.Prelude.{ℕ, List, [], ◌∷◌, Option, Some, None, option_map, option_and_then, bytes_eq, codes, if◌then◌else◌}
 use Rattle.std.specs.Option.{option_map_or}
 use Rattle.clap.specs.Words.{Row, all_of, first_of}
+use Rattle.tk_base.specs.Digits.{digits_in, short_in}
 use Rattle.tk_words.specs.declared.verb.Verb.{Verb}
 use Rattle.tk_words.specs.declared.verb.Verb.TheVariants.{Replay, Generate, Live, Window, Multi, Sessions, Trace, Check}
 use Rattle.tk_words.specs.Clap.{app_named, found_in}
-use Rattle.tk_words.specs.Forms.{digits_in, file_in, logs_in, piece_in, short_in, version_in}
+use Rattle.tk_words.specs.Forms.{file_in, logs_in, piece_in, version_in}
 
 -- where a run finds its input: the numbers of the settings, the files with their logs' monitors, and the width of the
 -- window over them, where there is one

@@ -1,12 +1,10 @@
 ghost use Rattle.std.specs.Prelude.{◌≡◌, ◌⊎◌, ◌≤◌, IfSome, option_map};
-ghost use Rattle.tk_words.specs.Forms.{digits_in, file_in, log_in, monitor_in, piece_in, short_in, version_in};
+ghost use Rattle.tk_words.specs.Forms.{file_in, log_in, monitor_in, piece_in, version_in};
+ghost use Rattle.tk_base.specs.Digits.{digits_in, short_in};
 
-use crate::digits::digits_of;
-use tk_base::Mon;
+use tk_base::{Mon, digits_of, short_of};
 
 const MAX_MONITOR: u128 = 64;
-
-const SHORT_DIGITS: usize = 18;
 
 const MAX_PIECE: u64 = 65_536;
 
@@ -21,10 +19,7 @@ pub fn long_number(text: &str) -> Option<u128>
 pub fn short_number(text: &str) -> Option<u64>
     ensures { result ≡ short_in text.now }
 {
-    if text.len() > SHORT_DIGITS {
-        return None;
-    }
-    Some(digits_of(text.as_bytes())? as u64)
+    short_of(text.as_bytes())
 }
 
 /// The number of a monitor: 1 to 64, without a leading zero.

@@ -8,7 +8,6 @@
 mod carriage;
 mod check;
 mod command;
-mod digits;
 mod fault;
 mod forms;
 mod generate;

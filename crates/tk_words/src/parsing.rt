@@ -1,7 +1,8 @@
 ghost use Rattle.std.specs.Prelude.{◌≡◌, ◌≢◌, true, Some, None, IfOk, IsErrOf, map, codes, string_bytes, option_map};
 ghost use Rattle.clap.specs.Words.{all_of, app_of, first_of, found_of, is_simple_and_free, kind_of, rows_of};
 ghost use Rattle.tk_words.specs.Clap.{found_in};
-ghost use Rattle.tk_words.specs.Forms.{digits_in, file_in, short_in};
+ghost use Rattle.tk_words.specs.Forms.{file_in};
+ghost use Rattle.tk_base.specs.Digits.{digits_in, short_in};
 ghost use Rattle.tk_words.specs.Words.{required};
 
 use crate::fault::WordsFault;

@@ -1,7 +1,8 @@
 ghost use Rattle.std.specs.Prelude.{◌≡◌, Some, None, IfOk, IsErrOf, map, codes, option_map};
 ghost use Rattle.clap.specs.Words.{found_of, rows_of};
 ghost use Rattle.tk_words.specs.Asked.{AreOfMonitors, asked_logs, asked_sources, text_in};
-ghost use Rattle.tk_words.specs.Forms.{logs_in, short_in};
+ghost use Rattle.tk_words.specs.Forms.{logs_in};
+ghost use Rattle.tk_base.specs.Digits.{short_in};
 ghost use Rattle.tk_words.specs.Words as spec;
 ghost use Rattle.tk_words.specs.Words.{logs_of, optional, order_of};
 

@@ -23,9 +23,10 @@ use Rattle.tk_monitor.specs.declared.outcome.Raised.TheVariants.{Done, Ended}
 use Rattle.tk_trail.specs.Readings.{at_ends, places_at, sent_by}
 use Rattle.tk_trail.specs.Setup.{MonitorSetup}
 use Rattle.tk_trail.specs.declared.entry.Entry.{Entry}
+use Rattle.tk_monitor.specs.Stepped.{checking, taking}
 use Rattle.tk_story.specs.Story.{IsStory, StoryView}
 use Rattle.tk_world.specs.Events.{next_of}
-use Rattle.tk_world.specs.Nodes.{AtSeat, CanGoDown, CanGoUp, GoesDown, GoesUp, HasSeat, NodesView, RaisesAt, checked, fresh_seat, having_taken, retuned, with_seat}
+use Rattle.tk_world.specs.Nodes.{AtSeat, CanGoDown, CanGoUp, GoesDown, GoesUp, HasSeat, NodesView, RaisesAt, fresh_seat, retuned, with_seat}
 use Rattle.tk_world.specs.Seats.{Holds, HoldsWith, are_links_empty, places_in, story_with, trails_of}
 use Rattle.tk_world.specs.Work.{has}
 use Rattle.tk_world.specs.World.{IsFeeder}
@@ -109,14 +110,14 @@ raise_none v v' L F raises work mon g h m raised =
 
 pub check_with : (v v' : NodesView) (L : LogSet) (F : List (List ℕ)) (raises raises' : ℕ) (work : Work) (mon : Mon) (checked_now : Checked) (reads : MonitorView)
     → HoldsWith v L F raises work → has work mon.0 ≡ true → AtSeat v mon.0 (λ seat. reads ≡ seat.monitor) → checked_now ≡ checked_at reads.setup reads.trail → (checked_now ≡ Nothing → ⊥)
-    → AtSeat v mon.0 (λ seat. v' ≡ with_seat v mon.0 (record seat { monitor = checked seat.monitor })) → raises' ≡ raises
+    → AtSeat v mon.0 (λ seat. v' ≡ with_seat v mon.0 (record seat { monitor = checking seat.monitor })) → raises' ≡ raises
     → Leaves (story_with v L F) (Check mon) v'.coordinator.settings L F v'.coordinator.journal v'.seats raises' work
 check_with v v' L F raises raises' work mon checked_now reads h busy read answer some is room =
     let seat = seat_of v L F mon.0 in
     let m = h.within mon.0 busy in
     let d = fresh_seat v.coordinator.settings L F 1 in
     subst (λ (z : NodesView). Leaves (story_with v L F) (Check mon) z.coordinator.settings L F z.coordinator.journal z.seats raises' work) (sym (is d))
-    (check_leaves v.coordinator.settings L F v.coordinator.journal v.seats raises raises' work mon seat (checked seat.monitor) checked_now h busy (seat_at v L F mon.0 h.story m)
+    (check_leaves v.coordinator.settings L F v.coordinator.journal v.seats raises raises' work mon seat (checking seat.monitor) checked_now h busy (seat_at v L F mon.0 h.story m)
     (answer ∙ ap (λ (x : MonitorView). checked_at x.setup x.trail) (read d)) some refl room)
 
 -- a check that sends nothing
@@ -213,7 +214,7 @@ down_with v v' L F raises raises' work mon h busy goes room =
     let m = h.within mon.0 busy in
     let down = goes (fresh_seat v.coordinator.settings L F 1) in
     subst (λ (z : NodesView). Leaves (story_with v L F) (Down mon) z.coordinator.settings L F z.coordinator.journal z.seats raises' work) (sym down.is)
-    (down_leaves v.coordinator.settings L F v.coordinator.journal v.seats raises raises' work mon seat (having_taken seat.monitor down.frame) down.frame h busy (seat_at v L F mon.0 h.story m) down.next refl room)
+    (down_leaves v.coordinator.settings L F v.coordinator.journal v.seats raises raises' work mon seat (taking seat.monitor down.frame) down.frame h busy (seat_at v L F mon.0 h.story m) down.next refl room)
 
 -- ---- retunes
 

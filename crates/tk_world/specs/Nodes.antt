@@ -15,9 +15,9 @@ use Rattle.tk_journal.specs.declared.noted.Noted.{Noted}
 use Rattle.tk_journal.specs.declared.noted.Noted.TheVariants as n
 use Rattle.tk_monitor.specs.Monitored.{MonitorView, Raises, made}
 use Rattle.tk_monitor.specs.declared.outcome.Raised.{Raised}
-use Rattle.tk_trail.specs.Legal.{after_check, after_take}
 use Rattle.tk_trail.specs.Readings.{sent_by}
 use Rattle.tk_trail.specs.Refusal.{refusal_of as monitor_refusal_of}
+use Rattle.tk_monitor.specs.Stepped.{checking, taking}
 use Rattle.tk_world.specs.declared.seat.Seat.{Seat}
 
 -- the coordinator, and each monitor with how far its two links were walked
@@ -46,17 +46,9 @@ with_seat nodes mon seat = record nodes { seats = set nodes.seats (mon - 1) seat
 abbrev pub with_input : CoordinatorView → Noted → CoordinatorView
 with_input c input = record c { journal = c.journal ++ turn_of c.settings c.journal input }
 
--- a monitor that was checked
-abbrev pub checked : MonitorView → MonitorView
-checked monitor = record monitor { trail = after_check monitor.setup monitor.trail }
-
--- a monitor that took a frame
-abbrev pub having_taken : MonitorView → Frame → MonitorView
-having_taken monitor frame = record monitor { trail = after_take monitor.setup monitor.trail frame }
-
 -- a check at a seat
 abbrev pub ChecksAt : ℕ → NodesView → NodesView → Seat → Type 0
-ChecksAt mon old new seat = new ≡ with_seat old mon (record seat { monitor = checked seat.monitor })
+ChecksAt mon old new seat = new ≡ with_seat old mon (record seat { monitor = checking seat.monitor })
 
 -- a raise at a seat
 pub record RaisesAt (mon : ℕ) (feeder : Feeder) (raised : Raised) (old new : NodesView) (seat : Seat) : Type 0 where
@@ -89,7 +81,7 @@ pub record CanGoDown (nodes : NodesView) (mon : ℕ) (seat : Seat) : Type 0 wher
 pub record GoesDown (mon : ℕ) (old new : NodesView) (seat : Seat) : Type 0 where
   pub frame : Frame
   pub next : slice_get (frames_to mon old.coordinator.journal) seat.taken ≡ Some frame
-  pub is : new ≡ with_seat old mon (record seat { monitor = having_taken seat.monitor frame; taken = seat.taken + 1 })
+  pub is : new ≡ with_seat old mon (record seat { monitor = taking seat.monitor frame; taken = seat.taken + 1 })
 
 -- the nodes once the coordinator is retuned
 abbrev pub retuned : NodesView → ℕ → ℕ → NodesView

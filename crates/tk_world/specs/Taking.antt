@@ -8,7 +8,8 @@ use Rattle.tk_journal.specs.Refusal.{refusal_of}
 use Rattle.tk_journal.specs.declared.noted.Noted.TheVariants as n
 use Rattle.tk_trail.specs.Readings.{sent_by}
 use Rattle.tk_trail.specs.Refusal.{refusal_of as monitor_refusal_of}
-use Rattle.tk_world.specs.Nodes.{having_taken, with_input}
+use Rattle.tk_monitor.specs.Stepped.{taking}
+use Rattle.tk_world.specs.Nodes.{with_input}
 use Rattle.tk_world.specs.declared.seat.Seat.{Seat}
 
 -- the next frame of a seat is under way, and the coordinator does not refuse it
@@ -34,4 +35,4 @@ pub record CanTakeDown (coordinator : CoordinatorView) (mon : ℕ) (seat : Seat)
 pub record TakesDown (mon : ℕ) (coordinator : CoordinatorView) (before after : Seat) : Type 0 where
   pub frame : Frame
   pub next : slice_get (frames_to mon coordinator.journal) before.taken ≡ Some frame
-  pub seat : after ≡ record before { monitor = having_taken before.monitor frame; taken = before.taken + 1 }
+  pub seat : after ≡ record before { monitor = taking before.monitor frame; taken = before.taken + 1 }

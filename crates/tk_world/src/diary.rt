@@ -17,7 +17,8 @@ pub struct Diary {
 impl Model for Diary {
     ghost use Rattle.std.specs.Prelude.{length};
     ghost use Rattle.std.specs.Vec.{vec_capacity};
-    ghost use Rattle.tk_world.specs.Diary.{DiaryView, HasRoom};
+    ghost use Rattle.tk_world.specs.Diary.{DiaryView};
+    ghost use Rattle.tk_monitor.specs.Trail.{HasRoom};
 
     ghost Value = { DiaryView };
 

@@ -2,7 +2,8 @@ ghost use Rattle.std.specs.Prelude.{◌≡◌, ◌<◌, ◌≤◌, None, IfOk, O
 ghost use Rattle.tk_journal.specs.Refusal.{refusal_of};
 ghost use Rattle.tk_journal.specs.declared.noted.Noted.TheVariants.{Got};
 ghost use Rattle.tk_trail.specs.Refusal.{refusal_of as monitor_refusal_of};
-ghost use Rattle.tk_world.specs.Nodes.{IsFresh, having_taken, with_input};
+ghost use Rattle.tk_world.specs.Nodes.{IsFresh, with_input};
+ghost use Rattle.tk_monitor.specs.Stepped.{taking};
 ghost use Rattle.tk_world.specs.Taking.{CanTakeDown, CanTakeUp, TakesDown, TakesUp};
 ghost use Rattle.tk_world.specs.World.{CanRun};
 
@@ -92,7 +93,7 @@ fn hand_up(coordinator: &mut Coordinator, mon: Mon, frame: Frame) -> Result<(), 
 /// A monitor takes a frame that it does not refuse.
 fn hand_down(monitor: &mut Monitor, frame: Frame) -> Result<(), NoMemory>
     requires { monitor_refusal_of monitor.old.setup monitor.old.trail frame ≡ None }
-    ensures ok { OnOk result (monitor.new ≡ having_taken monitor.old frame) }
+    ensures ok { OnOk result (monitor.new ≡ taking monitor.old frame) }
     ensures err { OnErr result (monitor.new ≡ monitor.old) }
 {
     match monitor.take(frame) {

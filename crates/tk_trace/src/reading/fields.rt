@@ -3,7 +3,8 @@
 ghost use Rattle.tk_base.specs.Ascending.{numbers_of};
 ghost use Rattle.tk_frames.specs.Reading.{items_at};
 ghost use Rattle.tk_frames.specs.Spelling.{no_object, object_itself};
-ghost use Rattle.tk_trace.specs.Reading.{Gives, epsilon_at, flag_at, is_one_of, number_at, object_at, place_at, places_at, set_at, signed_at, tested_at};
+ghost use Rattle.tk_trace.specs.Reading.{Gives, epsilon_at, is_one_of, number_at, object_at, place_at, places_at, set_at, signed_at, tested_at};
+ghost use Rattle.tk_frames.specs.Reading.{flag_at};
 
 use crate::fault::ParseFault;
 use byteorder::{BigEndian, ByteOrder};

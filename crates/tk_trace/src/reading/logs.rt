@@ -5,8 +5,8 @@ ghost use Rattle.tk_input.specs.Judged.{logs_of};
 ghost use Rattle.tk_input.specs.Logs.{IsObject};
 ghost use Rattle.tk_input.specs.Changes.{pair_of};
 ghost use Rattle.tk_input.specs.Rows.{logs_in};
-ghost use Rattle.tk_trace.specs.Assigned.{assigned_from, under};
-ghost use Rattle.tk_trace.specs.Spelling.{IsOneOf};
+ghost use Rattle.tk_input.specs.Judged.{assigned_from, under};
+ghost use Rattle.tk_base.specs.Objects.{IsOneOf};
 ghost use Rattle.tk_trace.specs.Reading.{Gives, change_at, if_ok, logs_at, part_at, row_at, times_at};
 
 use super::fields::{byte, i128_at, one_of, u32_at};

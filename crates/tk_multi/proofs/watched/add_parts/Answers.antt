@@ -1,7 +1,7 @@
 use Rattle.std.proofs.Common.{ℕ, ℤ, List, [], ◌∷◌, ◌++◌, map, take, get_or, sym, ap, ◌∙◌}
 use Rattle.std.proofs.lemmas.List.{append_assoc, map_more, map-append, take_all}
-use Rattle.tk_input.specs.Judged.{Assigned}
-use Rattle.tk_multi.specs.Projection.{under, watched_in}
+use Rattle.tk_input.specs.Judged.{Assigned, under}
+use Rattle.tk_multi.specs.Projection.{watched_in}
 use Rattle.tk_multi.proofs.watched.add_parts.Goals as goal
 
 pub loop-part-preserved : goal.loop-part-preserved

@@ -1,5 +1,6 @@
 use Rattle.std.proofs.Common.{◌≡◌, ◌++◌, map, take}
-use Rattle.tk_multi.specs.Projection.{under, watched_in}
+use Rattle.tk_input.specs.Judged.{under}
+use Rattle.tk_multi.specs.Projection.{watched_in}
 use Rattle.tk_multi.proofs.watched.add_parts.Given as goal
 
 -- the parts so far are there

@@ -1,8 +1,8 @@
 use Rattle.std.proofs.Common.{ℕ, ℤ, ◌+◌, ◌<◌, ◌≤◌, List, ◌++◌, length, map, ap, ◌∙◌, arith}
 use Rattle.std.proofs.lemmas.List.{take_all}
-use Rattle.tk_input.specs.Judged.{Assigned}
+use Rattle.tk_input.specs.Judged.{Assigned, under, assigned_from}
 use Rattle.tk_input.specs.Logs.{parts_of}
-use Rattle.tk_multi.specs.Projection.{assigned_from, seen_logs, under, watched_in}
+use Rattle.tk_multi.specs.Projection.{seen_logs, watched_in}
 use Rattle.tk_multi.proofs.AssignLemmas.{assigned_more}
 use Rattle.tk_multi.proofs.watched.parts_for.Goals as goal
 

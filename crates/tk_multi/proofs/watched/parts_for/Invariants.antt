@@ -1,5 +1,6 @@
 use Rattle.std.proofs.Common.{◌≡◌, take}
-use Rattle.tk_multi.specs.Projection.{assigned_from, seen_logs}
+use Rattle.tk_input.specs.Judged.{assigned_from}
+use Rattle.tk_multi.specs.Projection.{seen_logs}
 use Rattle.tk_multi.proofs.watched.parts_for.Given as goal
 
 -- the parts of the monitors so far are there

@@ -1,5 +1,6 @@
 use Rattle.std.proofs.Common.{◌≡◌, ◌-◌, set, sym, subst, ◌∙◌}
-use Rattle.tk_world.specs.Nodes.{AtSeat, HasSeat, NodesView, checked, with_seat}
+use Rattle.tk_monitor.specs.Stepped.{checking}
+use Rattle.tk_world.specs.Nodes.{AtSeat, HasSeat, NodesView, with_seat}
 use Rattle.tk_world.proofs.EnabledLemmas.{on_err}
 use Rattle.tk_bytes.specs.Wired.{seen_of}
 use Rattle.tk_bytes.proofs.WiredLemmas.{checked_on, checked_seen, port_wired, same_on, same_seen, walked_at}
@@ -36,5 +37,5 @@ returns-clause-ok c =
     let w = c.self.inside in
     let has = subst (λ (v : NodesView). HasSeat v c.args.mon.0) (sym c.self.view_is) c.requires in
     let after = seen_of w.hub (set w.lines.items (c.args.mon.0 - 1) (record c.index_mut-walked.result.now { line = record { port = c.check.new.self; up = c.index_mut-walked.result.now.line.up; down = c.index_mut-walked.result.now.line.down } })) in
-    subst (λ (v : NodesView). AtSeat v c.args.mon.0 (λ (seat : Seat). after ≡ with_seat v c.args.mon.0 (record seat { monitor = checked seat.monitor }))) c.self.view_is
+    subst (λ (v : NodesView). AtSeat v c.args.mon.0 (λ (seat : Seat). after ≡ with_seat v c.args.mon.0 (record seat { monitor = checking seat.monitor }))) c.self.view_is
     (checked_seen c.args.mon.0 w.hub w.lines.items c.index_mut-walked.result.now c.check.new.self has c.index_mut-walked.ensures.value c.in_ok-check.ensures.ok)

@@ -1,8 +1,8 @@
 use Rattle.std.proofs.Common.{◌≡◌, sym, ap, ◌∙◌}
 use Rattle.std.proofs.lemmas.Result.{IfOk-weaker}
 use Rattle.tk_journal.specs.Turns.{rounds}
+use Rattle.tk_journal.specs.RoundEnds.{openings}
 use Rattle.tk_coord.specs.Coordinator.{CoordinatorView}
-use Rattle.tk_coord.specs.Turns.{opened_in}
 use Rattle.tk_coord.proofs.GrowLemmas.{rounds_at}
 use Rattle.tk_coord.proofs.coordinator.Coordinator.rounds.Goals as goal
 
@@ -10,6 +10,6 @@ pub returns : goal.returns
 returns c =
     let f = c.self.inside in
     let now = c.args.self.now in
-    let same : opened_in f.turns.list ≡ rounds now.settings now.journal =
-    ap opened_in c.self.invariant.0.turned ∙ sym (rounds_at f.settings f.journal.entries c.self.invariant.0.journal) ∙ ap (λ (v : CoordinatorView). rounds v.settings v.journal) c.self.view_is in
-    IfOk-weaker c.rounds.result (λ n. n ≡ opened_in f.turns.list) (λ n. n ≡ rounds now.settings now.journal) (λ n is. is ∙ same) c.rounds.ensures
+    let same : openings f.turns.list ≡ rounds now.settings now.journal =
+    ap openings c.self.invariant.0.turned ∙ sym (rounds_at f.settings f.journal.entries c.self.invariant.0.journal) ∙ ap (λ (v : CoordinatorView). rounds v.settings v.journal) c.self.view_is in
+    IfOk-weaker c.rounds.result (λ n. n ≡ openings f.turns.list) (λ n. n ≡ rounds now.settings now.journal) (λ n is. is ∙ same) c.rounds.ensures

@@ -1,7 +1,7 @@
 use Rattle.std.proofs.Common.{◌∷◌, ◌∙◌, ℕ, ap, length, sym}
 use Rattle.std.proofs.lemmas.Bool.{eqb-true}
 use Rattle.tk_input.specs.Order.{left_after}
-use Rattle.tk_input.proofs.DigitsLemmas.{eqb_some}
+use Rattle.tk_base.proofs.DigitsLemmas.{eqb_some}
 use Rattle.tk_input.proofs.OrderLemmas.{line_next, line_skipped, none_left}
 use Rattle.tk_input.proofs.lines.Lines.next.Goals as goal
 

@@ -1,5 +1,5 @@
 use Rattle.std.proofs.Common.{◌≡◌, ◌++◌}
-use Rattle.tk_trace.specs.Assigned.{under}
+use Rattle.tk_input.specs.Judged.{under}
 use Rattle.tk_trace.proofs.reading.logs.append_row.Given as goal
 
 -- the parts so far stand at the end, each under the monitor

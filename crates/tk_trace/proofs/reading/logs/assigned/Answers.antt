@@ -1,8 +1,7 @@
 use Rattle.std.proofs.Common.{◌≡◌, ℕ, ◌+◌, length, ◌++◌, ◌∷◌, [], ap, sym, ◌∙◌, arith}
 use Rattle.std.proofs.lemmas.List.{length-append, length-map, map_push}
-use Rattle.tk_input.specs.Judged.{Assigned}
+use Rattle.tk_input.specs.Judged.{Assigned, under, assigned_from}
 use Rattle.tk_input.specs.Rows.{logs_in}
-use Rattle.tk_trace.specs.Assigned.{assigned_from, under}
 use Rattle.tk_trace.proofs.AssignedLemmas.{rows_more}
 use Rattle.tk_trace.proofs.reading.logs.assigned.Goals as goal
 

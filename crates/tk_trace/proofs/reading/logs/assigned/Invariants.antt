@@ -1,6 +1,6 @@
 use Rattle.std.proofs.Common.{◌≡◌, ◌+◌, length}
 use Rattle.tk_input.specs.Rows.{logs_in}
-use Rattle.tk_trace.specs.Assigned.{assigned_from}
+use Rattle.tk_input.specs.Judged.{assigned_from}
 use Rattle.tk_trace.proofs.reading.logs.assigned.Given as goal
 
 -- the rows so far are listed, and the next monitor follows them

@@ -1,7 +1,7 @@
 use Rattle.std.proofs.Common.{◌≡◌, ◌≤◌, ◌*◌, length, take}
 use Rattle.std.specs.Prelude.{sum_by}
 use Rattle.tk_input.specs.Logs.{parts_of}
-use Rattle.tk_multi.proofs.watched.updates_at.Given as goal
+use Rattle.tk_input.proofs.updates.updates_at.Given as goal
 
 -- the changes of the parts passed are counted
 abbrev pub invariant-loop-f : goal.invariant-loop-f
