@@ -1,17 +1,14 @@
 -- Bytes at the front that are no frame.
-use Rattle.std.proofs.Common.{◌≡◌, ◌≤◌, ◌+◌, ◌-◌, ◌*◌, ◌^◌, slice_index, ℕ, zero, suc, List, [], ◌∷◌, ◌++◌, length, take, drop, ap, sym, ◌∙◌, subst, arith, append_assoc, refl, inl, inr}
+use Rattle.std.proofs.Common.{◌≡◌, ◌≤◌, ◌+◌, ◌-◌, ◌*◌, ◌^◌, slice_index, ℕ, zero, suc, List, [], ◌∷◌, ◌++◌, length, take, drop, ap, sym, ◌∙◌, subst, arith, append_assoc, refl}
 use Rattle.std.specs.List.{slice_range}
 use Rattle.std.proofs.lemmas.List.{get_or-take, length-append, length-take-le, take_at, drop_at}
 use Rattle.byteorder.specs.Endian.{big_bytes, big_from, big_number}
 use Rattle.byteorder.specs.Numbers.{big_number-reads_back, length-bytes_high_first}
 use Rattle.tk_frames.specs.Answer.{HasBadLength, HasBadFields, HasBadKind, HasPayload}
 use Rattle.tk_frames.specs.Frame.{kind_of}
-use Rattle.tk_frames.specs.Spelling.{code_of, IsVersion}
+use Rattle.tk_frames.specs.Spelling.{code_of}
 use Rattle.tk_frames.specs.declared.kind.Kind.{Kind}
-use Rattle.tk_frames.specs.declared.answer.BadFrame.{BadFrame}
-use Rattle.tk_frames.specs.declared.answer.BadFrame.TheVariants.{BadLength, BadKind, BadFields}
-use Rattle.tk_end.specs.Inbox.{IsOddPayload, IsOdd}
-use Rattle.tk_story.specs.Odd.{IsNoFrame}
+use Rattle.tk_end.specs.Inbox.{IsOddPayload}
 
 -- the length of a payload, and where it stands
 pub record IsBehindLength (text bytes : List ℕ) : Type 0 where
@@ -73,13 +70,3 @@ pub odd_length : (size : ℕ) (bytes odd : List ℕ) → HasBadLength size bytes
 odd_length size bytes odd has is =
     let four : length odd ≡ 4 = ap length is ∙ length-take-le 4 bytes has.whole in
     (record { whole = omega (arith, four); size_is = has.size_is ∙ sym (same_number 4 bytes odd is); no_length = has.no_length }, four, is)
-
--- a payload that is none makes bytes without a frame
-pub no_payload : (version : ℕ) (unread odd : List ℕ) → IsVersion version → IsOddPayload version unread odd → IsNoFrame odd
-no_payload version unread odd is p = inl (record { size = p.stands.size; version = version; is_version = is; no_frame = p.no_frame })
-
--- bytes that a decoder refuses hold no frame
-pub no_frame : (version : ℕ) (fault : BadFrame) (unread odd : List ℕ) → IsVersion version → IsOdd version fault unread odd → IsNoFrame odd
-no_frame version (BadLength size) unread odd is p = inr (record { whole = p.1; size = size; no_length = p.0 })
-no_frame version (BadKind code) unread odd is p = no_payload version unread odd is p
-no_frame version (BadFields kind) unread odd is p = no_payload version unread odd is p

@@ -225,18 +225,21 @@ exact_pairs version = exact_counted version pair_object PairAbove (pair version)
 pub exact_places : (version : ℕ) → IsExact ArePlaces (places version) (places_at version)
 exact_places version = exact_counted version no_object IsPlace (place version) (place_at version) (λ before. exact_number version 4)
 
-flag_takes : (bytes : List ℕ) (last : Bool) (rest : List ℕ) → flag_at bytes ≡ Some (last, rest) → bytes ≡ flag last ++ rest
+-- what was read as a flag is how it is spelled
+pub flag_takes : (bytes : List ℕ) (last : Bool) (rest : List ℕ) → flag_at bytes ≡ Some (last, rest) → bytes ≡ flag last ++ rest
 unfolding flag_at
 flag_takes [] last rest e = absurd cc
 flag_takes (zero ∷ bytes) last rest e = subst (λ p. 0 ∷ bytes ≡ flag p.0 ++ p.1) (some_is (false, bytes) (last, rest) e) refl
 flag_takes (suc zero ∷ bytes) last rest e = subst (λ p. 1 ∷ bytes ≡ flag p.0 ++ p.1) (some_is (true, bytes) (last, rest) e) refl
 flag_takes (suc (suc b) ∷ bytes) last rest e = absurd cc
 
-flag_again : (last : Bool) (rest : List ℕ) → flag_at (flag last ++ rest) ≡ Some (last, rest)
+-- a flag that is spelled is read again
+pub flag_again : (last : Bool) (rest : List ℕ) → flag_at (flag last ++ rest) ≡ Some (last, rest)
 unfolding flag_at
 flag_again false rest = refl
 flag_again true rest = refl
 
+-- a flag has one spelling
 pub exact_flag : IsExact (λ last. ⊤) flag flag_at
 exact_flag = record {
   takes = λ bytes last rest fits e. (flag_takes bytes last rest e, tt);

@@ -9,7 +9,8 @@ use Rattle.tk_frames.specs.Reading.{Found, ◌>>=◌, Fails, items_at}
 abbrev pub with_front : {X : Type 0} → List X → Found (List X) → Found (List X)
 with_front front read = read >>= λ x. Some (front ++ x.0, x.1)
 
-regroup : {X : Type 0} (front : List X) (x : X) (read : Found (List X)) → with_front front (read >>= λ xs. Some (x ∷ xs.0, xs.1)) ≡ with_front (front ++ x ∷ []) read
+-- one that was read stands behind those before it
+pub regroup : {X : Type 0} (front : List X) (x : X) (read : Found (List X)) → with_front front (read >>= λ xs. Some (x ∷ xs.0, xs.1)) ≡ with_front (front ++ x ∷ []) read
 regroup front x (Some found) = ap (λ xs. Some (xs, found.1)) (simp append_assoc)
 regroup front x None = refl
 

@@ -18,3 +18,4 @@ pub mod LogLemmas
 pub mod OrderLemmas
 pub mod FormatExamples
 pub mod ValidExamples
+pub mod AssignedLemmas

@@ -1,4 +1,3 @@
-pub mod AscendsLemmas
 pub mod Appends
 pub mod Pieces
 pub mod Batches

@@ -1,16 +1,10 @@
 -- Parts under their monitors, and the logs that they make.
-use Rattle.std.proofs.Common.{◌≡◌, ℕ, suc, ℤ, ◌+◌, ◌-◌, ◌<◌, List, [], ◌∷◌, ◌++◌, length, map, get_or, take, Option, ap, sym, ◌∙◌, arith}
-use Rattle.std.proofs.lemmas.List.{append-nil, append_assoc, length-map, length-take, map_more}
-use Rattle.tk_input.specs.Judged.{Assigned, under, assigned_from}
+use Rattle.std.proofs.Common.{◌≡◌, ℕ, ℤ, ◌+◌, ◌-◌, ◌<◌, List, [], ◌∷◌, ◌++◌, length, map, get_or, take, Option, ap, sym, ◌∙◌, arith}
+use Rattle.std.proofs.lemmas.List.{length-map, length-take, map_more}
+use Rattle.tk_input.specs.Judged.{under, assigned_from}
 use Rattle.tk_input.specs.Logs.{parts_of}
+use Rattle.tk_input.proofs.AssignedLemmas.{assigned_push}
 use Rattle.tk_multi.specs.Projection.{seen_logs, watched_in}
-
--- the parts of one monitor more
-assigned_push : (n : ℕ) (logs : List (List (List (ℕ × ℤ)))) (parts : List (List (ℕ × ℤ))) → assigned_from n (logs ++ parts ∷ []) ≡ assigned_from n logs ++ under (n + length logs) parts
-assigned_push n [] parts = append-nil (under n parts) ∙ ap (λ (k : ℕ). under k parts) (let e : n ≡ n + 0 = omega arith in e)
-assigned_push n (row ∷ logs) parts =
-    ap (λ (l : Assigned). under n row ++ l) (assigned_push (n + 1) logs parts ∙ ap (λ (k : ℕ). assigned_from (n + 1) logs ++ under k parts) (let e : n + 1 + length logs ≡ n + suc (length logs) = omega arith in e))
-    ∙ sym (append_assoc (under n row) (assigned_from (n + 1) logs) (under (n + suc (length logs)) parts))
 
 length-take_within : {A : Type 0} (xs : List A) (j : ℕ) → j < length xs → length (take j xs) ≡ j
 length-take_within xs j within = let e = length-take j xs in omega (arith, e, within)

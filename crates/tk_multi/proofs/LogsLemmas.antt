@@ -4,8 +4,8 @@ use Rattle.std.specs.Prelude.{filter, fold, is_some, nat_lt, option_and_then, su
 use Rattle.std.specs.List.{cons_option, position_or_len, range_with_len}
 use Rattle.std.proofs.Common.{inl, inr}
 use Rattle.std.proofs.lemmas.Bool.{cases_eq, eq-eqb, le-ltb, ne_eqb}
-use Rattle.std.proofs.lemmas.List.{append-nil, get_or-map, length-map, map-append}
-use Rattle.std.proofs.lemmas.List.Elements.{All-append, All-map, filter-append}
+use Rattle.std.proofs.lemmas.List.{append-nil, get_or-map, length-map}
+use Rattle.std.proofs.lemmas.List.Elements.{All-append, All-map}
 use Rattle.std.proofs.lemmas.List.Sums.{fold-append, position_or_len_is, sum_by-cons}
 use Rattle.tk_base.specs.Objects.{objects}
 use Rattle.tk_base.specs.declared.ids.Mon.{Mon}
@@ -13,6 +13,7 @@ use Rattle.tk_base.proofs.FindLemmas.{find_none}
 use Rattle.tk_input.specs.Judged.{Assigned, feeders_of, first_at, first_crowded, first_gap, great_in, great_object, Refuses, judged, logs_by_monitor, logs_of, too_great, unless, under, assigned_from}
 use Rattle.tk_input.specs.Logs.{AreLogs, AreParts, IsObject, LogSet, updates_of, weight_for, weight_of}
 use Rattle.tk_input.specs.declared.logs.LogsFault.{LogsFault}
+use Rattle.tk_input.proofs.AssignedLemmas.{feeders_at, feeders_off, feeders_low, feeders_both}
 use Rattle.tk_input.specs.declared.logs.LogsFault.TheVariants as f
 use Rattle.tk_multi.specs.Projection.{Numbers, anew, seen_logs, watched_change, watched_in}
 
@@ -34,36 +35,14 @@ last_from m (row ∷ logs) all =
     ∙ last_from (m + 1) logs (λ k d h. all (suc k) d (omega (arith, h)))
     ∙ omega arith
 
-feeders_at : (n m : ℕ) (row : List (List (ℕ × ℤ))) → n ≡ m → feeders_of (under n row) m ≡ row
-feeders_at n m [] same = refl
-feeders_at n m (p ∷ row) same =
-    ap (λ (b : Bool). map (λ (e : Mon × List (ℕ × ℤ)). e.1) (cond b ((record { 0 = n }, p) ∷ filter (λ e. e.0.0 == m) (under n row)) (filter (λ e. e.0.0 == m) (under n row)))) (eq-eqb n m same)
-    ∙ ap (λ (l : List (List (ℕ × ℤ))). p ∷ l) (feeders_at n m row same)
-
-feeders_off : (n m : ℕ) (row : List (List (ℕ × ℤ))) → (n ≡ m → ⊥) → feeders_of (under n row) m ≡ []
-feeders_off n m [] apart = refl
-feeders_off n m (p ∷ row) apart =
-    ap (λ (b : Bool). map (λ (e : Mon × List (ℕ × ℤ)). e.1) (cond b ((record { 0 = n }, p) ∷ filter (λ e. e.0.0 == m) (under n row)) (filter (λ e. e.0.0 == m) (under n row)))) (ne_eqb n m apart)
-    ∙ feeders_off n m row apart
-
-feeders_both : (m : ℕ) (xs ys : Assigned) → feeders_of (xs ++ ys) m ≡ feeders_of xs m ++ feeders_of ys m
-feeders_both m xs ys = ap (λ (l : Assigned). map (λ (e : Mon × List (ℕ × ℤ)). e.1) l) (filter-append (λ (e : Mon × List (ℕ × ℤ)). e.0.0 == m) xs ys) ∙ map-append (λ (e : Mon × List (ℕ × ℤ)). e.1) (filter (λ e. e.0.0 == m) xs) (filter (λ e. e.0.0 == m) ys)
-
-feeders_low : (n m : ℕ) (logs : List (List (List (ℕ × ℤ)))) → m < n → feeders_of (assigned_from n logs) m ≡ []
-feeders_low n m [] low = refl
-feeders_low n m (row ∷ logs) low =
-    feeders_both m (under n row) (assigned_from (n + 1) logs)
-    ∙ ap (λ (l : List (List (ℕ × ℤ))). l ++ feeders_of (assigned_from (n + 1) logs) m) (feeders_off n m row (λ same. omega (arith, same, low)))
-    ∙ feeders_low (n + 1) m logs (omega (arith, low))
-
 feeders_from : (n j : ℕ) (logs : List (List (List (ℕ × ℤ)))) → feeders_of (assigned_from n logs) (n + j) ≡ get_or logs j []
 feeders_from n j [] = refl
 feeders_from n zero (row ∷ logs) =
-    feeders_both (n + 0) (under n row) (assigned_from (n + 1) logs)
+    feeders_both (under n row) (assigned_from (n + 1) logs) (n + 0)
     ∙ ap (λ (l : List (List (ℕ × ℤ))). l ++ feeders_of (assigned_from (n + 1) logs) (n + 0)) (feeders_at n (n + 0) row (omega arith))
     ∙ ap (λ (l : List (List (ℕ × ℤ))). row ++ l) (feeders_low (n + 1) (n + 0) logs (omega arith)) ∙ append-nil row
 feeders_from n (suc j) (row ∷ logs) =
-    feeders_both (n + suc j) (under n row) (assigned_from (n + 1) logs)
+    feeders_both (under n row) (assigned_from (n + 1) logs) (n + suc j)
     ∙ ap (λ (l : List (List (ℕ × ℤ))). l ++ feeders_of (assigned_from (n + 1) logs) (n + suc j)) (feeders_off n (n + suc j) row (λ same. omega (arith, same)))
     ∙ ap (feeders_of (assigned_from (n + 1) logs)) (let e : n + suc j ≡ n + 1 + j = omega arith in e)
     ∙ feeders_from (n + 1) j logs

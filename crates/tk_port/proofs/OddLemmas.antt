@@ -1,20 +1,29 @@
 -- What a port was given next and did not take.
-use Rattle.std.proofs.Common.{◌≡◌, ℕ, List, refl, sym, ap, ◌∙◌, subst, Option, Some, None, is_some}
+use Rattle.std.proofs.Common.{◌≡◌, ℕ, List, refl, sym, ap, ◌∙◌, subst, Option, Some, None, is_some, inl, inr}
 use Rattle.std.specs.Option.{ForSome, option_map}
 use Rattle.std.specs.Prelude.{IfSome}
 use Rattle.tk_frames.specs.declared.answer.BadFrame.{BadFrame}
+use Rattle.tk_frames.specs.declared.answer.BadFrame.TheVariants.{BadLength, BadKind, BadFields}
 use Rattle.tk_frames.specs.declared.frame.Frame.{Frame}
 use Rattle.tk_frames.specs.Spelling.{IsVersion}
 use Rattle.tk_monitor.specs.Monitored.{MonitorView}
-use Rattle.tk_story.specs.Odd.{IsOddDown}
+use Rattle.tk_story.specs.Odd.{IsNoFrame, IsOddDown}
 use Rattle.tk_story.specs.declared.ends.received.Received.{Received}
 use Rattle.tk_story.specs.declared.ends.received.Received.TheVariants as r
 use Rattle.tk_trail.specs.Refusal.{refusal_of}
+use Rattle.tk_end.specs.Inbox.{IsOdd, IsOddPayload}
 use Rattle.tk_end.specs.Link.{LinkView}
-use Rattle.tk_end.proofs.OddLemmas.{no_frame}
 use Rattle.tk_port.specs.Port.{IsOddBytes, IsOnCourse, LeavesOdd}
 use Rattle.tk_port.specs.declared.course.Course.{Course}
 use Rattle.tk_port.specs.declared.course.Course.TheVariants as c
+
+no_payload : (version : ℕ) (unread odd : List ℕ) → IsVersion version → IsOddPayload version unread odd → IsNoFrame odd
+no_payload version unread odd is p = inl (record { size = p.stands.size; version = version; is_version = is; no_frame = p.no_frame })
+
+no_frame : (version : ℕ) (fault : BadFrame) (unread odd : List ℕ) → IsVersion version → IsOdd version fault unread odd → IsNoFrame odd
+no_frame version (BadLength size) unread odd is p = inr (record { whole = p.1; size = size; no_length = p.0 })
+no_frame version (BadKind code) unread odd is p = no_payload version unread odd is p
+no_frame version (BadFields kind) unread odd is p = no_payload version unread odd is p
 
 bytes_left : (version : ℕ) (fault : BadFrame) (unread : List ℕ) (m : MonitorView) (x : Received) → IsVersion version → IsOddBytes version fault unread x → IsOddDown m.setup m.trail x
 bytes_left version fault unread m (r.Frame frame) is p = absurd p

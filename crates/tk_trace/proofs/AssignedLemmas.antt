@@ -1,35 +1,17 @@
 -- Parts that are listed row by row make logs of these rows.
-use Rattle.std.proofs.Common.{◌≡◌, ℕ, ◌+◌, ◌<◌, ◌≤◌, max, ℤ, All, List, [], ◌∷◌, ◌++◌, length, map, refl, sym, ap, ◌∙◌, append_assoc, ne_eqb, arith}
-use Rattle.std.specs.Prelude.{filter, fold, ◌==◌}
+use Rattle.std.proofs.Common.{◌≡◌, ℕ, ◌+◌, ◌≤◌, max, ℤ, All, List, [], ◌∷◌, ◌++◌, length, map, refl, sym, ap, ◌∙◌, append_assoc, arith}
+use Rattle.std.specs.Prelude.{fold}
 use Rattle.std.specs.List.{range_with_len}
-use Rattle.std.proofs.lemmas.Bool.{eq-eqb}
-use Rattle.std.proofs.lemmas.List.{map-append, append-nil}
-use Rattle.std.proofs.lemmas.List.Elements.{All-append, All-head, All-map, All-nil, All-tail, filter-append}
+use Rattle.std.proofs.lemmas.List.{append-nil}
+use Rattle.std.proofs.lemmas.List.Elements.{All-append, All-head, All-map, All-nil, All-tail}
 use Rattle.tk_base.specs.declared.ids.Mon.{Mon}
 use Rattle.tk_input.specs.Judged.{Assigned, feeders_of, last_monitor, logs_by_monitor, under, assigned_from}
 use Rattle.std.proofs.lemmas.List.Sums.{fold-append}
 use Rattle.tk_base.specs.Objects.{IsOneOf}
+use Rattle.tk_input.proofs.AssignedLemmas.{feeders_at, feeders_off, feeders_both, feeders_low}
 use Rattle.tk_trace.specs.Assigned.{monitor}
 
 -- ---- the parts of a monitor
-
-of_it : (mon at : ℕ) (parts : List (List (ℕ × ℤ))) → mon ≡ at → feeders_of (under mon parts) at ≡ parts
-of_it mon at [] same = refl
-of_it mon at (part ∷ parts) same = rw (eq-eqb mon at same) (ap (λ (ps : List (List (ℕ × ℤ))). part ∷ ps) (of_it mon at parts same))
-
-of_another : (mon at : ℕ) (parts : List (List (ℕ × ℤ))) → (mon ≡ at → ⊥) → feeders_of (under mon parts) at ≡ []
-of_another mon at [] other = refl
-of_another mon at (part ∷ parts) other = rw (ne_eqb mon at other) (of_another mon at parts other)
-
-feeders_both : (xs ys : Assigned) (at : ℕ) → feeders_of (xs ++ ys) at ≡ feeders_of xs at ++ feeders_of ys at
-feeders_both xs ys at = ap (map (λ (p : Mon × List (ℕ × ℤ)). p.1)) (filter-append (λ (p : Mon × List (ℕ × ℤ)). p.0.0 == at) xs ys) ∙ map-append (λ (p : Mon × List (ℕ × ℤ)). p.1) (filter (λ (p : Mon × List (ℕ × ℤ)). p.0.0 == at) xs) (filter (λ (p : Mon × List (ℕ × ℤ)). p.0.0 == at) ys)
-
-none_below : (first at : ℕ) (logs : List (List (List (ℕ × ℤ)))) → at < first → feeders_of (assigned_from first logs) at ≡ []
-none_below first at [] below = refl
-none_below first at (parts ∷ logs) below =
-    feeders_both (under first parts) (assigned_from (first + 1) logs) at
-    ∙ ap (λ (ps : List (List (ℕ × ℤ))). ps ++ feeders_of (assigned_from (first + 1) logs) at) (of_another first at parts (λ e. omega (arith, e, below)))
-    ∙ none_below (first + 1) at logs (omega (arith, below))
 
 -- the rows, from the first monitor on
 rows_from : (first : ℕ) (logs : List (List (List (ℕ × ℤ)))) (before : Assigned) → ((at : ℕ) → first ≤ at → feeders_of before at ≡ []) → map (feeders_of (before ++ assigned_from first logs)) (range_with_len first (length logs)) ≡ logs
@@ -40,13 +22,13 @@ rows_from first (parts ∷ logs) before none =
     feeders_both before (under first parts ++ tail) first
     ∙ ap (λ (ps : List (List (ℕ × ℤ))). ps ++ feeders_of (under first parts ++ tail) first) (none first (omega arith))
     ∙ feeders_both (under first parts) tail first
-    ∙ ap (λ (ps : List (List (ℕ × ℤ))). ps ++ feeders_of tail first) (of_it first first parts refl)
-    ∙ ap (λ (ps : List (List (ℕ × ℤ))). parts ++ ps) (none_below (first + 1) first logs (omega arith))
+    ∙ ap (λ (ps : List (List (ℕ × ℤ))). ps ++ feeders_of tail first) (feeders_at first first parts refl)
+    ∙ ap (λ (ps : List (List (ℕ × ℤ))). parts ++ ps) (feeders_low (first + 1) first logs (omega arith))
     ∙ append-nil parts in
     let passed : (at : ℕ) → first + 1 ≤ at → feeders_of (before ++ under first parts) at ≡ [] = λ at above.
     feeders_both before (under first parts) at
     ∙ ap (λ (ps : List (List (ℕ × ℤ))). ps ++ feeders_of (under first parts) at) (none at (omega (arith, above)))
-    ∙ of_another first at parts (λ e. omega (arith, e, above)) in
+    ∙ feeders_off first at parts (λ e. omega (arith, e, above)) in
     let later : map (feeders_of (before ++ (under first parts ++ tail))) (range_with_len (first + 1) (length logs)) ≡ logs =
     ap (λ (all : Assigned). map (feeders_of all) (range_with_len (first + 1) (length logs))) (sym (append_assoc before (under first parts) tail))
     ∙ rows_from (first + 1) logs (before ++ under first parts) passed in
@@ -88,11 +70,3 @@ are_parts P first (parts ∷ logs) facts =
     All-append (λ p. P p.1) (under first parts) (assigned_from (first + 1) logs)
     (All-map (λ p. P p.1) (λ part. (monitor first, part)) parts (All-head (λ parts. All P parts) parts logs facts))
     (are_parts P (first + 1) logs (All-tail (λ parts. All P parts) parts logs facts))
-
--- one row more
-pub rows_more : (first : ℕ) (logs : List (List (List (ℕ × ℤ)))) (parts : List (List (ℕ × ℤ))) → assigned_from first (logs ++ parts ∷ []) ≡ assigned_from first logs ++ under (first + length logs) parts
-rows_more first [] parts = rw (append-nil (under first parts)) (ap (λ (n : ℕ). under n parts) (omega arith))
-rows_more first (row ∷ logs) parts =
-    ap (λ (xs : Assigned). under first row ++ xs) (rows_more (first + 1) logs parts)
-    ∙ sym (append_assoc (under first row) (assigned_from (first + 1) logs) (under (first + 1 + length logs) parts))
-    ∙ ap (λ (n : ℕ). (under first row ++ assigned_from (first + 1) logs) ++ under n parts) (omega arith)

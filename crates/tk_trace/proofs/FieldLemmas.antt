@@ -1,12 +1,12 @@
 -- The readers of single fields are exact.
-use Rattle.std.proofs.Common.{◌≡◌, ℕ, zero, suc, ◌<◌, ◌≤◌, ◌^◌, ℤ, pos, negsuc, unsigned_abs, Bool, true, false, ltb, List, [], ◌∷◌, ◌++◌, length, take, drop, Some, refl, sym, ap, subst, ◌∙◌, append_assoc, arith}
-use Rattle.std.specs.Prelude.{FitsSigned, nat_le, nat_lt, ⊤}
+use Rattle.std.proofs.Common.{◌≡◌, ℕ, ◌<◌, ◌≤◌, ◌^◌, ℤ, pos, negsuc, unsigned_abs, true, false, ltb, List, ◌++◌, length, take, drop, Some, refl, sym, ap, subst, ◌∙◌, append_assoc, arith}
+use Rattle.std.specs.Prelude.{FitsSigned, nat_le, nat_lt}
 use Rattle.std.specs.Int.{w128}
 use Rattle.std.proofs.lemmas.Bool.{ltb-false, ltb-true, leb-true, lt-ltb, le-leb, le-ltb, and_parts}
 use Rattle.std.proofs.lemmas.List.{drop_at, length-append, length-take, take-append-drop, take_at}
 use Rattle.std.proofs.lemmas.Int.{ints}
-use Rattle.tk_frames.specs.Reading.{◌>>=◌, bytes_at, counted_at as frame_counted_at, items_at, number_at as frame_number_at, object_at as frame_object_at, signed_at as frame_signed_at, flag_at}
-use Rattle.tk_frames.specs.Spelling.{ArePlaces, IsSet, flag, object_itself, places, set, signed}
+use Rattle.tk_frames.specs.Reading.{◌>>=◌, bytes_at, counted_at as frame_counted_at, items_at, number_at as frame_number_at, object_at as frame_object_at, signed_at as frame_signed_at}
+use Rattle.tk_frames.specs.Spelling.{ArePlaces, IsSet, object_itself, places, set, signed}
 use Rattle.tk_base.specs.Ascending.{IsAscending}
 use Rattle.tk_base.specs.Objects.{IsOneOf}
 use Rattle.tk_frames.proofs.AscentLemmas.{objects_ascend}
@@ -33,24 +33,6 @@ set_ascends = objects_ascend 1
 pub exact_places : IsExact ArePlaces (places 1) places_at
 unfolding places_at frame_counted_at frame_number_at bytes_at
 exact_places = places_are_exact 1
-
-flag_takes : (bytes : List ℕ) (last : Bool) (rest : List ℕ) → flag_at bytes ≡ Some (last, rest) → bytes ≡ flag last ++ rest
-unfolding flag_at
-flag_takes [] last rest e = absurd cc
-flag_takes (zero ∷ bytes) last rest e = subst (λ p. 0 ∷ bytes ≡ flag p.0 ++ p.1) (some_is (false, bytes) (last, rest) e) refl
-flag_takes (suc zero ∷ bytes) last rest e = subst (λ p. 1 ∷ bytes ≡ flag p.0 ++ p.1) (some_is (true, bytes) (last, rest) e) refl
-flag_takes (suc (suc b) ∷ bytes) last rest e = absurd cc
-
-flag_again : (last : Bool) (rest : List ℕ) → flag_at (flag last ++ rest) ≡ Some (last, rest)
-unfolding flag_at
-flag_again false rest = refl
-flag_again true rest = refl
-
-pub exact_flag : IsExact (λ last. ⊤) flag flag_at
-exact_flag = record {
-  takes = λ bytes last rest fits e. (flag_takes bytes last rest e, tt);
-  again = λ last rest fact. flag_again last rest;
-}
 
 -- ---- one of so many
 

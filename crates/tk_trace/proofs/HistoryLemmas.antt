@@ -11,6 +11,7 @@ use Rattle.tk_frames.specs.Spelling.{ArePlaces, IsSet, spelling}
 use Rattle.tk_frames.proofs.BytesLemmas.{IsBytes}
 use Rattle.tk_frames.proofs.ExactLemmas.{IsExact, exact_as, exact_both, left_fits}
 use Rattle.tk_frames.proofs.Steps.{bind_some, some_is}
+use Rattle.tk_frames.proofs.FieldLemmas.{exact_flag}
 use Rattle.tk_journal.specs.declared.noted.Noted.{Noted}
 use Rattle.tk_journal.specs.declared.noted.Noted.TheVariants as n
 use Rattle.tk_journal.specs.declared.publication.Publication.{Publication}
@@ -19,7 +20,7 @@ use Rattle.tk_trail.specs.declared.entry.Entry.TheVariants as e
 use Rattle.tk_trace.specs.Reading.{entry_at, got, journal_at, link_at, noted_at, publication_at, published, raised, said, sent, told, took, trail_at, trails_at, tuned}
 use Rattle.tk_trace.specs.Spelling.{IsEntry, IsEpsilon, IsFrame, IsNoted, IsPublication, IsTrail, counted, entry, noted, number, publication, trail}
 use Rattle.tk_trace.proofs.ExactLemmas.{exact_behind, exact_number, exact_times, made_from, one_way}
-use Rattle.tk_trace.proofs.FieldLemmas.{exact_bounds, exact_flag, exact_one_of, exact_places, exact_set}
+use Rattle.tk_trace.proofs.FieldLemmas.{exact_bounds, exact_one_of, exact_places, exact_set}
 use Rattle.tk_trace.proofs.FrameLemmas.{exact_frame}
 
 -- ---- entries of the journal

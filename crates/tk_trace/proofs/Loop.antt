@@ -1,18 +1,13 @@
 -- Reading so many, one after the other, as a loop does.
-use Rattle.std.proofs.Common.{◌≡◌, ℕ, suc, ◌-◌, ◌+◌, ◌≤◌, ◌<◌, ℤ, length, drop, get_or, List, [], ◌∷◌, ◌++◌, Some, None, refl, sym, ap, ◌∙◌, append_assoc, arith}
+use Rattle.std.proofs.Common.{◌≡◌, ℕ, suc, ◌-◌, ◌+◌, ◌≤◌, ◌<◌, ℤ, length, drop, get_or, List, [], ◌∷◌, ◌++◌, Some, None, refl, sym, ap, ◌∙◌, arith}
 use Rattle.std.proofs.lemmas.List.{append-nil, drop_all}
 use Rattle.std.proofs.Math.Seq.{drop-cons}
 use Rattle.tk_trail.specs.declared.entry.Entry.{Entry}
-use Rattle.tk_frames.specs.Reading.{Found, ◌>>=◌, items_at}
-use Rattle.tk_frames.proofs.Loop.{with_front}
+use Rattle.tk_frames.specs.Reading.{Found, items_at}
+use Rattle.tk_frames.proofs.Loop.{with_front, regroup}
 use Rattle.tk_trace.specs.declared.fault.ParseFault.{ParseFault}
 use Rattle.tk_trace.specs.declared.fault.ParseFault.TheVariants as fault
 use Rattle.tk_trace.specs.Reading.{Fails, times_at, trail_at, trails_at}
-
--- one that was read stands behind those before it
-pub regroup : {X : Type 0} (front : List X) (x : X) (read : Found (List X)) → with_front front (read >>= λ xs. Some (x ∷ xs.0, xs.1)) ≡ with_front (front ++ x ∷ []) read
-regroup front x (Some found) = ap (λ xs. Some (xs, found.1)) (simp append_assoc)
-regroup front x None = refl
 
 -- one more was read
 pub goes_on : {X : Type 0} (read : List ℕ → Found X) (front : List X) (count i : ℕ) (bytes : List ℕ) (x : X) (after : List ℕ) (total : Found (List X)) → i < count → read bytes ≡ Some (x, after)

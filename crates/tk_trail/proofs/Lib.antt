@@ -1,4 +1,3 @@
-pub mod AscendsLemmas
 pub mod BrokenLemmas
 mod Examples
 pub mod LawLemmas
@@ -15,6 +14,5 @@ pub mod OrderLemmas
 pub mod PairLemmas
 pub mod SaysLemmas
 pub mod SendsLemmas
-pub mod MemberLemmas
 pub mod BoundLemmas
 pub mod BorderLemmas

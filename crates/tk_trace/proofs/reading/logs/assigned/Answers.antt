@@ -2,7 +2,7 @@ use Rattle.std.proofs.Common.{◌≡◌, ℕ, ◌+◌, length, ◌++◌, ◌∷�
 use Rattle.std.proofs.lemmas.List.{length-append, length-map, map_push}
 use Rattle.tk_input.specs.Judged.{Assigned, under, assigned_from}
 use Rattle.tk_input.specs.Rows.{logs_in}
-use Rattle.tk_trace.proofs.AssignedLemmas.{rows_more}
+use Rattle.tk_input.proofs.AssignedLemmas.{assigned_push}
 use Rattle.tk_trace.proofs.reading.logs.assigned.Goals as goal
 
 pub loop-row-preserved : goal.loop-row-preserved
@@ -14,7 +14,7 @@ loop-row-preserved c =
       listed = c.in_ok-append_row.ensures
           ∙ ap (λ (xs : Assigned). xs ++ under c.loop-row.mon row) c.loop-row.invariant.listed
           ∙ ap (λ (n : ℕ). assigned_from 1 before ++ under n row) mon_is
-          ∙ sym (rows_more 1 before row)
+          ∙ sym (assigned_push 1 before row)
           ∙ ap (assigned_from 1) (sym (map_push _ c.loop-row.yielded c.in-Some.row));
       next = omega (arith, c.loop-row.invariant.next, length-append c.loop-row.yielded (c.in-Some.row ∷ []));
     }

@@ -1,1 +1,0 @@
--- What ascends passes the test for it.

@@ -1,1 +1,0 @@
--- Membership as a test.
