@@ -10,7 +10,7 @@ use Rattle.tk_base.specs.Objects.{objects}
 use Rattle.tk_base.specs.declared.ids.Mon.{Mon}
 use Rattle.tk_base.proofs.OptionLemmas.{unmapped, split_map}
 use Rattle.tk_input.specs.Judged.{Assigned, feeders_of, first_at, first_gap, first_crowded, first_great, great_in, great_object, last_monitor, logs_by_monitor, too_great}
-use Rattle.tk_input.specs.Logs.{AreLogs, AreParts, IsObject, LogSet, updates_of, weight_for, weight_of}
+use Rattle.tk_input.specs.Logs.{AreGathered, AreParts, IsObject, LogSet, updates_of, weight_for, weight_of}
 use Rattle.tk_input.specs.Rows.{size_at}
 use Rattle.tk_input.specs.declared.logs.LogsFault.TheVariants.{TooGreat}
 use Rattle.tk_input.proofs.CountLemmas.{position_found, find-found, find_passes, refused, not_some}
@@ -102,17 +102,19 @@ parts_within n parts some few all short none = record {
 
 -- logs that pass every test are within the limits
 pub passed : (s : LogSet) → length s.logs ≤ 64 → All (λ parts. All (λ part. All (λ c. IsObject s.objects c.0) part) parts) s.logs → All (λ parts. All (λ part. length part ≤ 1000000) parts) s.logs
-    → first_gap s.logs ≡ None → first_crowded s.logs ≡ None → sum_by updates_of s.logs ≤ 4000000 → great_in s ≡ None → AreLogs s
+    → first_gap s.logs ≡ None → first_crowded s.logs ≡ None → sum_by updates_of s.logs ≤ 4000000 → great_in s ≡ None → AreGathered s
 passed s few all short gap crowded updates great =
     let some = some_of_gap s.logs (length s.logs == 0) refl gap in
     let bare = unmapped (λ k. k + 1) (position (λ parts. length parts == 0) s.logs) some.1 in
     let wide = unmapped (λ k. k + 1) (position (λ parts. nat_lt 8 (length parts)) s.logs) crowded in
     let heavy = unmapped (λ k. k + 1) (position (λ parts. is_some (great_object s.objects parts)) s.logs) (none_great s great) in
     record {
-      some_monitor = some.0;
-      monitors = few;
-      each = λ k d h. parts_within s.objects (get_or s.logs k d) (position_fails (λ parts. length parts == 0) s.logs k d bare h) (position_fails (λ parts. nat_lt 8 (length parts)) s.logs k d wide h)
-          (all k d h) (short k d h) (not_some (great_object s.objects (get_or s.logs k d)) (position_fails (λ parts. is_some (great_object s.objects parts)) s.logs k d heavy h));
+      limits = record {
+        some_monitor = some.0;
+        monitors = few;
+        each = λ k d h. parts_within s.objects (get_or s.logs k d) (position_fails (λ parts. length parts == 0) s.logs k d bare h) (position_fails (λ parts. nat_lt 8 (length parts)) s.logs k d wide h)
+            (all k d h) (short k d h) (not_some (great_object s.objects (get_or s.logs k d)) (position_fails (λ parts. is_some (great_object s.objects parts)) s.logs k d heavy h));
+      };
       updates = updates;
     }
 

@@ -92,6 +92,10 @@ pub record AreLogs (s : LogSet) : Type 0 where
   pub some_monitor : 1 ≤ length s.logs
   pub monitors : length s.logs ≤ 64
   pub each : All (AreParts s.objects) s.logs
+
+-- logs in one place: within the limits, and with at most 4,000,000 changes together
+pub record AreGathered (s : LogSet) : Type 0 where
+  pub limits : AreLogs s
   pub updates : sum_by updates_of s.logs ≤ 4000000
 
 -- a number is a monitor of the logs

@@ -2,7 +2,7 @@ ghost use Rattle.std.specs.Prelude.{◌≡◌, ◌<◌, ◌≤◌, ◌^◌, ◌*
 ghost use Rattle.tk_input.specs.declared.logs.LogsFault.TheVariants.{NoMemory as OutOfMemory};
 ghost use Rattle.tk_input.specs.Judged.{Refuses, last_monitor, logs_by_monitor};
 ghost use Rattle.tk_input.specs.Rows.{logs_in};
-ghost use Rattle.tk_input.specs.Logs.{AreLogs, AreParts, IsCut, IsFeeder, IsMonitor, IsObject, beginnings, parts_of, part_of, value as value_at, total as total_at};
+ghost use Rattle.tk_input.specs.Logs.{AreGathered, AreLogs, AreParts, IsCut, IsFeeder, IsMonitor, IsObject, beginnings, parts_of, part_of, value as value_at, total as total_at};
 
 mod beginning;
 mod judging;
@@ -82,7 +82,7 @@ pub struct Logs {
 }
 
 impl Model for Logs {
-    ghost use Rattle.tk_input.specs.Logs.{LogSet, AreLogs};
+    ghost use Rattle.tk_input.specs.Logs.{LogSet, AreGathered};
 
     ghost Value = { LogSet };
 
@@ -90,7 +90,7 @@ impl Model for Logs {
 
     ghost view = { λ l. record { logs = logs_in l.rows.items; objects = l.objects } };
 
-    ghost invariant = { λ l. AreLogs (record { logs = logs_in l.rows.items; objects = l.objects }) };
+    ghost invariant = { λ l. AreGathered (record { logs = logs_in l.rows.items; objects = l.objects }) };
 }
 
 fn clones_of(alloc: Global, row: &[Part]) -> Result<Vec<Part>, NoMemory>
@@ -125,7 +125,7 @@ impl Logs {
         requires lengths { All (λ p. length p.1 ≤ 1000000) parts.items }
         ensures ok { IfOk result (λ s. logs_of parts.items objects ≡ Ok s) }
         ensures err { IfErr result (λ e. Refuses e (logs_of parts.items objects)) }
-        ensures limits { IfOk result AreLogs }
+        ensures gathered { IfOk result AreGathered }
         // What the logs are, and of what size.
         ensures made { IfOk result (λ s. s ≡ record { logs = logs_by_monitor parts.items; objects = objects }) }
         ensures last { IfOk result (λ s. length s.logs ≡ last_monitor parts.items) }
@@ -158,6 +158,7 @@ impl Logs {
     pub fn monitors(&self) -> u32
         ensures value { result ≡ length self.now.logs }
         ensures limits { AreLogs self.now }
+        ensures gathered { AreGathered self.now }
     {
         self.rows.len() as u32
     }

@@ -11,7 +11,7 @@ use Rattle.tk_base.specs.Objects.{objects}
 use Rattle.tk_base.specs.declared.ids.Mon.{Mon}
 use Rattle.tk_base.proofs.FindLemmas.{find_none}
 use Rattle.tk_input.specs.Judged.{Assigned, feeders_of, first_at, first_crowded, first_gap, great_in, great_object, Refuses, judged, logs_by_monitor, logs_of, too_great, unless, under, assigned_from}
-use Rattle.tk_input.specs.Logs.{AreLogs, AreParts, IsObject, LogSet, updates_of, weight_for, weight_of}
+use Rattle.tk_input.specs.Logs.{AreGathered, AreLogs, AreParts, IsObject, LogSet, updates_of, weight_for, weight_of}
 use Rattle.tk_input.specs.declared.logs.LogsFault.{LogsFault}
 use Rattle.tk_input.proofs.AssignedLemmas.{feeders_at, feeders_off, feeders_low, feeders_both}
 use Rattle.tk_input.specs.declared.logs.LogsFault.TheVariants as f
@@ -237,9 +237,10 @@ seen_parts watch count all j logs numbers within o =
     (seen_weight watch count o (2 ^ 100) (get_or all.logs j []) numbers (λ k d h i e g. (parts.objects k d h i e g).0) parts.weights)
 
 -- the logs of a query over so many objects are logs
-pub judged_ok : (watch : List (Option ℕ)) (count : ℕ) (all : LogSet) → AreLogs all → Numbers count watch
+pub judged_ok : (watch : List (Option ℕ)) (count : ℕ) (all : LogSet) → AreGathered all → Numbers count watch
     → judged (record { logs = seen_logs watch all.logs; objects = count }) ≡ Ok (record { logs = seen_logs watch all.logs; objects = count })
-judged_ok watch count all logs numbers =
+judged_ok watch count all gathered numbers =
+    let logs = gathered.limits in
     let seen = seen_logs watch all.logs in
     let s : LogSet = record { logs = seen; objects = count } in
     let size : length seen ≡ length all.logs = length-map all.logs (λ (parts : List (List (ℕ × ℤ))). map (watched_in watch) parts) in
@@ -253,7 +254,7 @@ judged_ok watch count all logs numbers =
     let within : k < length all.logs = omega (arith, size, h) in
     let e = row_count watch all.logs k within in let few = (logs.each k [] within).feeders in le-ltb 8 (length (get_or seen k [])) (omega (arith, e, few))) in
     let updates : nat_lt 4000000 (sum_by updates_of seen) ≡ false =
-    (let less = fewer watch all.logs in let most = logs.updates in le-ltb 4000000 (sum_by updates_of seen) (omega (arith, less, most))) in
+    (let less = fewer watch all.logs in let most = gathered.updates in le-ltb 4000000 (sum_by updates_of seen) (omega (arith, less, most))) in
     let great : great_in s ≡ None =
     ap (option_and_then (too_great s)) (nowhere (λ (parts : List (List (ℕ × ℤ))). is_some (great_object count parts)) seen [] (λ k h.
     no_great count (get_or seen k []) (seen_parts watch count all k logs numbers (omega (arith, size, h))))) in
@@ -279,7 +280,7 @@ some_rows watch all logs = All-map (λ (row : List (List (ℕ × ℤ))). 1 ≤ l
 pub seen_made : (watch : List (Option ℕ)) (count : ℕ) (all : LogSet) → AreLogs all → logs_by_monitor (assigned_from 1 (seen_logs watch all.logs)) ≡ seen_logs watch all.logs
 seen_made watch count all logs = by_monitor (seen_logs watch all.logs) (some_rows watch all logs)
 
-pub memory_alone : (watch : List (Option ℕ)) (count : ℕ) (all : LogSet) (parts : Assigned) (e : LogsFault) → AreLogs all → Numbers count watch → parts ≡ assigned_from 1 (seen_logs watch all.logs)
+pub memory_alone : (watch : List (Option ℕ)) (count : ℕ) (all : LogSet) (parts : Assigned) (e : LogsFault) → AreGathered all → Numbers count watch → parts ≡ assigned_from 1 (seen_logs watch all.logs)
     → Refuses e (logs_of parts count) → e ≡ f.NoMemory
 memory_alone watch count all parts e logs numbers are refused =
     only_memory e (record { logs = seen_logs watch all.logs; objects = count })

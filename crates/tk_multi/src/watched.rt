@@ -2,7 +2,7 @@
 
 ghost use Rattle.std.specs.Prelude.{◌≡◌, ◌≤◌, ◌++◌, IfOk, OnOk, length, map};
 ghost use Rattle.tk_input.specs.Judged.{Assigned};
-ghost use Rattle.tk_input.specs.Logs.{AreLogs, IsMonitor, parts_of};
+ghost use Rattle.tk_input.specs.Logs.{AreGathered, IsMonitor, parts_of};
 ghost use Rattle.tk_multi.specs.Projection.{Numbers, seen_logs, watched_in};
 ghost use Rattle.tk_input.specs.Judged.{assigned_from, under};
 
@@ -32,7 +32,7 @@ fn add_parts(
 
 fn parts_for(alloc: Global, logs: &Logs, watch: &Watch) -> Result<Vec<(Mon, Part)>, NoMemory>
     ensures parts { IfOk result (λ parts. parts.items ≡ assigned_from 1 (seen_logs watch.now logs.now.logs)) }
-    ensures limits { OnOk result (AreLogs logs.now) }
+    ensures gathered { OnOk result (AreGathered logs.now) }
 {
     let mut parts = Vec::new(alloc);
     for j in 0..logs.monitors() {

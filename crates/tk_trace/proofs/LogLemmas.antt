@@ -11,7 +11,7 @@ use Rattle.std.proofs.lemmas.Int.{ints}
 use Rattle.tk_base.specs.Objects.{objects, IsOneOf}
 use Rattle.tk_base.proofs.OptionLemmas.{unmapped}
 use Rattle.tk_input.specs.Judged.{first_at, first_crowded, first_gap, Assigned, great_in, great_object, judged, logs_by_monitor, logs_of, unless, assigned_from}
-use Rattle.tk_input.specs.Logs.{AreLogs, AreParts, IsObject, LogSet, updates_of, weight_for, weight_of}
+use Rattle.tk_input.specs.Logs.{AreGathered, AreParts, IsObject, LogSet, updates_of, weight_for, weight_of}
 use Rattle.tk_input.specs.declared.logs.LogsFault.{LogsFault}
 use Rattle.tk_input.specs.declared.logs.LogsFault.TheVariants.{MonitorGap, TooManyFeeders, TooManyUpdates}
 use Rattle.tk_input.proofs.LimitsLemmas.{passed as within}
@@ -67,7 +67,7 @@ no_fault true fault e = absurd cc
 no_fault false fault e = refl
 
 -- what was judged is within the limits
-pub judged_within : (s found : LogSet) → length s.logs ≤ 64 → All (IsRow s.objects) s.logs → judged s ≡ Ok found → (s ≡ found) × AreLogs s
+pub judged_within : (s found : LogSet) → length s.logs ≤ 64 → All (IsRow s.objects) s.logs → judged s ≡ Ok found → (s ≡ found) × AreGathered s
 judged_within s found few rows e =
     let a = unless_ok (option_map (λ mon. MonitorGap (record { 0 = mon })) (first_gap s.logs)) _ found e in
     let b = unless_ok (option_map (λ mon. TooManyFeeders (record { 0 = mon })) (first_crowded s.logs)) _ found a.1 in
@@ -106,15 +106,16 @@ none_found p (x ∷ xs) fails = ap (λ (b : Bool). cond b (Some x) (find p xs)) 
 none_great : (n : ℕ) (parts : List (List (ℕ × ℤ))) → AreParts n parts → great_object n parts ≡ None
 none_great n parts h = none_found (λ o. nat_lt (2 ^ 100) (weight_of parts o)) (objects n) (λ o. le-ltb (2 ^ 100) (weight_of parts o) (h.weights o))
 
-pub within_judged : (s : LogSet) → AreLogs s → judged s ≡ Ok s
-within_judged s h =
+pub within_judged : (s : LogSet) → AreGathered s → judged s ≡ Ok s
+within_judged s gathered =
+    let h = gathered.limits in
     let some : (length s.logs == 0) ≡ false = ne_eqb (length s.logs) 0 (λ e. omega (arith, e, h.some_monitor)) in
     let full : first_at (λ parts. length parts == 0) s.logs ≡ None =
     none_first (λ parts. length parts == 0) s.logs (All-weaker (AreParts s.objects) (λ parts. (length parts == 0) ≡ false) (λ parts of. ne_eqb (length parts) 0 (λ e. omega (arith, e, of.some_feeder))) s.logs h.each) in
     let gap : first_gap s.logs ≡ None = rw some full in
     let crowded : first_crowded s.logs ≡ None =
     none_first (λ parts. nat_lt 8 (length parts)) s.logs (All-weaker (AreParts s.objects) (λ parts. nat_lt 8 (length parts) ≡ false) (λ parts of. le-ltb 8 (length parts) of.feeders) s.logs h.each) in
-    let few : nat_lt 4000000 (sum_by updates_of s.logs) ≡ false = le-ltb 4000000 (sum_by updates_of s.logs) h.updates in
+    let few : nat_lt 4000000 (sum_by updates_of s.logs) ≡ false = le-ltb 4000000 (sum_by updates_of s.logs) gathered.updates in
     let great : first_at (λ parts. is_some (great_object s.objects parts)) s.logs ≡ None =
     none_first (λ parts. is_some (great_object s.objects parts)) s.logs (All-weaker (AreParts s.objects) (λ parts. is_some (great_object s.objects parts) ≡ false) (λ parts of. ap is_some (none_great s.objects parts of)) s.logs h.each) in
     rw (gap, crowded, few, great) refl
@@ -150,7 +151,7 @@ row_within n parts h = (
 -- ---- the whole
 
 pub exact_logs : (objects monitors : ℕ) → objects ≤ 65536 → monitors ≤ 64
-    → IsExact (λ (s : LogSet). AreLogs s × ((s.objects ≡ objects) × (length s.logs ≡ monitors))) (λ s. flat_map row s.logs) (logs_at objects monitors)
+    → IsExact (λ (s : LogSet). AreGathered s × ((s.objects ≡ objects) × (length s.logs ≡ monitors))) (λ s. flat_map row s.logs) (logs_at objects monitors)
 unfolding logs_at
 exact_logs objects monitors small few = record {
   takes = λ bytes s rest fits e.
@@ -160,10 +161,10 @@ exact_logs objects monitors small few = record {
       let j = judged_within (log_set objects a.0.0) b.0 (omega (arith, t.1.0, few)) t.1.1 (made_ok (judged (log_set objects a.0.0)) b.0 b.1) in
       let is = some_is (b.0, a.0.1) (s, rest) b.2 in
       let same : log_set objects a.0.0 ≡ s = j.0 ∙ ap (λ p. p.0) is in
-      subst (λ (w : List ℕ). (bytes ≡ flat_map row s.logs ++ w) × (AreLogs s × ((s.objects ≡ objects) × (length s.logs ≡ monitors)))) (ap (λ p. p.1) is)
-      (subst (λ (s : LogSet). (bytes ≡ flat_map row s.logs ++ a.0.1) × (AreLogs s × ((s.objects ≡ objects) × (length s.logs ≡ monitors)))) same (t.0, (j.1, (refl, t.1.0))));
+      subst (λ (w : List ℕ). (bytes ≡ flat_map row s.logs ++ w) × (AreGathered s × ((s.objects ≡ objects) × (length s.logs ≡ monitors)))) (ap (λ p. p.1) is)
+      (subst (λ (s : LogSet). (bytes ≡ flat_map row s.logs ++ a.0.1) × (AreGathered s × ((s.objects ≡ objects) × (length s.logs ≡ monitors)))) same (t.0, (j.1, (refl, t.1.0))));
   again = λ s rest fact.
-      let rows : All (IsRow objects) s.logs = subst (λ (n : ℕ). All (IsRow n) s.logs) fact.1.0 (All-weaker (AreParts s.objects) (IsRow s.objects) (row_within s.objects) s.logs fact.0.each) in
+      let rows : All (IsRow objects) s.logs = subst (λ (n : ℕ). All (IsRow n) s.logs) fact.1.0 (All-weaker (AreParts s.objects) (IsRow s.objects) (row_within s.objects) s.logs fact.0.limits.each) in
       let same : log_set objects s.logs ≡ s = ap (λ (n : ℕ). log_set n s.logs) (sym fact.1.0) in
       ap (λ r. r >>= λ x. if_ok (judged (log_set objects x.0)) >>= λ logs. Some (logs, x.1)) ((exact_times monitors (exact_row objects small)).again s.logs rest (fact.1.1, rows))
       ∙ ap (λ (s : LogSet). if_ok (judged s) >>= λ logs. Some (logs, rest)) same

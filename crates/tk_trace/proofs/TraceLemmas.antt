@@ -63,7 +63,7 @@ trace_taken bytes r fits e =
     let journals = exact_journal s.0.0.monitors limits.monitors in
     let j_is = journals.takes l.0.1 j.0.0 j.0.1 fits3 j.1 in
     let fits4 : IsBytes j.0.1 = left_fits journals l.0.1 j.0.0 j.0.1 fits3 j.1 in
-    let t_is = (exact_trails l.0.0.logs (few_feeders l.0.0 l_is.1.0.each)).takes j.0.1 t.0.0 t.0.1 fits4 t.1 in
+    let t_is = (exact_trails l.0.0.logs (few_feeders l.0.0 l_is.1.0.limits.each)).takes j.0.1 t.0.0 t.0.1 fits4 t.1 in
     let tail : j.0.1 ≡ flat_map trail t.0.0 = t_is.0 ∙ ap (λ (w : List ℕ). flat_map trail t.0.0 ++ w) end.0 ∙ append-nil (flat_map trail t.0.0) in
     let whole : bytes ≡ mark ++ (setup s.0.0 ++ (flat_map name n.0.0 ++ (flat_map row l.0.0.logs ++ (journal j.0.0 ++ flat_map trail t.0.0)))) =
     front ∙ ap (λ (w : List ℕ). mark ++ w) s_is.0
@@ -96,7 +96,7 @@ trace_again r is =
     let j = journal r.journal ++ t in
     let l = flat_map row r.logs.logs ++ j in
     let n = flat_map name r.names ++ l in
-    let trails = (exact_trails r.logs.logs (few_feeders r.logs is.logs.each)).again r.trails [] is.trails in
+    let trails = (exact_trails r.logs.logs (few_feeders r.logs is.logs.limits.each)).again r.trails [] is.trails in
     let end : trails_at r.logs.logs t ≡ Some (r.trails, []) = ap (trails_at r.logs.logs) (sym (append-nil t)) ∙ trails in
     rw (
       exact_setup.again s n is.settings,

@@ -6,7 +6,7 @@ use Rattle.byteorder.specs.Endian.{big_bytes}
 use Rattle.tk_base.specs.Settings.{Setup, IsWithinLimits}
 use Rattle.tk_base.specs.Objects.{IsOneOf}
 use Rattle.tk_input.specs.Catalog.{catalog_from}
-use Rattle.tk_input.specs.Logs.{AreLogs}
+use Rattle.tk_input.specs.Logs.{AreGathered}
 use Rattle.tk_frames.specs.declared.frame.Frame.{Frame}
 use Rattle.tk_frames.specs.Spelling.{ArePlaces, IsSet, IsSpelling, flag, places, set, signed, spelling}
 use Rattle.tk_journal.specs.declared.noted.Noted.{Noted}
@@ -131,7 +131,7 @@ pub record IsRecorded (r : Recorded) : Type 0 where
   pub settings : IsWithinLimits r.settings
   pub names : catalog_from r.names ≡ Ok r.names
   pub named : length r.names ≡ r.settings.objects
-  pub logs : AreLogs r.logs
+  pub logs : AreGathered r.logs
   pub objects : r.logs.objects ≡ r.settings.objects
   pub monitors : length r.logs.logs ≡ r.settings.monitors
   pub few : length r.journal < 2 ^ 64

@@ -2,7 +2,7 @@
 
 ghost use Rattle.std.specs.Prelude.{◌≡◌, ◌<◌, ◌≤◌, ◌^◌, IfOk, IfErr, IsErrOf, OnOk, All, Ok, length, nat_lt, option_map, position, sum_by, ◌==◌};
 ghost use Rattle.tk_input.specs.Judged.{AreCounted, Refuses, first_crowded, first_gap, great_in, great_object, judged, set_of};
-ghost use Rattle.tk_input.specs.Logs.{AreLogs, IsObject, updates_of as updates_at};
+ghost use Rattle.tk_input.specs.Logs.{AreGathered, IsObject, updates_of as updates_at};
 ghost use Rattle.tk_input.specs.Rows.{logs_in};
 
 use super::LogsFault;
@@ -105,7 +105,7 @@ pub fn judge(alloc: Global, rows: &[Vec<Part>], objects: u32) -> Result<(), Logs
     ensures err { IfErr result (λ e. Refuses e (judged (set_of (logs_in rows.now) objects))) }
     // Memory is wanted only where the tests of the numbers pass.
     ensures room { IsErrOf result LogsFault.NoMemory → AreCounted (logs_in rows.now) }
-    ensures limits { OnOk result (AreLogs (set_of (logs_in rows.now) objects)) }
+    ensures gathered { OnOk result (AreGathered (set_of (logs_in rows.now) objects)) }
 {
     if let Some(mon) = gap_of(rows) {
         return Err(LogsFault::MonitorGap(mon));

@@ -11,5 +11,5 @@ overflow_cast-result c =
     let shown : length c.args.self.now.logs ≡ length (logs_in rows) = ap (λ s. length s.logs) (sym c.self.view_is) in
     let inside : place < length (logs_in rows) = omega (arith, shown, c.requires) in
     let parts : get_or (logs_in rows) place [] ≡ row.items = get_or-logs_in rows place row (omega (arith, length-logs_in rows)) ∙ ap (λ r. r.items) (sym c.index.ensures) in
-    let limits = (c.self.invariant.each place [] inside).feeders in
+    let limits = (c.self.invariant.limits.each place [] inside).feeders in
     omega (arith, limits, ap (λ ps. length ps) parts)

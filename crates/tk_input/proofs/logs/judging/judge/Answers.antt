@@ -12,8 +12,8 @@ updates_of-requires c =
     let crowded : first_crowded (logs_in c.args.rows.now) ≡ None = sym c.crowded_of.ensures ∙ ap (λ (o : Option Mon). option_map (λ mon. mon.0) o) c.in_default-crowded_of.is in
     countable (logs_in c.args.rows.now) (omega (arith, length-logs_in c.args.rows.now, c.requires.monitors)) crowded c.requires.lengths
 
-pub returns-clause-limits : goal.returns-clause-limits
-returns-clause-limits c =
+pub returns-clause-gathered : goal.returns-clause-gathered
+returns-clause-gathered c =
     let s : LogSet = record { logs = logs_in c.args.rows.now; objects = c.args.objects } in
     let gap : first_gap (logs_in c.args.rows.now) ≡ None = sym c.gap_of.ensures ∙ ap (λ (o : Option Mon). option_map (λ mon. mon.0) o) c.in_default.is in
     let crowded : first_crowded (logs_in c.args.rows.now) ≡ None = sym c.crowded_of.ensures ∙ ap (λ (o : Option Mon). option_map (λ mon. mon.0) o) c.in_default-crowded_of.is in
