@@ -15,6 +15,7 @@ mod hosting;
 mod joining;
 mod left;
 mod living;
+mod number;
 mod outcome;
 mod parting;
 mod playing;
@@ -27,6 +28,7 @@ mod worked;
 
 pub use headline::an_input_is_lived;
 pub use living::live_over;
+pub use number::run_number;
 pub use outcome::Outcome;
 pub use serving::live;
 pub use verdict::{Lived, Verdict};

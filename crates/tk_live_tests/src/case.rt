@@ -16,6 +16,10 @@ pub enum Case {
     OneMonitor,
     /// One monitor with two feeders.
     TwoFeeders,
+    /// At one monitor b rises by 3, so that it reports; its second feeder has no change.
+    OneReport,
+    /// At the first monitor b rises by 3, so that the second, which has no change, is asked for its values.
+    OneRound,
 }
 
 /// The log of a first monitor, and that of a second one or of a second feeder of the first.
@@ -72,6 +76,8 @@ impl Case {
             Case::TwoMonitors => input_of(alloc, Mon(2), (b"a,5\n", b"b,3\n")),
             Case::OneMonitor => input_of(alloc, Mon(1), (b"a,5\n", b"")),
             Case::TwoFeeders => input_of(alloc, Mon(1), (b"a,1\n", b"a,2\nb,1\n")),
+            Case::OneReport => input_of(alloc, Mon(1), (b"b,3\n", b"")),
+            Case::OneRound => input_of(alloc, Mon(2), (b"b,3\n", b"")),
         }
     }
 }

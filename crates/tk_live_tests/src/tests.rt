@@ -8,8 +8,9 @@ use std::marker::Sync;
 use std::sync::Wait;
 use std::test::Fail;
 use std::thread::Threads;
+use tk_frames::{Frame, Kind};
 use tk_input::{MapFiles, Sink, VecSink};
-use tk_live::{Verdict, live, live_over};
+use tk_live::{Verdict, live, live_over, run_number};
 use tk_load::Status;
 use tk_net::MemNet;
 use tk_story::Direction;
@@ -27,11 +28,21 @@ enum Ended {
     Done,
     WriteFault,
     LinkFault,
-    /// A link up differs.
-    UpDiffers,
-    /// A link down differs.
-    DownDiffers,
+    /// A link up differs, where a frame of this kind was sent.
+    UpDiffers(Kind),
+    /// A link down differs, where a frame of this kind was sent.
+    DownDiffers(Kind),
+    /// A link differs where nothing was sent.
+    NothingSent,
     NoMemory,
+}
+
+/// How a run ended on whose link in this direction a frame differs.
+fn differing(direction: Direction, sent: &Frame) -> Ended {
+    match direction {
+        Direction::UpLink => Ended::UpDiffers(sent.kind()),
+        Direction::DownLink => Ended::DownDiffers(sent.kind()),
+    }
 }
 
 fn end_of(verdict: &Verdict) -> Ended {
@@ -39,10 +50,12 @@ fn end_of(verdict: &Verdict) -> Ended {
         Verdict::Done => Ended::Done,
         Verdict::WriteFault => Ended::WriteFault,
         Verdict::LinkFault => Ended::LinkFault,
-        Verdict::LinkDiffers { direction, .. } => match direction {
-            Direction::UpLink => Ended::UpDiffers,
-            Direction::DownLink => Ended::DownDiffers,
-        },
+        Verdict::LinkDiffers {
+            direction,
+            sent: Some(frame),
+            ..
+        } => differing(*direction, frame),
+        Verdict::LinkDiffers { sent: None, .. } => Ended::NothingSent,
         Verdict::NoMemory => Ended::NoMemory,
     }
 }
@@ -227,18 +240,28 @@ const DOWN: [u64; 5] = [18, 22, 30, 34, 38];
 /// last, and how many places it has. With another number it is refused, and otherwise it is no frame.
 const UP: [u64; 5] = [43, 47, 55, 56, 60];
 
-/// The first of these bytes that ends a run otherwise than so, with nothing written, once it is turned.
+/// Behind the 25 bytes of the Assign comes a Report of 81 bytes, or a Settled of 26 and the Report: whichever it is, these
+/// are bytes of the Report's kind or number, or of how many objects failed, which one, or how many values it has.
+const REPORT: [u64; 3] = [73, 76, 80];
+
+/// Behind two Hellos, two Assigns, a Report of 81 bytes and a Collect of 25, and perhaps a Settled of 22 of one monitor or of
+/// both, come the 81 bytes of Values: whichever it is, these are bytes of its number, its count, or an object's number.
+const VALUES: [u64; 3] = [253, 254, 255];
+
+/// The first of these bytes that ends a run otherwise than so, once it is turned, or, of one monitor that has nothing to
+/// report, with something written.
 fn odd_byte<R: Threads + Wait + Sync>(
     rt: &R,
     alloc: Global,
-    bytes: [u64; 5],
+    case: Case,
+    bytes: &[u64],
     ended: Ended,
 ) -> Option<u64> {
+    let writes = !matches!(case, Case::OneMonitor);
     for byte in bytes {
-        if in_the_open(rt, alloc, Case::OneMonitor, MOST, Some(byte))
-            != Some((ended, true, false))
-        {
-            return Some(byte);
+        match in_the_open(rt, alloc, case, MOST, Some(*byte)) {
+            Some((end, is_empty, _)) if end == ended && (is_empty || writes) => {}
+            _ => return Some(*byte),
         }
     }
     None
@@ -253,9 +276,35 @@ fn a_call_that_fails_is_a_failed_link_or_too_late(rt: HostRuntime) -> Result<(),
 #[test]
 fn a_turned_byte_of_a_frame_is_a_difference(rt: HostRuntime) -> Result<(), Fail> {
     let alloc = rt.alloc();
-    let down = odd_byte(&rt, alloc, DOWN, Ended::DownDiffers);
-    let up = odd_byte(&rt, alloc, UP, Ended::UpDiffers);
+    let settled = Ended::UpDiffers(Kind::Settled);
+    let down = odd_byte(
+        &rt,
+        alloc,
+        Case::OneMonitor,
+        &DOWN,
+        Ended::DownDiffers(Kind::Assign),
+    );
+    let up = odd_byte(&rt, alloc, Case::OneMonitor, &UP, settled);
     assert_eq!(rt; (down, up), (None, None));
+    Ok(())
+}
+
+#[test]
+fn a_turned_byte_of_a_report_or_of_values_is_a_difference(rt: HostRuntime) -> Result<(), Fail> {
+    let alloc = rt.alloc();
+    let reported = Ended::UpDiffers(Kind::Report);
+    let report = odd_byte(&rt, alloc, Case::OneReport, &REPORT, reported);
+    let answered = Ended::UpDiffers(Kind::Values);
+    let values = odd_byte(&rt, alloc, Case::OneRound, &VALUES, answered);
+    assert_eq!(rt; (report, values), (None, None));
+    Ok(())
+}
+
+// Two draws of 64 bits are the same once in some 10^19 runs.
+#[test]
+fn two_runs_have_two_numbers(rt: HostRuntime) -> Result<(), Fail> {
+    let (one, another) = (run_number(&rt), run_number(&rt));
+    assert!(rt; one != another);
     Ok(())
 }
 

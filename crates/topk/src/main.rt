@@ -12,19 +12,11 @@ use std::sync::Wait;
 use std::thread::Threads;
 use std::{env, io, rt};
 use tk_input::{StdSink, TrueFiles};
-use tk_live::{Outcome, live};
+use tk_live::{Outcome, live, run_number};
 use tk_net::LoopNet;
 use tk_run::{Status, fault_line, run};
 use tk_serve::OpenGate;
 use tk_words::{Verb, verb_of};
-
-/// A number for a live run, another one for each: bytes that the system draws.
-fn run_number(rt: &impl RandomSource) -> u64 {
-    let mut bytes = [0; 8];
-    // Where it draws none the number is 0, which only serves worse to tell this run's connections from others'.
-    let _ = rt.fill_bytes(&mut bytes);
-    u64::from_ne_bytes(bytes)
-}
 
 /// Leaves what a run kept to the system, which takes it back with the process: to free each frame by itself would take up
 /// to a quarter of the run.
