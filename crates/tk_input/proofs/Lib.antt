@@ -1,3 +1,4 @@
+pub mod CatalogLemmas
 pub mod CountLemmas
 pub mod CountedLemmas
 pub mod EdgeLemmas

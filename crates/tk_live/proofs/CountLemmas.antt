@@ -13,12 +13,12 @@ use Rattle.tk_live.specs.Hosting.{IsOfNet}
 use Rattle.tk_live.specs.Joined.{joined_as}
 use Rattle.tk_live.specs.Joining.{printed_as}
 use Rattle.tk_live.specs.Parting.{faults_of, of_turn}
-use Rattle.tk_live.specs.Serving.{faults_told, status_of}
+use Rattle.tk_live.specs.Serving.{faults_told}
 use Rattle.tk_live.specs.declared.parting.Parting.{Parting}
 use Rattle.tk_live.specs.declared.parting.Parting.TheVariants as p
-use Rattle.tk_live.specs.declared.verdict.Lived.{Lived}
-use Rattle.tk_live.specs.declared.verdict.Verdict.{Verdict}
-use Rattle.tk_live.specs.declared.verdict.Verdict.TheVariants as v
+use Rattle.tk_live.specs.declared.outcome.Outcome.{Outcome}
+use Rattle.tk_load.specs.declared.status.Status.{Status}
+use Rattle.tk_load.specs.declared.status.Status.TheVariants as st
 
 -- ---- the loop
 
@@ -49,32 +49,37 @@ faults_turned turn parting is faults = turned_as turn faults ∙ ap (λ o. fault
 pub same_count : (parting : Parting) (old now after : ℕ) → now ≡ faults_of parting old → after ≡ now → after ≡ faults_of parting old
 same_count parting old now after is same = same ∙ is
 
--- ---- the verdict
+-- ---- the status
 
--- another verdict than a failed write tells of none
-pub told_spared : (verdict : Verdict) → (verdict ≡ v.WriteFault → ⊥) → (faults : ℕ) → faults ≡ faults_told (status_of verdict) faults
-told_spared v.Done never faults = refl
-told_spared v.WriteFault never faults = absurd (never refl)
-told_spared v.LinkFault never faults = refl
-told_spared (v.LinkDiffers mon direction place sent received) never faults = refl
-told_spared v.NoMemory never faults = refl
+-- another status than a failed write tells of none
+pub told_spared : (status : Status) → (status ≡ st.WriteFault → ⊥) → (faults : ℕ) → faults ≡ faults_told status faults
+told_spared st.Done never faults = refl
+told_spared st.WriteFault never faults = absurd (never refl)
+told_spared st.LinkFault never faults = refl
+told_spared (st.LinkDiffers difference) never faults = refl
+told_spared st.NoMemory never faults = refl
+told_spared st.Usage never faults = refl
+told_spared (st.ReadFault file) never faults = refl
+told_spared (st.BadInput file line kind) never faults = refl
+told_spared (st.TooGreat mon obj) never faults = refl
+told_spared (st.BadTrace file fault) never faults = refl
 
 -- a failed link, or want of memory
-pub link_spared : (verdict : Verdict) → (verdict ≡ v.LinkFault) ⊎ (verdict ≡ v.NoMemory) → (faults : ℕ) → faults ≡ faults_told (status_of verdict) faults
-link_spared verdict (inl is) faults = ap (λ x. faults_told (status_of x) faults) (sym is)
-link_spared verdict (inr is) faults = ap (λ x. faults_told (status_of x) faults) (sym is)
+pub link_spared : (status : Status) → (status ≡ st.LinkFault) ⊎ (status ≡ st.NoMemory) → (faults : ℕ) → faults ≡ faults_told status faults
+link_spared status (inl is) faults = ap (λ x. faults_told x faults) (sym is)
+link_spared status (inr is) faults = ap (λ x. faults_told x faults) (sym is)
 
 -- so where no worker was started
-pub unstarted_spared : (verdict : Verdict) → (verdict ≡ v.LinkFault) ⊎ (verdict ≡ v.NoMemory) → (lived : Lived) → lived ≡ record { verdict = verdict; story = None; ends = None } → (faults : ℕ) → faults ≡ faults_told (status_of lived.verdict) faults
-unstarted_spared verdict which lived is faults = link_spared verdict which faults ∙ ap (λ (l : Lived). faults_told (status_of l.verdict) faults) (sym is)
+pub unstarted_spared : (status : Status) → (status ≡ st.LinkFault) ⊎ (status ≡ st.NoMemory) → (lived : Outcome) → lived ≡ record { status = status; story = None; ends = None } → (faults : ℕ) → faults ≡ faults_told lived.status faults
+unstarted_spared status which lived is faults = link_spared status which faults ∙ ap (λ (l : Outcome). faults_told l.status faults) (sym is)
 
 -- a difference, or want of memory
-pub joined_spared : (why : JoinFault) (faults : ℕ) → faults ≡ faults_told (status_of (joined_as why)) faults
-joined_spared (f.Differs mon direction place sent received) faults = refl
+pub joined_spared : (why : JoinFault) (faults : ℕ) → faults ≡ faults_told (joined_as why) faults
+joined_spared (f.Differs difference) faults = refl
 joined_spared f.NoMemory faults = refl
 
--- the verdict on a ledger that was printed
-pub printed_told : {A : Type 0} (printed : Result A PrintFault) (faults : ℕ) → print_faults printed faults ≡ faults_told (status_of (printed_as printed)) faults
+-- the status on a ledger that was printed
+pub printed_told : {A : Type 0} (printed : Result A PrintFault) (faults : ℕ) → print_faults printed faults ≡ faults_told (printed_as printed) faults
 printed_told (Ok done) faults = refl
 printed_told (Err g.WriteFailed) faults = refl
 printed_told (Err g.NoMemory) faults = refl

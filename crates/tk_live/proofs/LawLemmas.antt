@@ -11,12 +11,10 @@ use Rattle.tk_load.specs.declared.status.Status.TheVariants as s
 use Rattle.tk_story.specs.declared.ends.Ends.{Ends}
 use Rattle.tk_live.specs.Laws.{GivesInput, IsLived}
 use Rattle.tk_live.specs.Lived.{TellsEnds}
-use Rattle.tk_live.specs.Serving.{EndsWords, served, status_of}
+use Rattle.tk_live.specs.Serving.{EndsWords, served}
 use Rattle.tk_live.specs.Serving.EndsWords.{Ran, Refused, Unmet, Unread}
 use Rattle.tk_live.specs.Traffic.{LiveSurroundings}
 use Rattle.tk_live.specs.declared.outcome.Outcome.{Outcome}
-use Rattle.tk_live.specs.declared.verdict.Verdict.{Verdict}
-use Rattle.tk_live.specs.declared.verdict.Verdict.TheVariants as v
 
 -- no fault is told of what is meant
 no_fault : {V : Type 0} (meant : Result V Fault) (fault : Fault) → is_ok meant ≡ true → meant ≡ Err fault → ⊥
@@ -31,16 +29,21 @@ meant_is_lived meant s.Done ends ok tells = absurd tells
 meant_is_lived meant s.Usage ends ok tells = absurd tells
 meant_is_lived meant s.WriteFault ends ok tells = absurd tells
 meant_is_lived meant s.LinkFault ends ok tells = absurd tells
-meant_is_lived meant (s.LinkDiffers mon direction place sent received) ends ok tells = absurd tells
+meant_is_lived meant (s.LinkDiffers difference) ends ok tells = absurd tells
 meant_is_lived meant (s.BadTrace file fault) ends ok tells = absurd tells
 
 -- a run whose links did not fail, and whose output was written
-verdict_is_lived : (verdict : Verdict) (ends : Option Ends) → (status_of verdict ≡ s.LinkFault → ⊥) → (status_of verdict ≡ s.WriteFault → ⊥) → TellsEnds verdict ends → IsLived (status_of verdict) ends
-verdict_is_lived v.Done ends linked written tells = tt
-verdict_is_lived v.NoMemory ends linked written tells = tt
-verdict_is_lived (v.LinkDiffers mon direction place sent received) ends linked written tells = tells
-verdict_is_lived v.LinkFault ends linked written tells = absurd (linked refl)
-verdict_is_lived v.WriteFault ends linked written tells = absurd (written refl)
+status_is_lived : (status : Status) (ends : Option Ends) → (status ≡ s.LinkFault → ⊥) → (status ≡ s.WriteFault → ⊥) → TellsEnds status ends → IsLived status ends
+status_is_lived s.Done ends linked written tells = tt
+status_is_lived s.NoMemory ends linked written tells = tt
+status_is_lived (s.LinkDiffers difference) ends linked written tells = tells
+status_is_lived s.LinkFault ends linked written tells = absurd (linked refl)
+status_is_lived s.WriteFault ends linked written tells = absurd (written refl)
+status_is_lived s.Usage ends linked written tells = absurd tells
+status_is_lived (s.ReadFault file) ends linked written tells = absurd tells
+status_is_lived (s.BadInput file line kind) ends linked written tells = absurd tells
+status_is_lived (s.TooGreat mon obj) ends linked written tells = absurd tells
+status_is_lived (s.BadTrace file fault) ends linked written tells = absurd tells
 
 pub input_is_lived : WhatIsToldIsMeant input_of → (words : List (List ℕ)) (asked : LiveWords) (met : LiveSurroundings) (contents : List ℕ → List ℕ) (outcome : Outcome) → served (words_of words) ≡ Some asked → GivesInput met contents asked
     → (outcome.status ≡ s.LinkFault → ⊥) → (outcome.status ≡ s.WriteFault → ⊥) → EndsWords words met outcome → IsLived outcome.status outcome.ends
@@ -51,4 +54,4 @@ input_is_lived law words asked met contents outcome understood given linked writ
     let here = subst (λ (a : LiveWords). Loads met.reads a.sources (Err outcome.status)) same loads in
     meant_is_lived (input_of (read_by contents asked.sources)) outcome.status outcome.ends given.meant (law met.reads contents asked.sources (Err outcome.status) given.told here)
 input_is_lived law words asked met contents outcome understood given linked written (Ran found input is loads run) =
-    subst (λ st. IsLived st outcome.ends) (sym run.told) (verdict_is_lived run.verdict outcome.ends (λ e. linked (run.told ∙ e)) (λ e. written (run.told ∙ e)) run.concludes.differs)
+    status_is_lived outcome.status outcome.ends linked written run.differs

@@ -7,24 +7,19 @@ use Rattle.tk_load.specs.Reads.{FileReads, Loads}
 use Rattle.tk_load.specs.declared.input.Input.{Input}
 use Rattle.tk_load.specs.declared.status.Status.{Status}
 use Rattle.tk_live.specs.Lived.{Concludes}
-use Rattle.tk_live.specs.Serving.{EndsWords, HasRun, served, status_of}
+use Rattle.tk_live.specs.Serving.{EndsWords, served}
 use Rattle.tk_live.specs.Serving.EndsWords.{Ran, Unread}
 use Rattle.tk_live.specs.Traffic.{LiveSurroundings, traffic_of}
 use Rattle.tk_live.specs.declared.outcome.Outcome.{Outcome}
-use Rattle.tk_live.specs.declared.verdict.Lived.{Lived}
 
 -- what is served of words that were read as a command
 pub here : (asked : Option Asked) (read command : Command) → asked ≡ Some (asked_by read) → read ≡ command → served asked ≡ served (Some (asked_by command))
 here asked read command found is = ap served found ∙ ap (λ (c : Command). served (Some (asked_by c))) is
 
 -- an input that has run
-pub ran : {words : List (List ℕ)} {met : LiveSurroundings} (asked : LiveWords) (input : Input) (lived : Lived) (outcome : Outcome)
-    → served (words_of words) ≡ Some asked → Loads met.reads asked.sources (Ok input) → Concludes input asked.frames met.traffic lived
-    → outcome ≡ record { status = status_of lived.verdict; story = lived.story; ends = lived.ends } → EndsWords words met outcome
-ran {words} {met} asked input lived outcome is loads concludes made =
-    let run : HasRun input asked.frames met.traffic (record { status = status_of lived.verdict; story = lived.story; ends = lived.ends }) =
-    record { verdict = lived.verdict; told = refl; concludes = concludes } in
-    subst (EndsWords words met) (sym made) (Ran asked input is loads run)
+pub ran : {words : List (List ℕ)} {met : LiveSurroundings} (asked : LiveWords) (input : Input) (outcome : Outcome)
+    → served (words_of words) ≡ Some asked → Loads met.reads asked.sources (Ok input) → Concludes input asked.frames met.traffic outcome → EndsWords words met outcome
+ran asked input outcome is loads concludes = Ran asked input is loads concludes
 
 -- files that give no input
 pub unread : {words : List (List ℕ)} {reads : FileReads} {before : Option (List ℕ)} {taken : ℕ} (asked : LiveWords) (status : Status) (outcome : Outcome)

@@ -13,7 +13,7 @@ use Rattle.tk_ledger.specs.declared.printing.PrintFault.{PrintFault}
 use Rattle.tk_ledger.specs.declared.printing.PrintFault.TheVariants as g
 use Rattle.std.specs.Prelude.{OnOk, OnErr}
 use Rattle.tk_load.specs.declared.input.Input.{Input}
-use Rattle.tk_verify.specs.Headline.{IsSound}
+use Rattle.tk_story.specs.Headline.{IsSound}
 use Rattle.tk_story.proofs.PublishedLemmas.{IsPublished, last_is_full, published_holds}
 use Rattle.tk_story.specs.Ends.{AreOfOneRun, HaveNothingOdd, TellsDifference, kept_by}
 use Rattle.tk_story.specs.Kept.{KeptStory}
@@ -30,9 +30,9 @@ use Rattle.tk_base.specs.Settings.{Setup}
 use Rattle.tk_input.specs.Logs.{LogSet, beginnings}
 use Rattle.tk_live.specs.Joining.{IsFrom, ledger_lines, printed_as}
 use Rattle.tk_live.specs.Lived.{AreOfInput, Concludes, IsOfInput, TellsEnds}
-use Rattle.tk_live.specs.declared.verdict.Lived.{Lived}
-use Rattle.tk_live.specs.declared.verdict.Verdict.{Verdict}
-use Rattle.tk_live.specs.declared.verdict.Verdict.TheVariants as v
+use Rattle.tk_live.specs.declared.outcome.Outcome.{Outcome}
+use Rattle.tk_load.specs.declared.status.Status.{Status}
+use Rattle.tk_load.specs.declared.status.Status.TheVariants as st
 use Rattle.tk_live.specs.Traffic.{traffic_of}
 use Rattle.tk_live.proofs.CarriedLemmas.{carried}
 use Rattle.tk_ledger.proofs.SinkLemmas.{front_more, grows_none, grows_more}
@@ -51,10 +51,10 @@ unfolding text_of
 text_is names s = refl
 
 -- the ends were kept
-pub concludes_kept : (input : Input) (version : ℕ) (was now : Option (List ℕ)) (taken taken' : ℕ) (verdict : Verdict) (ends : Ends) → AreOfInput input ends
-    → GrowsByFront was now (concat (lines_of input.names ends.coordinator.coordinator.journal)) → (verdict ≡ v.Done → ⊥) → TellsEnds verdict (Some ends)
-    → Concludes input version (traffic_of was now taken taken') (record { verdict = verdict; story = None; ends = Some ends })
-concludes_kept input version was now taken taken' verdict ends are grown never tells = record {
+pub concludes_kept : (input : Input) (version : ℕ) (was now : Option (List ℕ)) (taken taken' : ℕ) (status : Status) (ends : Ends) → AreOfInput input ends
+    → GrowsByFront was now (concat (lines_of input.names ends.coordinator.coordinator.journal)) → (status ≡ st.Done → ⊥) → TellsEnds status (Some ends)
+    → Concludes input version (traffic_of was now taken taken') (record { status = status; story = None; ends = Some ends })
+concludes_kept input version was now taken taken' status ends are grown never tells = record {
   done = λ e. absurd (never e);
   lived = λ e. absurd (never e);
   sound = tt;
@@ -67,20 +67,20 @@ concludes_kept input version was now taken taken' verdict ends are grown never t
 }
 
 -- the ends differ, or there was no memory to see it
-pub joined_never : (fault : JoinFault) → joined_as fault ≡ v.Done → ⊥
-joined_never (f.Differs mon direction place sent received) is = absurd (cc)
+pub joined_never : (fault : JoinFault) → joined_as fault ≡ st.Done → ⊥
+joined_never (f.Differs difference) is = absurd (cc)
 joined_never f.NoMemory is = absurd (cc)
 
 pub joined_tells : (fault : JoinFault) (ends : Ends) → TellsDifference (kept_by ends.coordinator ends.monitors.items) fault → TellsEnds (joined_as fault) (Some ends)
-joined_tells (f.Differs mon direction place sent received) ends tells = tells
+joined_tells (f.Differs difference) ends tells = tells
 joined_tells f.NoMemory ends tells = tt
 
 -- there is a story
-pub concludes_told : (law : (s : StoryView) → IsStory s → IsOver s → IsSound s) (input : Input) (version : ℕ) (was mid now : Option (List ℕ)) (taken taken' : ℕ) (kept : KeptStory) (verdict : Verdict)
+pub concludes_told : (law : (s : StoryView) → IsStory s → IsOver s → IsSound s) (input : Input) (version : ℕ) (was mid now : Option (List ℕ)) (taken taken' : ℕ) (kept : KeptStory) (status : Status)
     → IsStory kept.story → IsOfInput input kept.story → IsComplete input.names version kept.story (traffic_of was mid taken taken')
-    → (verdict ≡ v.Done → RunsBy kept.story kept.events × Grows mid now (ledger_lines kept.story)) → GrowsByFront mid now (ledger_lines kept.story) → TellsEnds verdict None
-    → Concludes input version (traffic_of was now taken taken') (record { verdict = verdict; story = Some kept; ends = None })
-concludes_told law input version was mid now taken taken' kept verdict h of_input complete done front tells = record {
+    → (status ≡ st.Done → RunsBy kept.story kept.events × Grows mid now (ledger_lines kept.story)) → GrowsByFront mid now (ledger_lines kept.story) → TellsEnds status None
+    → Concludes input version (traffic_of was now taken taken') (record { status = status; story = Some kept; ends = None })
+concludes_told law input version was mid now taken taken' kept status h of_input complete done front tells = record {
   done = λ e. refl;
   lived = λ e. record {
     runs = record { settings_is = of_input.settings; logs_is = of_input.logs; from_is = of_input.from; runs = (done e).0 };
@@ -98,39 +98,49 @@ concludes_told law input version was mid now taken taken' kept verdict h of_inpu
 
 -- ---- faults
 
--- a verdict that is neither Done nor a difference
-abbrev pub IsFault : Verdict → Type 0
-IsFault v.Done = ⊥
-IsFault (v.LinkDiffers mon direction place sent received) = ⊥
-IsFault v.WriteFault = Unit {0}
-IsFault v.LinkFault = Unit {0}
-IsFault v.NoMemory = Unit {0}
+-- a failed write or link, or want of memory
+abbrev pub IsFault : Status → Type 0
+IsFault st.Done = ⊥
+IsFault (st.LinkDiffers difference) = ⊥
+IsFault st.WriteFault = Unit {0}
+IsFault st.LinkFault = Unit {0}
+IsFault st.NoMemory = Unit {0}
+IsFault st.Usage = ⊥
+IsFault (st.ReadFault file) = ⊥
+IsFault (st.BadInput file line kind) = ⊥
+IsFault (st.TooGreat mon obj) = ⊥
+IsFault (st.BadTrace file fault) = ⊥
 
-pub fault_of : (x a b : Verdict) → IsFault a → IsFault b → (x ≡ a) ⊎ (x ≡ b) → IsFault x
+pub fault_of : (x a b : Status) → IsFault a → IsFault b → (x ≡ a) ⊎ (x ≡ b) → IsFault x
 fault_of x a b first second (inl is) = subst IsFault (sym is) first
 fault_of x a b first second (inr is) = subst IsFault (sym is) second
 
-fault_never : (verdict : Verdict) → IsFault verdict → verdict ≡ v.Done → ⊥
-fault_never verdict fault is = subst IsFault is fault
+fault_never : (status : Status) → IsFault status → status ≡ st.Done → ⊥
+fault_never status fault is = subst IsFault is fault
 
-fault_tells : (verdict : Verdict) (ends : Ends) → HaveNothingOdd (kept_by ends.coordinator ends.monitors.items) → IsFault verdict → TellsEnds verdict (Some ends)
-fault_tells v.Done ends nothing fault = absurd fault
-fault_tells (v.LinkDiffers mon direction place sent received) ends nothing fault = absurd fault
-fault_tells v.WriteFault ends nothing fault = tt
-fault_tells v.LinkFault ends nothing fault = nothing
-fault_tells v.NoMemory ends nothing fault = tt
+fault_tells : (status : Status) (ends : Ends) → HaveNothingOdd (kept_by ends.coordinator ends.monitors.items) → IsFault status → TellsEnds status (Some ends)
+fault_tells st.Done ends nothing fault = absurd fault
+fault_tells (st.LinkDiffers difference) ends nothing fault = absurd fault
+fault_tells st.WriteFault ends nothing fault = tt
+fault_tells st.LinkFault ends nothing fault = nothing
+fault_tells st.NoMemory ends nothing fault = tt
+fault_tells st.Usage ends nothing fault = absurd fault
+fault_tells (st.ReadFault file) ends nothing fault = absurd fault
+fault_tells (st.BadInput file line kind) ends nothing fault = absurd fault
+fault_tells (st.TooGreat mon obj) ends nothing fault = absurd fault
+fault_tells (st.BadTrace file fault) ends nothing wrong = absurd wrong
 
 -- the ends were kept beside a fault, and nothing is odd
-pub concludes_fault : (input : Input) (version : ℕ) (was now : Option (List ℕ)) (taken taken' : ℕ) (verdict : Verdict) (ends : Ends) (lived : Lived) → IsFault verdict → HaveNothingOdd (kept_by ends.coordinator ends.monitors.items) → AreOfInput input ends
-    → GrowsByFront was now (concat (lines_of input.names ends.coordinator.coordinator.journal)) → lived ≡ record { verdict = verdict; story = None; ends = Some ends }
+pub concludes_fault : (input : Input) (version : ℕ) (was now : Option (List ℕ)) (taken taken' : ℕ) (status : Status) (ends : Ends) (lived : Outcome) → IsFault status → HaveNothingOdd (kept_by ends.coordinator ends.monitors.items) → AreOfInput input ends
+    → GrowsByFront was now (concat (lines_of input.names ends.coordinator.coordinator.journal)) → lived ≡ record { status = status; story = None; ends = Some ends }
     → Concludes input version (traffic_of was now taken taken') lived
-concludes_fault input version was now taken taken' verdict ends lived fault nothing are grown is =
-    subst (λ l. Concludes input version (traffic_of was now taken taken') l) (sym is) (concludes_kept input version was now taken taken' verdict ends are grown (fault_never verdict fault) (fault_tells verdict ends nothing fault))
+concludes_fault input version was now taken taken' status ends lived fault nothing are grown is =
+    subst (λ l. Concludes input version (traffic_of was now taken taken') l) (sym is) (concludes_kept input version was now taken taken' status ends are grown (fault_never status fault) (fault_tells status ends nothing fault))
 
 -- the ends did not agree, or there was no memory to see it
-pub concludes_joined : (input : Input) (version : ℕ) (was now : Option (List ℕ)) (taken taken' : ℕ) (fault : JoinFault) (ends : Ends) (lived : Lived) → AreOfInput input ends
+pub concludes_joined : (input : Input) (version : ℕ) (was now : Option (List ℕ)) (taken taken' : ℕ) (fault : JoinFault) (ends : Ends) (lived : Outcome) → AreOfInput input ends
     → GrowsByFront was now (concat (lines_of input.names ends.coordinator.coordinator.journal)) → TellsDifference (kept_by ends.coordinator ends.monitors.items) fault
-    → lived ≡ record { verdict = joined_as fault; story = None; ends = Some ends } → Concludes input version (traffic_of was now taken taken') lived
+    → lived ≡ record { status = joined_as fault; story = None; ends = Some ends } → Concludes input version (traffic_of was now taken taken') lived
 concludes_joined input version was now taken taken' fault ends lived are grown tells is =
     subst (λ l. Concludes input version (traffic_of was now taken taken') l) (sym is) (concludes_kept input version was now taken taken' (joined_as fault) ends are grown (joined_never fault) (joined_tells fault ends tells))
 
@@ -141,13 +151,13 @@ printed_tells (Err g.WriteFailed) = tt
 printed_tells (Err g.NoMemory) = tt
 
 -- no link failed of it
-pub printed_linked : {A : Type 0} (printed : Result A PrintFault) → printed_as printed ≡ v.LinkFault → ⊥
+pub printed_linked : {A : Type 0} (printed : Result A PrintFault) → printed_as printed ≡ st.LinkFault → ⊥
 printed_linked (Ok done) is = absurd (cc)
 printed_linked (Err g.WriteFailed) is = absurd (cc)
 printed_linked (Err g.NoMemory) is = absurd (cc)
 
--- what was printed, where the verdict is Done, and in any case
-pub printed_done : {A : Type 0} (printed : Result A PrintFault) (P : Type 0) → OnOk printed P → printed_as printed ≡ v.Done → P
+-- what was printed, where the status is Done, and in any case
+pub printed_done : {A : Type 0} (printed : Result A PrintFault) (P : Type 0) → OnOk printed P → printed_as printed ≡ st.Done → P
 printed_done (Ok done) P ok was = ok
 printed_done (Err g.WriteFailed) P ok was = absurd (cc)
 printed_done (Err g.NoMemory) P ok was = absurd (cc)
@@ -175,17 +185,17 @@ of_run input settings logs from ends is run =
     (subst (λ p. AreOfOneRun ends.coordinator ends.monitors.items logs settings p) is.from_is run))
 
 -- no worker was started
-pub concludes_unstarted : (input : Input) (version : ℕ) (at : Option (List ℕ)) (taken taken' : ℕ) (verdict : Verdict) (lived : Lived) → (verdict ≡ v.LinkFault) ⊎ (verdict ≡ v.NoMemory) → taken' ≡ taken
-    → lived ≡ record { verdict = verdict; story = None; ends = None } → Concludes input version (traffic_of at at taken taken') lived
-concludes_unstarted input version at taken taken' verdict lived which same is =
-    let fault = fault_of verdict v.LinkFault v.NoMemory tt tt which in
-    let told : TellsEnds verdict None = elim which [
+pub concludes_unstarted : (input : Input) (version : ℕ) (at : Option (List ℕ)) (taken taken' : ℕ) (status : Status) (lived : Outcome) → (status ≡ st.LinkFault) ⊎ (status ≡ st.NoMemory) → taken' ≡ taken
+    → lived ≡ record { status = status; story = None; ends = None } → Concludes input version (traffic_of at at taken taken') lived
+concludes_unstarted input version at taken taken' status lived which same is =
+    let fault = fault_of status st.LinkFault st.NoMemory tt tt which in
+    let told : TellsEnds status None = elim which [
       | inl linked ↦ subst (λ x. TellsEnds x None) (sym linked) tt
       | inr memory ↦ subst (λ x. TellsEnds x None) (sym memory) tt
     ] in
-    let here : Concludes input version (traffic_of at at taken taken') (record { verdict = verdict; story = None; ends = None }) = record {
-      done = λ e. absurd (fault_never verdict fault e);
-      lived = λ e. absurd (fault_never verdict fault e);
+    let here : Concludes input version (traffic_of at at taken taken') (record { status = status; story = None; ends = None }) = record {
+      done = λ e. absurd (fault_never status fault e);
+      lived = λ e. absurd (fault_never status fault e);
       sound = tt;
       over = tt;
       of_input = tt;
@@ -196,6 +206,6 @@ concludes_unstarted input version at taken taken' verdict lived which same is =
     } in
     subst (λ l. Concludes input version (traffic_of at at taken taken') l) (sym is) here
 
--- ends that are kept beside a verdict
-abbrev pub kept_as : Verdict → Ends → Lived
-kept_as verdict ends = record { verdict = verdict; story = None; ends = Some ends }
+-- ends that are kept beside a status
+abbrev pub kept_as : Status → Ends → Outcome
+kept_as status ends = record { status = status; story = None; ends = Some ends }

@@ -1,4 +1,4 @@
--- Which verdict stands before the ends are joined. No public clause cites it.
+-- What stands before the ends are joined. No public clause cites it.
 use Rattle.std.specs.Prelude.{Bool, if◌then◌else◌}
 use Rattle.tk_serve.specs.declared.served.Why.{Why}
 use Rattle.tk_serve.specs.declared.served.Why.TheVariants as w

@@ -16,19 +16,19 @@ use Rattle.tk_story.specs.declared.ends.Ends.{Ends}
 use Rattle.tk_live.specs.Complete.{IsComplete}
 use Rattle.tk_live.specs.Lived.{Concludes, IsOfInput}
 use Rattle.tk_live.specs.Traffic.{Traffic, traffic_of}
-use Rattle.tk_live.specs.declared.verdict.Lived.{Lived}
-use Rattle.tk_live.specs.declared.verdict.Verdict.{Verdict}
-use Rattle.tk_live.specs.declared.verdict.Verdict.TheVariants as v
+use Rattle.tk_live.specs.declared.outcome.Outcome.{Outcome}
+use Rattle.tk_load.specs.declared.status.Status.{Status}
+use Rattle.tk_load.specs.declared.status.Status.TheVariants as st
 
 -- the lines of the ledger of a story
 abbrev pub ledger_lines : StoryView → List ℕ
 ledger_lines s = ledger_text (ledger_of s.settings s.journal)
 
--- the verdict where the ledger was printed so
-abbrev pub printed_as : {A : Type 0} → Result A PrintFault → Verdict
-printed_as (Ok done) = v.Done
-printed_as (Err f.WriteFailed) = v.WriteFault
-printed_as (Err f.NoMemory) = v.NoMemory
+-- what is told where the ledger was printed so
+abbrev pub printed_as : {A : Type 0} → Result A PrintFault → Status
+printed_as (Ok done) = st.Done
+printed_as (Err f.WriteFailed) = st.WriteFault
+printed_as (Err f.NoMemory) = st.NoMemory
 
 -- settings, logs and starting places are those of an input
 pub record IsFrom (input : Input) (settings : Setup) (logs : LogSet) (from : List (List ℕ)) : Type 0 where
@@ -43,14 +43,14 @@ IsCompleteUnlessOdd names version ends logs from traffic =
 
 -- a run concludes with a story: whatever input the story is of, and whatever was written and taken up to here, if it is
 -- complete by that
-abbrev pub ConcludesStory : StoryView → Output → Lived → Type 0
+abbrev pub ConcludesStory : StoryView → Output → Outcome → Type 0
 ConcludesStory s output result =
     (input : Input) (version : ℕ) (was : Option (List ℕ)) (taken taken_then : ℕ) → IsOfInput input s
     → IsComplete input.names version s (traffic_of was output.before taken taken_then)
     → Concludes input version (traffic_of was output.after taken taken_then) result
 
 -- a run concludes with ends, in the same way
-abbrev pub ConcludesEnds : Setup → LogSet → List (List ℕ) → Ends → Output → Lived → Type 0
+abbrev pub ConcludesEnds : Setup → LogSet → List (List ℕ) → Ends → Output → Outcome → Type 0
 ConcludesEnds settings logs from ends output result =
     (input : Input) (version : ℕ) (was : Option (List ℕ)) (taken taken_then : ℕ) → IsFrom input settings logs from
     → IsCompleteUnlessOdd input.names version ends logs from (traffic_of was output.before taken taken_then)

@@ -10,7 +10,6 @@ use Rattle.tk_live.specs.Lived.{TellsEnds}
 use Rattle.tk_live.specs.Serving.{EndsWords, served}
 use Rattle.tk_live.specs.Traffic.{LiveSurroundings}
 use Rattle.tk_live.specs.declared.outcome.Outcome.{Outcome}
-use Rattle.tk_live.specs.declared.verdict.Verdict.TheVariants as v
 
 -- the files of a live run tell what they hold, no read of them failed, and with the words they give an input
 pub record GivesInput (met : LiveSurroundings) (contents : List ℕ → List ℕ) (asked : LiveWords) : Type 0 where
@@ -21,7 +20,7 @@ pub record GivesInput (met : LiveSurroundings) (contents : List ℕ → List ℕ
 abbrev pub IsLived : Status → Option Ends → Type 0
 IsLived s.Done ends = Unit
 IsLived s.NoMemory ends = Unit
-IsLived (s.LinkDiffers mon direction place sent received) ends = TellsEnds (v.LinkDiffers mon direction place sent received) ends
+IsLived (s.LinkDiffers difference) ends = TellsEnds (s.LinkDiffers difference) ends
 IsLived s.Usage ends = ⊥
 IsLived (s.ReadFault file) ends = ⊥
 IsLived (s.BadInput file line kind) ends = ⊥

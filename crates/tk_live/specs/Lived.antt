@@ -1,4 +1,4 @@
--- How a live run of an input ends, and what its verdict tells.
+-- How a live run of an input ends, and what its status tells.
 use Rattle.std.specs.Prelude.{ℕ, ◌≡◌, List, Option, Some, None, IsSome, IfSome, ⊤}
 use Rattle.std.specs.List.{concat}
 use Rattle.tk_drain.specs.Resting.{RunsFrom}
@@ -6,9 +6,9 @@ use Rattle.tk_input.specs.Logs.{beginnings}
 use Rattle.tk_input.specs.Sink.{Grows, GrowsByFront}
 use Rattle.tk_ledger.specs.Text.{lines_of, text_of}
 use Rattle.tk_load.specs.declared.input.Input.{Input}
-use Rattle.tk_verify.specs.Headline.{IsSound}
+use Rattle.tk_story.specs.Headline.{IsSound}
 use Rattle.tk_load.specs.Surroundings.{IsUnwritten, Output}
-use Rattle.tk_story.specs.Ends.{AreOfOneRun, HaveNothingOdd, IsFirstOfAll, kept_by}
+use Rattle.tk_story.specs.Ends.{AreOfOneRun, HaveNothingOdd, IsFirst, kept_by}
 use Rattle.tk_story.specs.Kept.{KeptStory}
 use Rattle.tk_story.specs.Moments.{IsOver}
 use Rattle.tk_story.specs.Story.{StoryView}
@@ -16,9 +16,9 @@ use Rattle.tk_story.specs.declared.ends.Ends.{Ends}
 use Rattle.tk_wire.specs.Net.{NetState}
 use Rattle.tk_live.specs.Carried.{IsCarried}
 use Rattle.tk_live.specs.Traffic.{Traffic, traffic_over}
-use Rattle.tk_live.specs.declared.verdict.Lived.{Lived}
-use Rattle.tk_live.specs.declared.verdict.Verdict.{Verdict}
-use Rattle.tk_live.specs.declared.verdict.Verdict.TheVariants as v
+use Rattle.tk_live.specs.declared.outcome.Outcome.{Outcome}
+use Rattle.tk_load.specs.declared.status.Status.{Status}
+use Rattle.tk_load.specs.declared.status.Status.TheVariants as st
 
 -- ---- a run that is done
 
@@ -50,20 +50,24 @@ Leaves names traffic None None = IsUnwritten traffic.output × (traffic.taken_th
 
 -- a difference is the first that the ends show; and a failed link is told only where no end has what it did not take, so
 -- what was refused, or was no frame, never passes for a failed link
-abbrev pub TellsEnds : Verdict → Option Ends → Type 0
-TellsEnds (v.LinkDiffers mon direction place sent received) None = ⊥
-TellsEnds (v.LinkDiffers mon direction place sent received) (Some ends) =
-    IsFirstOfAll (kept_by ends.coordinator ends.monitors.items) mon.0 direction place sent received
-TellsEnds v.Done ends = ends ≡ None
-TellsEnds v.WriteFault ends = ⊤
-TellsEnds v.LinkFault None = ⊤
-TellsEnds v.LinkFault (Some ends) = HaveNothingOdd (kept_by ends.coordinator ends.monitors.items)
-TellsEnds v.NoMemory ends = ⊤
+abbrev pub TellsEnds : Status → Option Ends → Type 0
+TellsEnds (st.LinkDiffers difference) None = ⊥
+TellsEnds (st.LinkDiffers difference) (Some ends) = IsFirst (kept_by ends.coordinator ends.monitors.items) difference
+TellsEnds st.Done ends = ends ≡ None
+TellsEnds st.WriteFault ends = ⊤
+TellsEnds st.LinkFault None = ⊤
+TellsEnds st.LinkFault (Some ends) = HaveNothingOdd (kept_by ends.coordinator ends.monitors.items)
+TellsEnds st.NoMemory ends = ⊤
+TellsEnds st.Usage ends = ⊥
+TellsEnds (st.ReadFault file) ends = ⊥
+TellsEnds (st.BadInput file line kind) ends = ⊥
+TellsEnds (st.TooGreat mon obj) ends = ⊥
+TellsEnds (st.BadTrace file fault) ends = ⊥
 
 -- what a live run leaves
-pub record Concludes (input : Input) (version : ℕ) (traffic : Traffic) (result : Lived) : Type 0 where
-  pub done : result.verdict ≡ v.Done → IsSome result.story
-  pub lived : result.verdict ≡ v.Done → IfSome result.story (HasLived input version traffic)
+pub record Concludes (input : Input) (version : ℕ) (traffic : Traffic) (result : Outcome) : Type 0 where
+  pub done : result.status ≡ st.Done → IsSome result.story
+  pub lived : result.status ≡ st.Done → IfSome result.story (HasLived input version traffic)
   -- for any story all of the headline holds, and each monitor took Stop
   pub sound : IfSome result.story (λ s. IsSound s.story)
   pub over : IfSome result.story (λ s. IsOver s.story)
@@ -72,8 +76,8 @@ pub record Concludes (input : Input) (version : ℕ) (traffic : Traffic) (result
   pub ends : IfSome result.ends (AreOfInput input)
   pub one : IsSome result.story → result.ends ≡ None
   pub written : Leaves input.names traffic result.story result.ends
-  pub differs : TellsEnds result.verdict result.ends
+  pub differs : TellsEnds result.status result.ends
 
 -- the same over a net, which counts the bytes that were taken from its links
-abbrev pub EndsOver : Input → ℕ → Output → NetState → NetState → Lived → Type 0
+abbrev pub EndsOver : Input → ℕ → Output → NetState → NetState → Outcome → Type 0
 EndsOver input version output net net' result = Concludes input version (traffic_over output net net') result

@@ -11,8 +11,6 @@ use Rattle.tk_load.specs.Surroundings.{IsUnwritten}
 use Rattle.tk_live.specs.Lived.{Concludes}
 use Rattle.tk_live.specs.Traffic.{LiveSurroundings, Traffic}
 use Rattle.tk_live.specs.declared.outcome.Outcome.{Outcome}
-use Rattle.tk_live.specs.declared.verdict.Verdict.{Verdict}
-use Rattle.tk_live.specs.declared.verdict.Verdict.TheVariants as v
 
 -- what words ask of `live`, which serves live runs alone
 abbrev pub served : Option Asked → Option LiveWords
@@ -25,14 +23,6 @@ served (Some (Restarts words)) = None
 served (Some (Traces words)) = None
 served (Some (Checks file)) = None
 
--- the status of a verdict
-abbrev pub status_of : Verdict → Status
-status_of v.Done = s.Done
-status_of v.WriteFault = s.WriteFault
-status_of v.LinkFault = s.LinkFault
-status_of (v.LinkDiffers mon direction place sent received) = s.LinkDiffers mon direction place sent received
-status_of v.NoMemory = s.NoMemory
-
 -- how many puts of the output have failed after a live run: one more exactly where its status tells so
 abbrev pub faults_told : Status → ℕ → ℕ
 faults_told s.WriteFault faults = one_more faults
@@ -43,7 +33,7 @@ faults_told (s.BadInput file line kind) faults = faults
 faults_told (s.TooGreat mon obj) faults = faults
 faults_told s.NoMemory faults = faults
 faults_told s.LinkFault faults = faults
-faults_told (s.LinkDiffers mon direction place sent received) faults = faults
+faults_told (s.LinkDiffers difference) faults = faults
 faults_told (s.BadTrace file fault) faults = faults
 
 -- no worker was started: nothing was written, and no byte was taken from a link
@@ -53,16 +43,10 @@ pub record IsUnstarted (traffic : Traffic) (outcome : Outcome) : Type 0 where
   pub unwritten : IsUnwritten traffic.output
   pub untaken : traffic.taken_then ≡ traffic.taken
 
--- the input of the words has run, and the status tells its verdict
-pub record HasRun (input : Input) (version : ℕ) (traffic : Traffic) (outcome : Outcome) : Type 0 where
-  pub verdict : Verdict
-  pub told : outcome.status ≡ status_of verdict
-  pub concludes : Concludes input version traffic (record { verdict = verdict; story = outcome.story; ends = outcome.ends })
-
 -- how words end: they are not those of a live run; there was no memory for them; their files give no input, by the first
 -- rule that fails; or their input has run
 pub data EndsWords (words : List (List ℕ)) (met : LiveSurroundings) (outcome : Outcome) : Type 0 where
   Refused : served (words_of words) ≡ None → outcome.status ≡ s.Usage → IsUnstarted met.traffic outcome → EndsWords words met outcome
   Unmet : outcome.status ≡ s.NoMemory → IsUnstarted met.traffic outcome → EndsWords words met outcome
   Unread : (asked : LiveWords) → served (words_of words) ≡ Some asked → Loads met.reads asked.sources (Err outcome.status) → IsUnstarted met.traffic outcome → EndsWords words met outcome
-  Ran : (asked : LiveWords) (input : Input) → served (words_of words) ≡ Some asked → Loads met.reads asked.sources (Ok input) → HasRun input asked.frames met.traffic outcome → EndsWords words met outcome
+  Ran : (asked : LiveWords) (input : Input) → served (words_of words) ≡ Some asked → Loads met.reads asked.sources (Ok input) → Concludes input asked.frames met.traffic outcome → EndsWords words met outcome

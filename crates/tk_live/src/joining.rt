@@ -4,16 +4,17 @@ ghost use Rattle.tk_load.specs.Surroundings.{output_by};
 ghost use Rattle.tk_story.specs.Ends.{AreOfOneRun};
 ghost use Rattle.tk_ledger.specs.Printing.{print_faults};
 ghost use Rattle.tk_live.specs.Joining.{ConcludesEnds, ConcludesStory, ledger_lines, printed_as};
-ghost use Rattle.tk_live.specs.Serving.{faults_told, status_of};
-ghost use Rattle.tk_live.specs.declared.verdict.Verdict.TheVariants.{LinkFault as Unlinked};
+ghost use Rattle.tk_live.specs.Serving.{faults_told};
+ghost use Rattle.tk_load.specs.declared.status.Status.TheVariants.{LinkFault as Unlinked};
 
-use crate::verdict::{Lived, Verdict};
+use crate::faults::of_join;
+use crate::outcome::Outcome;
 use std::alloc::Global;
 use tk_base::{Cut, Settings};
 use tk_input::{Logs, Sink};
 use tk_ledger::{Ledger, PrintFault, print_ledger};
-use tk_story::{Ends, Story};
-use tk_verify::a_finished_run_is_sound;
+use tk_load::Status;
+use tk_story::{Ends, Story, a_finished_run_is_sound};
 use tk_world::serialize;
 
 /// Writes the lines of the ledger of a story.
@@ -28,32 +29,32 @@ fn print<O: Sink>(alloc: Global, story: &Story, out: &mut O) -> Result<(), Print
     print_ledger(alloc, &ledger, out)
 }
 
-/// The verdict on a story whose ledger was printed so.
-fn verdict_of(printed: Result<(), PrintFault>) -> Verdict
+/// What is told of a story whose ledger was printed so.
+fn told_of(printed: Result<(), PrintFault>) -> Status
     ensures { result ≡ printed_as printed }
 {
     match printed {
-        Ok(()) => Verdict::Done,
-        Err(PrintFault::WriteFailed) => Verdict::WriteFault,
-        Err(PrintFault::NoMemory) => Verdict::NoMemory,
+        Ok(()) => Status::Done,
+        Err(PrintFault::WriteFailed) => Status::WriteFault,
+        Err(PrintFault::NoMemory) => Status::NoMemory,
     }
 }
 
 /// Gives a story that is over its events, and writes the lines of its ledger.
-fn finish<O: Sink>(alloc: Global, story: Story, out: &mut O) -> Lived
+fn finish<O: Sink>(alloc: Global, story: Story, out: &mut O) -> Outcome
     ensures concludes { ConcludesStory story.story (output_by O.Sink out.old out.new) result }
-    ensures unlinked { result.verdict ≡ Unlinked → ⊥ }
-    ensures counted { O.fault_count out.new ≡ faults_told (status_of result.verdict) (O.fault_count out.old) }
+    ensures unlinked { result.status ≡ Unlinked → ⊥ }
+    ensures counted { O.fault_count out.new ≡ faults_told result.status (O.fault_count out.old) }
 {
     // The journal is read for its clause, that the story is legal; the law says that it is sound.
     let _ = story.journal();
     a_finished_run_is_sound();
     let story = match serialize(alloc, story) {
         Ok(story) => story,
-        Err((_, story)) => return Lived::told(Verdict::NoMemory, story),
+        Err((_, story)) => return Outcome::told(Status::NoMemory, story),
     };
     let printed = print(alloc, &story, out);
-    Lived::told(verdict_of(printed), story)
+    Outcome::told(told_of(printed), story)
 }
 
 /// Joins the ends: to the story that they tell, or to the first difference between them.
@@ -64,11 +65,11 @@ pub fn join_ends<O: Sink>(
     from: Cut,
     ends: Ends,
     out: &mut O,
-) -> Lived
+) -> Outcome
     requires { AreOfOneRun ends.coordinator ends.monitors.items logs settings from }
     ensures concludes { ConcludesEnds settings logs from ends (output_by O.Sink out.old out.new) result }
-    ensures unlinked { result.verdict ≡ Unlinked → ⊥ }
-    ensures counted { O.fault_count out.new ≡ faults_told (status_of result.verdict) (O.fault_count out.old) }
+    ensures unlinked { result.status ≡ Unlinked → ⊥ }
+    ensures counted { O.fault_count out.new ≡ faults_told result.status (O.fault_count out.old) }
 {
     let Ends {
         coordinator,
@@ -76,6 +77,6 @@ pub fn join_ends<O: Sink>(
     } = ends;
     match Story::join(coordinator, monitors, logs, settings, from, Vec::new(alloc)) {
         Ok(story) => finish(alloc, story, out),
-        Err((fault, ends)) => Lived::kept(Verdict::of_join(fault), ends),
+        Err((fault, ends)) => Outcome::kept(of_join(fault), ends),
     }
 }

@@ -10,24 +10,25 @@ ghost use Rattle.tk_live.specs.Left.{ConcludesLeft, TellsOdd};
 ghost use Rattle.tk_live.specs.Lived.{AreOfInput, EndsOver};
 ghost use Rattle.tk_live.specs.Made.{all_made};
 ghost use Rattle.tk_live.specs.Parting.{faults_of};
-ghost use Rattle.tk_live.specs.Serving.{faults_told, status_of};
+ghost use Rattle.tk_live.specs.Serving.{faults_told};
 ghost use Rattle.tk_load.specs.Surroundings.{output_by};
-ghost use Rattle.tk_live.specs.declared.verdict.Verdict.TheVariants.{LinkFault as Unlinked};
+ghost use Rattle.tk_load.specs.declared.status.Status.TheVariants.{LinkFault as Unlinked};
 
 use crate::ending::{Choice, choose, is_odd};
 use crate::joining::join_ends;
+use crate::faults::{of_link, of_net};
 use crate::left::Left;
+use crate::outcome::Outcome;
 use crate::playing::play;
 use crate::returning::{give_back, part};
 use crate::stage::{Plan, Stage, make_stage};
-use crate::verdict::{Lived, Verdict};
 use std::alloc::Global;
 use std::marker::Sync;
 use std::sync::Wait;
 use std::thread::Threads;
 use tk_base::Cut;
 use tk_input::Sink;
-use tk_load::Input;
+use tk_load::{Input, Status};
 use tk_serve::Gate;
 use tk_story::Ends;
 use tk_wire::Net;
@@ -41,14 +42,14 @@ fn conclude<N: Net, O: Sink>(
     faults: u64,
     net: &N,
     out: &mut O,
-) -> Lived
+) -> Outcome
     requires run { AreOfInput input left.ends }
     requires from { from ≡ beginnings input.logs }
     requires odd { TellsOdd left }
     ensures concludes { ConcludesLeft input from left (output_by O.Sink out.old out.new) result }
-    ensures failed { result.verdict ≡ Unlinked → HasRisen faults (N.state net.now).faults }
+    ensures failed { result.status ≡ Unlinked → HasRisen faults (N.state net.now).faults }
     ensures counted { (was : ℕ) → O.fault_count out.old ≡ faults_of left.parting was
-        → O.fault_count out.new ≡ faults_told (status_of result.verdict) was }
+        → O.fault_count out.new ≡ faults_told result.status was }
 {
     let Left {
         parting,
@@ -57,9 +58,9 @@ fn conclude<N: Net, O: Sink>(
     } = left;
     let odd = is_odd(&ends.coordinator, ends.monitors.as_slice());
     match choose(parting, cause, odd) {
-        Choice::WriteFault => Lived::kept(Verdict::WriteFault, ends),
-        Choice::LinkFault => Lived::kept(Verdict::of_link(faults, net.faults()), ends),
-        Choice::NoMemory => Lived::kept(Verdict::NoMemory, ends),
+        Choice::WriteFault => Outcome::kept(Status::WriteFault, ends),
+        Choice::LinkFault => Outcome::kept(of_link(faults, net.faults()), ends),
+        Choice::NoMemory => Outcome::kept(Status::NoMemory, ends),
         Choice::Join => {
             let Input { settings, logs, .. } = input;
             join_ends(alloc, settings, logs, from, ends, out)
@@ -79,7 +80,7 @@ fn run_stage<R: Threads + Wait + Sync, N: Net, G: Gate + Sync, O: Sink>(
     gate: &G,
     net: &mut N,
     out: &mut O,
-) -> Lived
+) -> Outcome
     requires agreed { AreAgreed input.names input.settings input.logs }
     requires cut { IsCut input.logs.logs from }
     requires from { from ≡ beginnings input.logs }
@@ -90,8 +91,8 @@ fn run_stage<R: Threads + Wait + Sync, N: Net, G: Gate + Sync, O: Sink>(
     requires empty { stage.ends.items ≡ [] }
     requires room { length stage.crew.berths.items ≤ vec_capacity stage.ends }
     ensures ends { EndsOver input version (output_by O.Sink out.old out.new) (N.state net.old) (N.state net.new) result }
-    ensures failed { result.verdict ≡ Unlinked → HasRisen faults (N.state net.new).faults }
-    ensures counted { O.fault_count out.new ≡ faults_told (status_of result.verdict) (O.fault_count out.old) }
+    ensures failed { result.status ≡ Unlinked → HasRisen faults (N.state net.new).faults }
+    ensures counted { O.fault_count out.new ≡ faults_told result.status (O.fault_count out.old) }
 {
     let Stage { hub, crew, ends } = stage;
     let (hub, parting, workers) = play(rt, crew, hub, &input.names, gate, net, out);
@@ -121,21 +122,21 @@ pub fn live_over<R: Threads + Wait + Sync, N: Net, G: Gate + Sync, O: Sink>(
     run: u64,
     gate: &G,
     out: &mut O,
-) -> Lived
+) -> Outcome
     requires agreed { AreAgreed input.names input.settings input.logs }
     requires version { IsVersion version }
     requires listens { (N.state net.old).listens ≡ false }
     requires links { (N.state net.old).links ≡ 0 }
     // Done tells a story that is sound, of this input, whose events it runs; its text is written, and its bytes came over
-    // the links. Any other verdict leaves the story or the ends, and a front of what is written of them.
+    // the links. Any other status leaves the story or the ends, and a front of what is written of them.
     ensures ends { EndsOver input version (output_by O.Sink out.old out.new) (N.state net.old) (N.state net.new) result }
     // A failed link has its cause, and a failed write is told just where there is one.
-    ensures failed { result.verdict ≡ Unlinked → HasRisen (N.state net.old).faults (N.state net.new).faults }
-    ensures counted { O.fault_count out.new ≡ faults_told (status_of result.verdict) (O.fault_count out.old) }
+    ensures failed { result.status ≡ Unlinked → HasRisen (N.state net.old).faults (N.state net.new).faults }
+    ensures counted { O.fault_count out.new ≡ faults_told result.status (O.fault_count out.old) }
 {
     let faults = net.faults();
     let Ok(from) = input.logs.start(alloc) else {
-        return Lived::unstarted(Verdict::NoMemory);
+        return Outcome::unstarted(Status::NoMemory);
     };
     let plan = Plan {
         input: &input,
@@ -150,7 +151,7 @@ pub fn live_over<R: Threads + Wait + Sync, N: Net, G: Gate + Sync, O: Sink>(
         Err(fault) => {
             drop(input);
             drop(from);
-            Lived::unstarted(Verdict::of_net(fault, faults, net.faults()))
+            Outcome::unstarted(of_net(fault, faults, net.faults()))
         }
     }
 }

@@ -1,41 +1,14 @@
-ghost use Rattle.std.specs.Prelude.{◌≡◌, None};
-ghost use Rattle.tk_live.specs.Serving.{status_of};
+ghost use Rattle.std.specs.Prelude.{◌≡◌, None, Some};
 
-use crate::verdict::{Lived, Verdict};
 use tk_load::Status;
 use tk_story::{Ends, Story};
 
-/// How the words of a live run ended: the story where the ends agree, and else the ends, if any worker was started.
+/// How a live run ended, and what is left of it: its story where the ends agree, and else the ends, if any worker was started.
 #[derive(Drop)]
 pub struct Outcome {
     pub status: Status,
     pub story: Option<Story>,
     pub ends: Option<Ends>,
-}
-
-/// What the program tells of a verdict.
-fn status(verdict: Verdict) -> Status
-    ensures { result ≡ status_of verdict }
-{
-    match verdict {
-        Verdict::Done => Status::Done,
-        Verdict::WriteFault => Status::WriteFault,
-        Verdict::LinkFault => Status::LinkFault,
-        Verdict::LinkDiffers {
-            mon,
-            direction,
-            place,
-            sent,
-            received,
-        } => Status::LinkDiffers {
-            mon,
-            direction,
-            place,
-            sent,
-            received,
-        },
-        Verdict::NoMemory => Status::NoMemory,
-    }
 }
 
 impl Outcome {
@@ -50,19 +23,25 @@ impl Outcome {
         }
     }
 
-    /// What a run of an input left.
-    pub(crate) fn of(lived: Lived) -> Outcome
-        ensures { result ≡ record { status = status_of lived.verdict; story = lived.story; ends = lived.ends } }
+    /// The ends are kept.
+    pub(crate) fn kept(status: Status, ends: Ends) -> Outcome
+        ensures { result ≡ record { status = status; story = None; ends = Some ends } }
     {
-        let Lived {
-            verdict,
-            story,
-            ends,
-        } = lived;
         Outcome {
-            status: status(verdict),
-            story,
-            ends,
+            status,
+            story: None,
+            ends: Some(ends),
+        }
+    }
+
+    /// There is a story.
+    pub(crate) fn told(status: Status, story: Story) -> Outcome
+        ensures { result ≡ record { status = status; story = Some story; ends = None } }
+    {
+        Outcome {
+            status,
+            story: Some(story),
+            ends: None,
         }
     }
 

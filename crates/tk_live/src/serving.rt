@@ -52,7 +52,7 @@ pub fn live<R: Threads + Wait + Sync, F: Files, N: Net, G: Gate + Sync, O: Sink>
         Err(WordsFault::NoMemory) => return Outcome::unstarted(Status::NoMemory),
     };
     match load(rt, alloc, &words.sources, files) {
-        Ok(input) => Outcome::of(live_over(rt, alloc, input, words.frames, net, run, gate, out)),
+        Ok(input) => live_over(rt, alloc, input, words.frames, net, run, gate, out),
         Err(status) => Outcome::unstarted(status),
     }
 }

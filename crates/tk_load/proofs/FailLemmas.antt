@@ -37,7 +37,7 @@ tells_other reads (s.BadInput file line kind) meant most other tells = most
 tells_other reads (s.TooGreat mon obj) meant most other tells = most
 tells_other reads s.NoMemory meant most other tells = most
 tells_other reads s.LinkFault meant most other tells = most
-tells_other reads (s.LinkDiffers mon direction place sent received) meant most other tells = most
+tells_other reads (s.LinkDiffers difference) meant most other tells = most
 tells_other reads (s.BadTrace file fault) meant most other tells = most
 
 -- what is told says so much in any case
@@ -50,7 +50,7 @@ told_at_most reads (s.BadInput file line kind) told = told
 told_at_most reads (s.TooGreat mon obj) told = told
 told_at_most reads s.NoMemory told = told
 told_at_most reads s.LinkFault told = told
-told_at_most reads (s.LinkDiffers mon direction place sent received) told = told
+told_at_most reads (s.LinkDiffers difference) told = told
 told_at_most reads (s.BadTrace file fault) told = told
 
 pub counts_at_most : {A : Type 0} (reads : FileReads) (answer : Result A Status) → Counts reads answer → FailedAtMostOnce reads
@@ -88,7 +88,7 @@ module _ {F : Type 0} (files : FilesOf F) (a b c : F) (none : NoneFailed (reads_
   told_behind (s.TooGreat mon obj) told = most_behind told
   told_behind s.NoMemory told = most_behind told
   told_behind s.LinkFault told = most_behind told
-  told_behind (s.LinkDiffers mon direction place sent received) told = most_behind told
+  told_behind (s.LinkDiffers difference) told = most_behind told
   told_behind (s.BadTrace file fault) told = most_behind told
 
   pub counts_behind : {A : Type 0} (answer : Result A Status) → Counts (reads_by files b c) answer → Counts (reads_by files a c) answer

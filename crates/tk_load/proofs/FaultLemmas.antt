@@ -15,7 +15,7 @@ tells_of s.Done fault meant says is = absurd says
 tells_of s.Usage fault meant says is = absurd says
 tells_of s.WriteFault fault meant says is = absurd says
 tells_of s.LinkFault fault meant says is = absurd says
-tells_of (s.LinkDiffers mon direction place sent received) fault meant says is = absurd says
+tells_of (s.LinkDiffers difference) fault meant says is = absurd says
 tells_of (s.BadTrace file wrong) fault meant says is = absurd says
 
 -- a fault is still that of a rule and those after it
@@ -28,7 +28,7 @@ tells_on s.Done meant next is = absurd is
 tells_on s.Usage meant next is = absurd is
 tells_on s.WriteFault meant next is = absurd is
 tells_on s.LinkFault meant next is = absurd is
-tells_on (s.LinkDiffers mon direction place sent received) meant next is = absurd is
+tells_on (s.LinkDiffers difference) meant next is = absurd is
 tells_on (s.BadTrace file fault) meant next is = absurd is
 
 -- what comes after a rule that gives something

@@ -2,13 +2,11 @@
 use Rattle.std.proofs.Common.{◌≡◌, ℕ, suc, List, [], ◌∷◌, ◌++◌, All, Option, Some, None, IfSome, option_map, Result, map, refl, ap, sym, subst, ◌∙◌, arith}
 use Rattle.std.proofs.lemmas.List.Elements.{All-head}
 use Rattle.tk_input.specs.Files.{HasRisen}
-use Rattle.tk_words.specs.Words.{MultiWords, SourceWords}
+use Rattle.tk_words.specs.Words.{SourceWords}
 use Rattle.tk_load.specs.Faults.{Fault}
 use Rattle.tk_load.specs.Input.{File, ReadWords}
-use Rattle.tk_load.specs.MultiInput.{AreMultiRead, LoadsMulti, ReadMulti, given_by, multi_input_of, multi_words_of}
 use Rattle.tk_load.specs.Reads.{AreRead, AreTaken, FileReads, Gave, IsRead, LoadsBy, Meets, log_of, words_of}
-use Rattle.tk_load.specs.Told.{AreTold, file_by, files_of, multi_files_of, multi_read_by, only, read_by}
-use Rattle.tk_load.specs.declared.multi.MultiInput.{MultiInput}
+use Rattle.tk_load.specs.Told.{AreTold, file_by, files_of, only, read_by}
 use Rattle.tk_load.specs.declared.status.Status.{Status}
 
 -- a read that did not fail gave what is told
@@ -17,23 +15,27 @@ gave_all told old new longest bytes None is stood gave = absurd (stood gave)
 gave_all told old new longest bytes (Some found) is stood gave = ap (λ (b : List ℕ). Some b) (subst (λ (t : Option (List ℕ)). AreTaken t longest found) is gave)
 
 module _ (reads : FileReads) (contents : List ℕ → List ℕ) where
-  file_told : (file : File) → reads.told file.name ≡ Some (contents file.name) → (HasRisen (reads.failed file.name) (reads.failed_then file.name) → ⊥) → IsRead reads file → file ≡ file_by contents file.name
+  -- a file with what it tells
+  pub file_told : (file : File) → reads.told file.name ≡ Some (contents file.name) → (HasRisen (reads.failed file.name) (reads.failed_then file.name) → ⊥) → IsRead reads file → file ≡ file_by contents file.name
   file_told file is stood read = ap (λ (c : Option (List ℕ)). record { name = file.name; content = c }) (gave_all (reads.told file.name) (reads.failed file.name) (reads.failed_then file.name) (reads.longest file.name) (contents file.name) file.content is stood read)
 
-  abbrev Told : List ℕ → Type 0
+  -- what a file tells
+  abbrev pub Told : List ℕ → Type 0
   Told name = reads.told name ≡ Some (contents name)
 
-  abbrev Stands : List ℕ → Type 0
+  -- no read of a file failed
+  abbrev pub Stands : List ℕ → Type 0
   Stands name = HasRisen (reads.failed name) (reads.failed_then name) → ⊥
 
-  tail_of : (P : List ℕ → Type 0) (name : List ℕ) (rest : List (List ℕ)) → All P (name ∷ rest) → All P rest
+  -- what holds of all holds behind the first
+  pub tail_of : (P : List ℕ → Type 0) (name : List ℕ) (rest : List (List ℕ)) → All P (name ∷ rest) → All P rest
   tail_of P name rest all = λ k d within. all (suc k) d (omega arith)
 
   abbrev by : List (ℕ × List ℕ) → List (ℕ × File)
   by logs = map (λ log. (log.0, file_by contents log.1)) logs
 
   -- each log, and what comes behind them
-  logs_told : (logs : List (ℕ × File)) (rest : List (List ℕ)) → All Told (map (λ log. log.1) (map log_of logs) ++ rest) → All Stands (map (λ log. log.1) (map log_of logs) ++ rest)
+  pub logs_told : (logs : List (ℕ × File)) (rest : List (List ℕ)) → All Told (map (λ log. log.1) (map log_of logs) ++ rest) → All Stands (map (λ log. log.1) (map log_of logs) ++ rest)
       → All (λ (log : ℕ × File). IsRead reads log.1) logs → (logs ≡ by (map log_of logs)) × All Told rest × All Stands rest
   logs_told [] rest is stand read = (refl, is, stand)
   logs_told (log ∷ logs) rest is stand read =
@@ -42,7 +44,8 @@ module _ (reads : FileReads) (contents : List ℕ → List ℕ) where
       let more = logs_told logs rest (tail_of Told log.1.name names is) (tail_of Stands log.1.name names stand) (λ k d within. read (suc k) d (omega arith)) in
       (ap (λ (f : File). (log.0, f) ∷ logs) file ∙ ap (λ (l : List (ℕ × File)). (log.0, file_by contents log.1.name) ∷ l) more.0, more.1, more.2)
 
-  order_told : (order : Option File) → All Told (only (option_map (λ f. f.name) order)) → All Stands (only (option_map (λ f. f.name) order)) → IfSome order (IsRead reads)
+  -- the order, where there is one
+  pub order_told : (order : Option File) → All Told (only (option_map (λ f. f.name) order)) → All Stands (only (option_map (λ f. f.name) order)) → IfSome order (IsRead reads)
       → order ≡ option_map (file_by contents) (option_map (λ f. f.name) order)
   order_told None is stand read = refl
   order_told (Some file) is stand read = ap (λ (f : File). Some f) (file_told file (All-head Told file.name [] is) (All-head Stands file.name [] stand) read)
@@ -70,34 +73,3 @@ module _ (reads : FileReads) (contents : List ℕ → List ℕ) where
   pub meant_as_told : {A : Type 0} (meant : ReadWords → Result A Fault) (words : SourceWords) (answer : Result A Status) → AreTold reads contents (files_of words) → LoadsBy meant reads words answer
       → Meets (λ (input : A). input) (meant (read_by contents words)) answer
   meant_as_told {A} meant words answer are loads = subst (λ (r : ReadWords). Meets (λ (input : A). input) (meant r) answer) (of_words words loads.read loads.are_read.same are loads.are_read) loads.meets
-
-  -- ---- several queries
-
-  abbrev multi_with : File → File → Option File → List (ℕ × File) → ReadMulti
-  multi_with objects queries order logs = record { objects = objects; queries = queries; order = order; logs = logs }
-
-  all_queries_told : (read : ReadMulti) → AreTold reads contents (multi_files_of (multi_words_of read)) → AreMultiRead reads (multi_words_of read) read → read ≡ multi_read_by contents (multi_words_of read)
-  all_queries_told read are given =
-      let last = only (option_map (λ (f : File). f.name) read.order) in
-      let names = map (λ (l : ℕ × List ℕ). l.1) (map log_of read.logs) ++ last in
-      let behind = read.queries.name ∷ names in
-      let told = tail_of Told read.objects.name behind are.content in
-      let stand = tail_of Stands read.objects.name behind are.unfailed in
-      let objects = file_told read.objects (All-head Told read.objects.name behind are.content) (All-head Stands read.objects.name behind are.unfailed) given.objects in
-      let queries = file_told read.queries (All-head Told read.queries.name names told) (All-head Stands read.queries.name names stand) given.queries in
-      let logs = logs_told read.logs last (tail_of Told read.queries.name names told) (tail_of Stands read.queries.name names stand) given.logs in
-      let order = order_told read.order logs.1 logs.2 given.order in
-      ap (λ (f : File). multi_with f read.queries read.order read.logs) objects
-      ∙ ap (λ (f : File). multi_with (file_by contents read.objects.name) f read.order read.logs) queries
-      ∙ ap (λ (o : Option File). multi_with (file_by contents read.objects.name) (file_by contents read.queries.name) o read.logs) order
-      ∙ ap (λ (l : List (ℕ × File)). multi_with (file_by contents read.objects.name) (file_by contents read.queries.name) (option_map (file_by contents) (option_map (λ (f : File). f.name) read.order)) l) logs.0
-
-  of_queries : (words : MultiWords) (read : ReadMulti) → multi_words_of read ≡ words → AreTold reads contents (multi_files_of words) → AreMultiRead reads words read → read ≡ multi_read_by contents words
-  of_queries words read same are given =
-      subst (λ (w : MultiWords). read ≡ multi_read_by contents w) same
-      (all_queries_told read (subst (λ (w : MultiWords). AreTold reads contents (multi_files_of w)) (sym same) are)
-      (record { same = refl; objects = given.objects; queries = given.queries; logs = given.logs; order = given.order }))
-
-  pub queries_as_told : (words : MultiWords) (answer : Result MultiInput Status) → AreTold reads contents (multi_files_of words) → LoadsMulti reads words answer
-      → Meets given_by (multi_input_of (multi_read_by contents words)) answer
-  queries_as_told words answer are loads = subst (λ (r : ReadMulti). Meets given_by (multi_input_of r) answer) (of_queries words loads.read loads.are_read.same are loads.are_read) loads.meets

@@ -306,5 +306,5 @@ unread_is_lost reads words (s.TooGreat mon obj) loads = tt
 unread_is_lost reads words s.WriteFault loads = tt
 unread_is_lost reads words s.NoMemory loads = tt
 unread_is_lost reads words s.LinkFault loads = tt
-unread_is_lost reads words (s.LinkDiffers mon direction place sent received) loads = tt
+unread_is_lost reads words (s.LinkDiffers difference) loads = tt
 unread_is_lost reads words (s.BadTrace file fault) loads = tt

@@ -22,7 +22,7 @@ use Rattle.tk_load.specs.Windowed.{IsTicked, IsWindowedOver, ticked_row, ticked_
 use Rattle.tk_load.specs.declared.basis.Basis.{Basis}
 use Rattle.tk_load.specs.declared.changes.Together.{Together}
 use Rattle.tk_load.specs.declared.settings.Limits.{Limits}
-use Rattle.tk_trace.proofs.NameLemmas.{ok_is, then_is}
+use Rattle.tk_input.proofs.CatalogLemmas.{ok_is, then_is}
 
 -- ---- what rules that were passed gave
 

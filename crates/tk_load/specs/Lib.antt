@@ -1,14 +1,10 @@
 pub mod Batch
 pub mod Faults
-pub mod Generated
 pub mod Input
 pub mod Laws
-pub mod MultiInput
 pub mod Reads
-pub mod SessionInput
 pub mod Status
 pub mod Surroundings
 pub mod Told
-pub mod Traced
 pub mod Whole
 pub mod Windowed

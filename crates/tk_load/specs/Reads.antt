@@ -84,7 +84,7 @@ Tells s.Done meant = ⊥
 Tells s.Usage meant = ⊥
 Tells s.WriteFault meant = ⊥
 Tells s.LinkFault meant = ⊥
-Tells (s.LinkDiffers mon direction place sent received) meant = ⊥
+Tells (s.LinkDiffers difference) meant = ⊥
 Tells (s.BadTrace file fault) meant = ⊥
 
 -- the same of a fault that there is
@@ -97,7 +97,7 @@ Says s.Done fault = ⊥
 Says s.Usage fault = ⊥
 Says s.WriteFault fault = ⊥
 Says s.LinkFault fault = ⊥
-Says (s.LinkDiffers mon direction place sent received) fault = ⊥
+Says (s.LinkDiffers difference) fault = ⊥
 Says (s.BadTrace file wrong) fault = ⊥
 
 -- what is answered is what is meant, or its fault is told
@@ -169,7 +169,7 @@ FailsAsTold reads (s.BadInput file line kind) = FailedAtMostOnce reads
 FailsAsTold reads (s.TooGreat mon obj) = FailedAtMostOnce reads
 FailsAsTold reads s.NoMemory = FailedAtMostOnce reads
 FailsAsTold reads s.LinkFault = FailedAtMostOnce reads
-FailsAsTold reads (s.LinkDiffers mon direction place sent received) = FailedAtMostOnce reads
+FailsAsTold reads (s.LinkDiffers difference) = FailedAtMostOnce reads
 FailsAsTold reads (s.BadTrace file fault) = FailedAtMostOnce reads
 
 -- the same of an answer: none failed where there is no fault

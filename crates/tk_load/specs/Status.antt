@@ -1,8 +1,9 @@
 -- What is told of a status: the number with which the program ends, and the line on standard error.
 use Rattle.std.specs.Prelude.{ℕ, ◌++◌, nat_lt, if◌then◌else◌, List, [], ◌∷◌, codes}
 use Rattle.std.specs.Fmt.{decimal}
-use Rattle.tk_story.specs.declared.ends.join_fault.Direction.{Direction}
-use Rattle.tk_story.specs.declared.ends.join_fault.Direction.TheVariants.{DownLink, UpLink}
+use Rattle.tk_story.specs.declared.ends.difference.Difference.{Difference}
+use Rattle.tk_story.specs.declared.ends.difference.Direction.{Direction}
+use Rattle.tk_story.specs.declared.ends.difference.Direction.TheVariants.{DownLink, UpLink}
 use Rattle.tk_load.specs.declared.status.InputKind.{InputKind}
 use Rattle.tk_load.specs.declared.status.InputKind.TheVariants as k
 use Rattle.tk_load.specs.declared.status.Status.{Status}
@@ -18,7 +19,7 @@ number_of (s.TooGreat mon obj) = 5
 number_of s.WriteFault = 6
 number_of s.NoMemory = 7
 number_of s.LinkFault = 8
-number_of (s.LinkDiffers mon direction place sent received) = 9
+number_of (s.LinkDiffers difference) = 9
 number_of (s.BadTrace file fault) = 11
 
 -- what is wrong with an input, in words
@@ -60,8 +61,8 @@ abbrev pub great_text : ℕ → ℕ → List ℕ
 great_text mon object = codes "monitor " ++ (decimal mon ++ (codes ": object " ++ (decimal object ++ codes ": the changes pass the limit")))
 
 -- the first frame of a link that differs
-abbrev pub differs_text : ℕ → Direction → ℕ → List ℕ
-differs_text mon direction place = codes "monitor " ++ (decimal mon ++ (link_text direction ++ (decimal place ++ codes " differs")))
+abbrev pub differs_text : Difference → List ℕ
+differs_text found = codes "monitor " ++ (decimal found.mon.0 ++ (link_text found.direction ++ (decimal found.place ++ codes " differs")))
 
 -- the line on standard error, without its line feed; nothing where the run is done
 abbrev pub fault_text : Status → List ℕ
@@ -73,5 +74,5 @@ fault_text (s.TooGreat mon obj) = codes "topk: " ++ great_text mon.0 obj.0
 fault_text s.WriteFault = codes "topk: the output cannot be written"
 fault_text s.NoMemory = codes "topk: out of memory"
 fault_text s.LinkFault = codes "topk: a link failed"
-fault_text (s.LinkDiffers mon direction place sent received) = codes "topk: " ++ differs_text mon.0 direction place
+fault_text (s.LinkDiffers difference) = codes "topk: " ++ differs_text difference
 fault_text (s.BadTrace file fault) = codes "topk: " ++ (file.items ++ codes ": not a legal trace")

@@ -1,8 +1,7 @@
 -- The input over files that tell what they hold.
 use Rattle.std.specs.Prelude.{ℕ, ◌≡◌, ◌≤◌, List, [], ◌∷◌, ◌++◌, length, map, Option, Some, None, option_map, All, Contains}
-use Rattle.tk_words.specs.Words.{MultiWords, SourceWords}
+use Rattle.tk_words.specs.Words.{SourceWords}
 use Rattle.tk_load.specs.Input.{File, ReadWords}
-use Rattle.tk_load.specs.MultiInput.{ReadMulti}
 use Rattle.tk_load.specs.Reads.{FileReads, HasFailed}
 use Rattle.tk_load.specs.declared.status.Status.{Status}
 use Rattle.tk_load.specs.declared.status.Status.TheVariants as s
@@ -32,19 +31,6 @@ only (Some name) = name ∷ []
 abbrev pub files_of : SourceWords → List (List ℕ)
 files_of words = words.objects ∷ (map (λ log. log.1) words.logs ++ only words.order)
 
--- the words of several queries with what stands under the names of their files
-abbrev pub multi_read_by : (List ℕ → List ℕ) → MultiWords → ReadMulti
-multi_read_by contents words = record {
-  objects = file_by contents words.objects;
-  queries = file_by contents words.queries;
-  order = option_map (file_by contents) words.order;
-  logs = map (λ log. (log.0, file_by contents log.1)) words.logs;
-}
-
--- the files of these words, in the order of work
-abbrev pub multi_files_of : MultiWords → List (List ℕ)
-multi_files_of words = words.objects ∷ words.queries ∷ (map (λ log. log.1) words.logs ++ only words.order)
-
 -- each of these files tells what stands under its name, and no read of it failed
 pub record AreTold (reads : FileReads) (contents : List ℕ → List ℕ) (files : List (List ℕ)) : Type 0 where
   pub content : All (λ name. reads.told name ≡ Some (contents name)) files
@@ -66,5 +52,5 @@ IsCounted reads words (s.TooGreat mon obj) = Unit
 IsCounted reads words s.WriteFault = Unit
 IsCounted reads words s.NoMemory = Unit
 IsCounted reads words s.LinkFault = Unit
-IsCounted reads words (s.LinkDiffers mon direction place sent received) = Unit
+IsCounted reads words (s.LinkDiffers difference) = Unit
 IsCounted reads words (s.BadTrace file fault) = Unit

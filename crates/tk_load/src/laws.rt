@@ -1,9 +1,8 @@
 // What follows from how an input is loaded. Each function is there for its clause alone.
 ghost use Rattle.std.specs.Prelude.{Err};
 ghost use Rattle.tk_load.specs.Input.{input_of};
-ghost use Rattle.tk_load.specs.Laws.{RightTraceIsRead, ValidSetIsValidForItsWindows, WhatIsToldIsMeant, WhatIsToldOfQueriesIsMeant, WindowGoesOverTheLogs};
+ghost use Rattle.tk_load.specs.Laws.{ValidSetIsValidForItsWindows, WhatIsToldIsMeant, WindowGoesOverTheLogs};
 ghost use Rattle.tk_load.specs.Reads.{FileReads, Loads};
-ghost use Rattle.tk_load.specs.SessionInput.{session_input_of};
 ghost use Rattle.tk_load.specs.Told.{IsCounted};
 ghost use Rattle.tk_load.specs.declared.status.Status.{Status};
 ghost use Rattle.tk_words.specs.Words.{SourceWords};
@@ -13,21 +12,13 @@ use tk_window::a_valid_set_is_valid_for_the_windows;
 /// Where the files tell what they hold and no read fails, what is answered is the input of the words and the contents,
 /// or its first fault.
 pub fn what_is_told_is_meant()
-    ensures replay { WhatIsToldIsMeant input_of }
-    ensures sessions { WhatIsToldIsMeant session_input_of }
-    ensures queries { WhatIsToldOfQueriesIsMeant }
+    ensures { WhatIsToldIsMeant input_of }
 {}
 
 /// A file that is told to be unreadable is one of the words, and its faults rose.
 pub fn an_unreadable_file_is_counted()
     ensures { (reads : FileReads) (words : SourceWords) (status : Status) → Loads reads words (Err status)
         → IsCounted reads words status }
-{}
-
-/// Where a file tells some bytes, at most 64 MiB, with which nothing is wrong, and no read of it fails, its trace is answered,
-/// or no memory was found.
-pub fn a_right_trace_is_read()
-    ensures { RightTraceIsRead }
 {}
 
 /// The window that the words ask for goes over the logs of their input: these are the files' ticks, expanded.

@@ -13,8 +13,10 @@ ghost use Rattle.tk_window.specs.Ticks.{AreOver, ticked_of};
 
 use crate::status::{InputKind, Status};
 use std::alloc::Global;
-use tk_input::{Catalog, CatalogFault, FileFault, Files, Order, OrderFault, Part, PartFault};
-use tk_trace::a_catalogue_is_of_its_names;
+use tk_input::{
+    Catalog, CatalogFault, FileFault, Files, Order, OrderFault, Part, PartFault,
+    a_catalogue_is_of_its_names,
+};
 use tk_window::{ExpandFault, Expanded, Ticked, expand};
 
 /// A refused file. Where even its name finds no memory, that is the answer.

@@ -3,9 +3,8 @@ ghost use Rattle.tk_load.specs.Status.{number_of};
 
 use std::alloc::{AllocError, AllocFailed};
 use tk_base::{Mon, NoMemory, Obj};
-use tk_frames::Frame;
-use tk_story::{Direction, Received};
-use tk_trace::TraceFault;
+use tk_story::Difference;
+use tk_verify::TraceFault;
 
 /// How a run ended.
 #[derive(Debug, Drop, PartialEq)]
@@ -35,14 +34,8 @@ pub enum Status {
     NoMemory,
     /// A link of a live run failed or ended, or its net failed.
     LinkFault,
-    /// At this place from 0 of a link of a live run something else was received than what was sent, or where nothing was.
-    LinkDiffers {
-        mon: Mon,
-        direction: Direction,
-        place: u64,
-        sent: Option<Frame>,
-        received: Received,
-    },
+    /// What was received on a link of a live run is not what was sent.
+    LinkDiffers(Difference),
     /// A file is no trace of a legal run to its end, by the first fault that there is.
     BadTrace {
         file: Vec<u8>,
@@ -116,7 +109,7 @@ impl Status {
             Status::WriteFault => 6,
             Status::NoMemory => 7,
             Status::LinkFault => 8,
-            Status::LinkDiffers { .. } => 9,
+            Status::LinkDiffers(_) => 9,
             Status::BadTrace { .. } => 11,
         }
     }

@@ -6,7 +6,7 @@ use crate::status::{InputKind, Status};
 use itoa::Buffer;
 use std::alloc::{AllocError, Global};
 use tk_base::{Mon, NoMemory};
-use tk_story::Direction;
+use tk_story::{Difference, Direction};
 
 /// Appends the digits of a number.
 pub fn push_number(line: &mut Vec<u8>, number: u32) -> Result<(), AllocError>
@@ -127,17 +127,12 @@ fn push_place(line: &mut Vec<u8>, place: u64) -> Result<(), AllocError>
     Ok(())
 }
 
-fn push_differs(
-    line: &mut Vec<u8>,
-    mon: Mon,
-    direction: Direction,
-    place: u64,
-) -> Result<(), AllocError>
-    ensures { OnOk result (line.new.items ≡ line.old.items ++ differs_text mon.0 direction place) }
+fn push_differs(line: &mut Vec<u8>, difference: &Difference) -> Result<(), AllocError>
+    ensures { OnOk result (line.new.items ≡ line.old.items ++ differs_text difference.now) }
 {
-    push_monitor(line, b"monitor ", mon)?;
-    push_link(line, direction)?;
-    push_place(line, place)?;
+    push_monitor(line, b"monitor ", difference.mon)?;
+    push_link(line, difference.direction)?;
+    push_place(line, difference.place)?;
     Ok(())
 }
 
@@ -159,12 +154,7 @@ pub fn fault_line(alloc: Global, status: &Status) -> Result<Vec<u8>, NoMemory>
         Status::WriteFault => text.extend_from_slice(b"the output cannot be written")?,
         Status::NoMemory => text.extend_from_slice(b"out of memory")?,
         Status::LinkFault => text.extend_from_slice(b"a link failed")?,
-        Status::LinkDiffers {
-            mon,
-            direction,
-            place,
-            ..
-        } => push_differs(&mut text, *mon, *direction, *place)?,
+        Status::LinkDiffers(difference) => push_differs(&mut text, difference)?,
         Status::BadTrace { file, .. } => push_of_file(&mut text, file, b": not a legal trace")?,
     }
     Ok(text)

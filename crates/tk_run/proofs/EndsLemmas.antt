@@ -25,5 +25,5 @@ not_refused words asked (s.BadInput file line kind) some none = absurd none
 not_refused words asked (s.TooGreat mon obj) some none = absurd none
 not_refused words asked s.WriteFault some none = absurd none
 not_refused words asked s.LinkFault some none = absurd none
-not_refused words asked (s.LinkDiffers mon direction place sent received) some none = absurd none
+not_refused words asked (s.LinkDiffers difference) some none = absurd none
 not_refused words asked (s.BadTrace file fault) some none = absurd none

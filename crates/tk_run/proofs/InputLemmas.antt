@@ -3,14 +3,16 @@ use Rattle.std.proofs.Common.{◌≡◌, ℕ, true, false, List, Some, Result, E
 use Rattle.tk_words.specs.Words.{Asked, words_of}
 use Rattle.tk_words.specs.Words.Asked.{Checks, Generates, Lives, Queries, Replays, Restarts, Traces}
 use Rattle.tk_load.specs.Faults.{Fault}
-use Rattle.tk_load.specs.Generated.{generated_of}
+use Rattle.tk_commands.specs.Generated.{generated_of}
 use Rattle.tk_load.specs.Input.{input_of}
-use Rattle.tk_load.specs.Laws.{RightTraceIsRead, WhatIsToldIsMeant, WhatIsToldOfQueriesIsMeant}
-use Rattle.tk_load.specs.MultiInput.{LoadsMulti, multi_input_of}
+use Rattle.tk_load.specs.Laws.{WhatIsToldIsMeant}
+use Rattle.tk_commands.specs.Laws.{RightTraceIsRead, WhatIsToldOfQueriesIsMeant}
+use Rattle.tk_commands.specs.MultiInput.{LoadsMulti, multi_input_of}
 use Rattle.tk_load.specs.Reads.{Loads, Meets, Tells}
-use Rattle.tk_load.specs.SessionInput.{LoadsSessions, session_input_of}
-use Rattle.tk_load.specs.Told.{multi_read_by, read_by}
-use Rattle.tk_load.specs.Traced.{LoadsTrace}
+use Rattle.tk_commands.specs.SessionInput.{LoadsSessions, session_input_of}
+use Rattle.tk_load.specs.Told.{read_by}
+use Rattle.tk_commands.specs.Told.{multi_read_by}
+use Rattle.tk_commands.specs.Traced.{LoadsTrace}
 use Rattle.tk_load.specs.declared.input.Input.{Input}
 use Rattle.tk_load.specs.declared.status.Status.{Status}
 use Rattle.tk_load.specs.declared.status.Status.TheVariants as s
@@ -34,7 +36,7 @@ meant_is_run meant s.Done ok tells = absurd tells
 meant_is_run meant s.Usage ok tells = absurd tells
 meant_is_run meant s.WriteFault ok tells = absurd tells
 meant_is_run meant s.LinkFault ok tells = absurd tells
-meant_is_run meant (s.LinkDiffers mon direction place sent received) ok tells = absurd tells
+meant_is_run meant (s.LinkDiffers difference) ok tells = absurd tells
 meant_is_run meant (s.BadTrace file fault) ok tells = absurd tells
 
 -- a run whose input has no fault, and whose output was written
@@ -49,7 +51,7 @@ ended gives IsOf text output given s.Done written ends = tt
 ended gives IsOf text output given s.Usage written ends = absurd ends
 ended gives IsOf text output given s.WriteFault written ends = absurd (written refl)
 ended gives IsOf text output given s.LinkFault written ends = absurd ends
-ended gives IsOf text output given (s.LinkDiffers mon direction place sent received) written ends = absurd ends
+ended gives IsOf text output given (s.LinkDiffers difference) written ends = absurd ends
 
 memory_is_free : (status : Status) → status ≡ s.NoMemory → IsDone status
 memory_is_free status is = subst IsDone (sym is) tt

@@ -10,7 +10,7 @@ use Rattle.std.proofs.lemmas.Slice.Zip.{get_or-zip, length-zip}
 use Rattle.tk_base.specs.Settings.{Setup}
 use Rattle.tk_base.proofs.ListLemmas.{there_at}
 use Rattle.tk_input.specs.Logs.{LogSet}
-use Rattle.tk_load.specs.declared.multi.MultiInput.{MultiInput}
+use Rattle.tk_commands.specs.declared.multi.MultiInput.{MultiInput}
 use Rattle.tk_multi.specs.Alone.{AreOfOneSize}
 use Rattle.tk_multi.specs.Answers.{AreAnswers, events_in}
 use Rattle.tk_multi.specs.Queries.{QueryView, entry_at}
@@ -19,7 +19,7 @@ use Rattle.tk_multi.specs.declared.event.MultiEvent.{MultiEvent}
 use Rattle.tk_story.specs.Kept.{KeptStory}
 use Rattle.tk_story.specs.Moments.{IsOver}
 use Rattle.tk_story.specs.Story.{IsStory, StoryView}
-use Rattle.tk_verify.specs.Headline.{IsSound}
+use Rattle.tk_story.specs.Headline.{IsSound}
 use Rattle.tk_run.specs.Multi.{AreAnswersOf}
 
 -- one more text

@@ -13,7 +13,7 @@ use Rattle.tk_window.specs.TickEnds.{ticks_at}
 use Rattle.tk_ledger.specs.Text.{ticks_text, is_tuned, line_with, lines_by, lines_of, text_of, ticked_text_of}
 use Rattle.tk_load.specs.Surroundings.{Output}
 use Rattle.tk_story.specs.Story.{StoryView}
-use Rattle.tk_verify.specs.Headline.{ArePublishedValid}
+use Rattle.tk_story.specs.Headline.{ArePublishedValid}
 use Rattle.tk_words.specs.Words.{Asked}
 use Rattle.tk_run.specs.Ends.{served, text_with, yes_text}
 use Rattle.tk_run.specs.Printed.{PrintsValidSets, TellsAValidSet, ledger_behind}

@@ -6,11 +6,11 @@ use Rattle.tk_words.specs.Words.{Asked, GenerateWords, words_of}
 use Rattle.tk_words.specs.Words.Asked.{Checks, Generates, Lives, Queries, Replays, Restarts, Traces}
 use Rattle.tk_words.specs.declared.verb.Verb.{Verb}
 use Rattle.tk_words.specs.declared.verb.Verb.TheVariants as v
-use Rattle.tk_load.specs.Generated.{generated_of}
-use Rattle.tk_load.specs.MultiInput.{LoadsMulti}
+use Rattle.tk_commands.specs.Generated.{generated_of}
+use Rattle.tk_commands.specs.MultiInput.{LoadsMulti}
 use Rattle.tk_load.specs.Reads.{Loads, Meets}
-use Rattle.tk_load.specs.SessionInput.{LoadsSessions}
-use Rattle.tk_load.specs.Traced.{LoadsTrace}
+use Rattle.tk_commands.specs.SessionInput.{LoadsSessions}
+use Rattle.tk_commands.specs.Traced.{LoadsTrace}
 use Rattle.tk_load.specs.declared.input.Input.{Input}
 use Rattle.tk_load.specs.declared.status.Status.{Status}
 use Rattle.tk_load.specs.declared.status.Status.TheVariants as s
@@ -108,7 +108,7 @@ Ends gives IsOf text output (s.TooGreat mon obj) = gives (Err (s.TooGreat mon ob
 Ends gives IsOf text output s.WriteFault = IsCutShort gives IsOf text output
 Ends gives IsOf text output s.NoMemory = IsUnwritten output ⊎ IsCutShort gives IsOf text output
 Ends gives IsOf text output s.LinkFault = ⊥
-Ends gives IsOf text output (s.LinkDiffers mon direction place sent received) = ⊥
+Ends gives IsOf text output (s.LinkDiffers difference) = ⊥
 Ends gives IsOf text output (s.BadTrace file fault) = gives (Err (s.BadTrace file fault)) × IsUnwritten output
 
 -- ---- of the words of a command
@@ -198,7 +198,7 @@ IsRefused words (s.BadInput file line kind) = ⊥
 IsRefused words (s.TooGreat mon obj) = ⊥
 IsRefused words s.WriteFault = ⊥
 IsRefused words s.LinkFault = ⊥
-IsRefused words (s.LinkDiffers mon direction place sent received) = ⊥
+IsRefused words (s.LinkDiffers difference) = ⊥
 IsRefused words (s.BadTrace file fault) = ⊥
 
 -- how words end
@@ -215,5 +215,5 @@ IsDone (s.BadInput file line kind) = ⊥
 IsDone (s.TooGreat mon obj) = ⊥
 IsDone s.WriteFault = ⊥
 IsDone s.LinkFault = ⊥
-IsDone (s.LinkDiffers mon direction place sent received) = ⊥
+IsDone (s.LinkDiffers difference) = ⊥
 IsDone (s.BadTrace file fault) = ⊥

@@ -5,23 +5,24 @@ use Rattle.tk_journal.specs.declared.noted.Noted.TheVariants as n
 use Rattle.tk_journal.specs.declared.publication.Publication.{Publication}
 use Rattle.tk_story.specs.Kept.{KeptStory}
 use Rattle.tk_trace.specs.Checked.{Faults}
-use Rattle.tk_trace.specs.declared.trace_fault.TraceFault.{TraceFault}
+use Rattle.tk_verify.specs.declared.trace_fault.TraceFault.{TraceFault}
 use Rattle.tk_window.specs.TickEnds.{ticks_at}
 use Rattle.tk_window.specs.Validity.{IsWindowValid}
 use Rattle.tk_words.specs.Words.{Asked, words_of}
 use Rattle.tk_words.specs.Words.Asked.{Checks, Generates, Lives, Queries, Replays, Restarts, Traces}
-use Rattle.tk_load.specs.Generated.{generated_of}
+use Rattle.tk_commands.specs.Generated.{generated_of}
 use Rattle.tk_load.specs.Input.{ReadWords, input_of}
-use Rattle.tk_load.specs.MultiInput.{multi_input_of}
+use Rattle.tk_commands.specs.MultiInput.{multi_input_of}
 use Rattle.tk_load.specs.Reads.{FileReads}
-use Rattle.tk_load.specs.SessionInput.{session_input_of}
-use Rattle.tk_load.specs.Told.{AreTold, IsTold, files_of, multi_files_of, multi_read_by, read_by}
+use Rattle.tk_commands.specs.SessionInput.{session_input_of}
+use Rattle.tk_load.specs.Told.{AreTold, IsTold, files_of, read_by}
+use Rattle.tk_commands.specs.Told.{multi_files_of, multi_read_by}
 use Rattle.tk_load.specs.Windowed.{ticked_rows}
 use Rattle.tk_load.specs.declared.input.Input.{Input}
 use Rattle.tk_load.specs.declared.status.Status.{Status}
 use Rattle.tk_load.specs.declared.status.Status.TheVariants.{WriteFault}
 use Rattle.tk_run.specs.Ends.{EndsWords, IsDone, IsStoryOf, IsTracedOf, trace_text}
-use Rattle.tk_verify.specs.Headline.{IsSound}
+use Rattle.tk_story.specs.Headline.{IsSound}
 use Rattle.tk_load.specs.Surroundings.{Surroundings}
 
 -- nothing is wrong with the bytes of a trace

@@ -7,7 +7,7 @@ use Rattle.tk_journal.specs.declared.noted.Noted.{Noted}
 use Rattle.tk_journal.specs.declared.noted.Noted.TheVariants as n
 use Rattle.tk_journal.specs.declared.publication.Publication.{Publication}
 use Rattle.tk_ledger.specs.Text.{text_of}
-use Rattle.tk_load.specs.declared.multi.MultiInput.{MultiInput}
+use Rattle.tk_commands.specs.declared.multi.MultiInput.{MultiInput}
 use Rattle.tk_multi.specs.Alone.{AreOfOneSize, alones_of}
 use Rattle.tk_multi.specs.Answers.{AreAnswers, IsAnswer, events_in}
 use Rattle.tk_multi.specs.Projection.{watch_of}
@@ -16,7 +16,7 @@ use Rattle.tk_multi.specs.Watched.{HoldsOverTheLogs}
 use Rattle.tk_multi.specs.declared.alone.Alone.{Alone}
 use Rattle.tk_multi.specs.declared.event.MultiEvent.{MultiEvent}
 use Rattle.tk_story.specs.Kept.{KeptStory}
-use Rattle.tk_verify.specs.Headline.{IsSound}
+use Rattle.tk_story.specs.Headline.{IsSound}
 
 -- the stories of an input: one answer for each query, in order, and for each all of the headline holds
 pub record AreAnswersOf (input : MultiInput) (stories : List KeptStory) : Type 0 where

@@ -24,5 +24,5 @@ faults_told (s.BadInput file line kind) faults = faults
 faults_told (s.TooGreat mon obj) faults = faults
 faults_told s.NoMemory faults = faults
 faults_told s.LinkFault faults = faults
-faults_told (s.LinkDiffers mon direction place sent received) faults = faults
+faults_told (s.LinkDiffers difference) faults = faults
 faults_told (s.BadTrace file fault) faults = faults

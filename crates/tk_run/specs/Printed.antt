@@ -10,13 +10,13 @@ use Rattle.tk_ledger.specs.Ledger.{ledger_of}
 use Rattle.tk_ledger.specs.Text.{is_tuned, ledger_text, ticks_text}
 use Rattle.tk_load.specs.Reads.{Loads}
 use Rattle.tk_load.specs.Surroundings.{Output, Surroundings}
-use Rattle.tk_load.specs.Traced.{LoadsTrace}
+use Rattle.tk_commands.specs.Traced.{LoadsTrace}
 use Rattle.tk_load.specs.declared.input.Input.{Input}
 use Rattle.tk_story.specs.Kept.{KeptStory}
 use Rattle.tk_story.specs.Moments.{IsPublishedValid}
 use Rattle.tk_story.specs.Story.{StoryView}
 use Rattle.tk_trace.specs.declared.trace.Trace.{Trace}
-use Rattle.tk_verify.specs.Headline.{IsSound}
+use Rattle.tk_story.specs.Headline.{IsSound}
 use Rattle.tk_window.specs.TickEnds.{ticks_at}
 use Rattle.tk_words.specs.Words.{ReplayWords, words_of}
 use Rattle.tk_words.specs.Words.Asked.{Checks, Replays}

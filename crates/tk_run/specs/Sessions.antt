@@ -6,8 +6,8 @@ use Rattle.tk_session.specs.Order.{lines_of}
 use Rattle.tk_session.specs.declared.session_line.SessionLine.{SessionLine}
 use Rattle.tk_story.specs.Kept.{KeptStory}
 use Rattle.tk_ledger.specs.Text.{text_of}
-use Rattle.tk_verify.specs.Headline.{IsSound, IsSoundSoFar}
-use Rattle.tk_load.specs.declared.sessions.SessionInput.{SessionInput}
+use Rattle.tk_story.specs.Headline.{IsSound, IsSoundSoFar}
+use Rattle.tk_commands.specs.declared.sessions.SessionInput.{SessionInput}
 
 -- the events and restarts of an order, where there is one
 abbrev pub lines_in : Option (List (ℕ × SessionLine)) → List SessionLine

@@ -6,7 +6,7 @@ ghost use Rattle.tk_ledger.specs.Printing.{print_faults};
 ghost use Rattle.tk_load.specs.Reads.{AreKept, FailsAsTold, reads_by};
 ghost use Rattle.tk_load.specs.declared.status.Status.TheVariants.{Done};
 ghost use Rattle.tk_run.specs.Ends.{EndsAsked, RunsAsked, yes_text};
-ghost use Rattle.tk_verify.specs.Headline.{IsSound};
+ghost use Rattle.tk_story.specs.Headline.{IsSound};
 ghost use Rattle.tk_run.specs.Outcome.{IfDone, IsWithout, faults_told};
 ghost use Rattle.tk_load.specs.Surroundings.{met_by};
 ghost use Rattle.tk_words.specs.Words.Asked.{Checks};
@@ -15,10 +15,11 @@ use crate::outcome::Outcome;
 use std::alloc::Global;
 use tk_input::{Catalog, Files, Sink};
 use tk_ledger::{PrintFault, print_sets};
-use tk_load::{Status, load_trace};
+use tk_commands::load_trace;
+use tk_load::Status;
 use tk_story::Story;
 use tk_trace::Trace;
-use tk_verify::a_finished_run_is_sound;
+use tk_story::a_finished_run_is_sound;
 
 /// Writes the sets that a run published, and that all of it is legal.
 fn print_yes<O: Sink>(

@@ -2,7 +2,7 @@ ghost use Rattle.std.specs.Prelude.{◌≡◌, IfSome};
 ghost use Rattle.tk_load.specs.declared.status.Status.TheVariants.{Done};
 ghost use Rattle.tk_run.specs.Ends.{EndsGenerated, RunsGenerated};
 ghost use Rattle.tk_run.specs.Outcome.{IfDone, IsWithout, faults_told};
-ghost use Rattle.tk_verify.specs.Headline.{IsSound};
+ghost use Rattle.tk_story.specs.Headline.{IsSound};
 ghost use Rattle.tk_load.specs.Surroundings.{output_by};
 ghost use Rattle.tk_words.specs.Asked.{asked_generate};
 
@@ -11,7 +11,8 @@ use crate::playing::{Played, story_of};
 use std::alloc::Global;
 use tk_input::Sink;
 use tk_ledger::{PrintFault, print_summary};
-use tk_load::{Status, make};
+use tk_commands::make;
+use tk_load::Status;
 use tk_words::{Carriage, Generate};
 
 /// Serves `gen`. Nothing is written before the story is over.

@@ -12,14 +12,14 @@ ghost use Rattle.tk_session.specs.Chain.{IsChainOf};
 ghost use Rattle.tk_session.specs.declared.session_line.SessionLine.{SessionLine};
 ghost use Rattle.tk_story.specs.Kept.{KeptStory};
 
+use tk_commands::{a_right_trace_is_read, what_single_commands_are_told_is_meant};
 use tk_load::{
-    a_right_trace_is_read, a_valid_set_is_valid_for_its_windows, a_window_goes_over_the_logs,
-    what_is_told_is_meant,
+    a_valid_set_is_valid_for_its_windows, a_window_goes_over_the_logs, what_is_told_is_meant,
 };
 use tk_multi::a_query_counts_what_the_logs_count;
 use tk_session::each_session_is_legal;
 use tk_trace::nothing_is_wrong_with_a_finished_run;
-use tk_verify::{a_finished_run_is_sound, a_story_is_sound_so_far};
+use tk_story::{a_finished_run_is_sound, a_story_is_sound_so_far};
 
 /// Each session of an order is sound as far as it went, and the last one is finished.
 pub fn sessions_are_sound()
@@ -42,6 +42,7 @@ pub fn an_input_is_run()
     ensures { InputIsRun }
 {
     what_is_told_is_meant();
+    what_single_commands_are_told_is_meant();
     a_right_trace_is_read();
 }
 

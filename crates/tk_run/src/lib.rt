@@ -26,4 +26,4 @@ pub use headline::{
 pub use outcome::Outcome;
 pub use serving::run;
 pub use tk_load::{InputKind, Status, fault_line};
-pub use tk_verify::{a_finished_run_is_sound, a_story_is_sound_so_far};
+pub use tk_story::{a_finished_run_is_sound, a_story_is_sound_so_far};

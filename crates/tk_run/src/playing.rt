@@ -1,7 +1,7 @@
 ghost use Rattle.std.specs.Prelude.{◌≡◌, IfOk, length};
 ghost use Rattle.tk_load.specs.Whole.{AreAgreed};
 ghost use Rattle.tk_run.specs.Ends.{IsStoryOf};
-ghost use Rattle.tk_verify.specs.Headline.{IsSound};
+ghost use Rattle.tk_story.specs.Headline.{IsSound};
 ghost use Rattle.tk_words.specs.Asked.{IsCarriage};
 
 use std::alloc::Global;
@@ -11,7 +11,7 @@ use tk_drain::{a_drive_is_reached, what_is_reached_runs};
 use tk_input::Catalog;
 use tk_load::Input;
 use tk_story::Story;
-use tk_verify::a_finished_run_is_sound;
+use tk_story::a_finished_run_is_sound;
 use tk_window::TickEnds;
 use tk_words::Carriage;
 

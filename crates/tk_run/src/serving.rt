@@ -3,7 +3,7 @@ ghost use Rattle.tk_load.specs.Reads.{AreKept, FailsAsTold, reads_by};
 ghost use Rattle.tk_load.specs.declared.status.Status.TheVariants.{Done, Usage};
 ghost use Rattle.tk_run.specs.Ends.{EndsWords, RunsWords, serves};
 ghost use Rattle.tk_words.specs.Words.{verb_of as verb_named_by};
-ghost use Rattle.tk_verify.specs.Headline.{IsSound};
+ghost use Rattle.tk_story.specs.Headline.{IsSound};
 ghost use Rattle.tk_run.specs.Outcome.{IfDone, IsWithout, faults_told};
 ghost use Rattle.tk_load.specs.Surroundings.{met_by};
 

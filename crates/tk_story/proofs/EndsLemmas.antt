@@ -15,7 +15,8 @@ use Rattle.std.proofs.Math.Seq.{take-append_seam}
 use Rattle.tk_base.specs.declared.ids.Mon.{Mon}
 use Rattle.tk_base.proofs.ListLemmas.{one_none, one_some, get_behind, take_next}
 use Rattle.tk_story.specs.Comparing.{AreTaken, Finds, IsDifference}
-use Rattle.tk_story.specs.declared.ends.join_fault.Direction.{Direction}
+use Rattle.tk_story.specs.declared.ends.difference.Difference.{Difference}
+use Rattle.tk_story.specs.declared.ends.difference.Direction.{Direction}
 use Rattle.tk_story.specs.declared.ends.join_fault.JoinFault.{JoinFault}
 use Rattle.tk_story.specs.declared.ends.join_fault.JoinFault.TheVariants.{Differs, NoMemory}
 use Rattle.tk_story.specs.Ends.{IsFirstDifference, IsOrdered, KeptLink, with_odd}
@@ -155,9 +156,8 @@ pub finds_difference : (mon : Mon) (direction : Direction) (place : ℕ) (next :
     → IfErr result (IsDifference mon direction place next received) → IsFirstDifference link place next received → Finds mon direction link result
 finds_difference mon direction place next received link (Ok done) never fault d = absurd (true≢false (sym never))
 finds_difference mon direction place next received link (Err NoMemory) never fault d = tt
-finds_difference mon direction place next received link (Err (Differs m x p s y)) never fault d =
-    let (mon_is, direction_is, place_is, sent_is, received_is) = fault in (
-      mon_is,
-      direction_is,
-      subst (λ k. IsFirstDifference link k s y) (sym place_is) (subst (λ q. IsFirstDifference link place q y) (sym sent_is) (subst (λ q. IsFirstDifference link place next q) (sym received_is) d)),
-    )
+finds_difference mon direction place next received link (Err (Differs found)) never fault d = (
+  ap (λ (f : Difference). f.mon) fault,
+  ap (λ (f : Difference). f.direction) fault,
+  subst (λ (f : Difference). IsFirstDifference link f.place f.sent f.received) (sym fault) d,
+)

@@ -28,8 +28,8 @@ use Rattle.tk_story.specs.Comparing.{AreTrailsLegal, Finds}
 use Rattle.tk_story.specs.Ends.{AreOfOneRun, AreOrdered, IsBefore, IsFirstOfAll, IsOrdered, KeptEnds, TellsDifference, as_made, down_link, joined, kept_by, link_at, made_for, odd_at, odd_from, trail_at, up_link, with_odd}
 use Rattle.tk_story.specs.Story.{AreHistories, IsStory, setup_of, trail_of}
 use Rattle.tk_story.specs.declared.ends.coord_end.CoordEnd.{CoordEnd}
-use Rattle.tk_story.specs.declared.ends.join_fault.Direction.{Direction}
-use Rattle.tk_story.specs.declared.ends.join_fault.Direction.TheVariants.{UpLink, DownLink}
+use Rattle.tk_story.specs.declared.ends.difference.Direction.{Direction}
+use Rattle.tk_story.specs.declared.ends.difference.Direction.TheVariants.{UpLink, DownLink}
 use Rattle.tk_story.specs.declared.ends.join_fault.JoinFault.{JoinFault}
 use Rattle.tk_story.specs.declared.ends.join_fault.JoinFault.TheVariants.{Differs, NoMemory}
 use Rattle.tk_story.specs.declared.ends.mon_end.MonEnd.{MonEnd}
@@ -71,9 +71,9 @@ ordered_before_down ends j m UpLink up before low less = elim (cases_lt m (j + 1
 
 pub tells_up : (ends : KeptEnds) (j : ℕ) (mon : Mon) (fault : JoinFault) → mon.0 ≡ j + 1 → j < ends.settings.monitors → AreBefore ends j → Finds mon UpLink (link_at ends (j + 1) UpLink) (Err fault) → TellsDifference ends fault
 tells_up ends j mon NoMemory is few before finds = tt
-tells_up ends j mon (Differs m d place sent received) is few before finds =
-    let number : m.0 ≡ j + 1 = ap (λ (x : Mon). x.0) finds.0 ∙ is in
-    subst (λ k. IsFirstOfAll ends k d place sent received) (sym number) (subst (λ x. IsFirstOfAll ends (j + 1) x place sent received) (sym finds.1) (record {
+tells_up ends j mon (Differs found) is few before finds =
+    let number : found.mon.0 ≡ j + 1 = ap (λ (x : Mon). x.0) finds.0 ∙ is in
+    subst (λ k. IsFirstOfAll ends k found.direction found.place found.sent found.received) (sym number) (subst (λ x. IsFirstOfAll ends (j + 1) x found.place found.sent found.received) (sym finds.1) (record {
       monitor = record { from_one = omega arith; within = omega (arith, few) };
       here = finds.2;
       before = λ k x one less. before k x one.from_one (less_before_up k j x less);
@@ -82,9 +82,9 @@ tells_up ends j mon (Differs m d place sent received) is few before finds =
 pub tells_down : (ends : KeptEnds) (j : ℕ) (mon : Mon) (fault : JoinFault) → mon.0 ≡ j + 1 → j < ends.settings.monitors → IsOrdered (link_at ends (j + 1) UpLink) → AreBefore ends j
     → Finds mon DownLink (link_at ends (j + 1) DownLink) (Err fault) → TellsDifference ends fault
 tells_down ends j mon NoMemory is few up before finds = tt
-tells_down ends j mon (Differs m d place sent received) is few up before finds =
-    let number : m.0 ≡ j + 1 = ap (λ (x : Mon). x.0) finds.0 ∙ is in
-    subst (λ k. IsFirstOfAll ends k d place sent received) (sym number) (subst (λ x. IsFirstOfAll ends (j + 1) x place sent received) (sym finds.1) (record {
+tells_down ends j mon (Differs found) is few up before finds =
+    let number : found.mon.0 ≡ j + 1 = ap (λ (x : Mon). x.0) finds.0 ∙ is in
+    subst (λ k. IsFirstOfAll ends k found.direction found.place found.sent found.received) (sym number) (subst (λ x. IsFirstOfAll ends (j + 1) x found.place found.sent found.received) (sym finds.1) (record {
       monitor = record { from_one = omega arith; within = omega (arith, few) };
       here = finds.2;
       before = λ k x one less. ordered_before_down ends j k x up before one.from_one less;

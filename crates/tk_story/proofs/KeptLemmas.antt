@@ -23,8 +23,8 @@ use Rattle.tk_trail.specs.Refusal.{refusal_of as refusal_down}
 use Rattle.tk_story.specs.Ends.{AreKept, AreOfOneRun, AreOrdered, HaveDifference, HaveNothingOdd, IsBefore, IsFirstDifference, IsFirstOfAll, IsOrdered, KeptEnds, KeptLink, joined, kept_by, link_at, odd_at, odd_from, trail_at, with_odd}
 use Rattle.tk_story.specs.Odd.{IsNotTaken, IsOddDown, IsOddUp}
 use Rattle.tk_story.specs.Story.{AreHistories, setup_of, trail_of}
-use Rattle.tk_story.specs.declared.ends.join_fault.Direction.{Direction}
-use Rattle.tk_story.specs.declared.ends.join_fault.Direction.TheVariants.{UpLink, DownLink}
+use Rattle.tk_story.specs.declared.ends.difference.Direction.{Direction}
+use Rattle.tk_story.specs.declared.ends.difference.Direction.TheVariants.{UpLink, DownLink}
 use Rattle.tk_story.specs.declared.ends.received.Received.{Received}
 use Rattle.tk_story.specs.declared.ends.received.Received.TheVariants as r
 use Rattle.tk_story.proofs.DownLemmas.{down_is_taken}

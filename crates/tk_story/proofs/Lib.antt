@@ -13,5 +13,6 @@ pub mod PlaceLemmas
 pub mod PublishedLemmas
 pub mod QuietLemmas
 pub mod StillLemmas
+mod StoppedLemmas
 pub mod TotalLemmas
 pub mod UpLemmas

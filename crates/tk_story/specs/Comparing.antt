@@ -4,7 +4,7 @@ use Rattle.tk_base.specs.History.{IsFront}
 use Rattle.tk_base.specs.declared.ids.Mon.{Mon}
 use Rattle.tk_frames.specs.declared.frame.Frame.{Frame}
 use Rattle.tk_story.specs.Ends.{IsFirstDifference, IsOrdered, KeptLink, with_odd}
-use Rattle.tk_story.specs.declared.ends.join_fault.Direction.{Direction}
+use Rattle.tk_story.specs.declared.ends.difference.Direction.{Direction}
 use Rattle.tk_story.specs.declared.ends.join_fault.JoinFault.{JoinFault}
 use Rattle.tk_story.specs.declared.ends.join_fault.JoinFault.TheVariants.{Differs, NoMemory}
 use Rattle.tk_story.specs.declared.ends.mon_end.MonEnd.{MonEnd}
@@ -13,13 +13,15 @@ use Rattle.tk_story.specs.declared.ends.received.Received.{Received}
 
 -- a fault tells this difference, or want of memory
 abbrev pub IsDifference : Mon → Direction → ℕ → Option Frame → Received → JoinFault → Type 0
-IsDifference mon direction place sent received (Differs m d p s x) = (m ≡ mon) × (d ≡ direction) × (p ≡ place) × (s ≡ sent) × (x ≡ received)
+IsDifference mon direction place sent received (Differs difference) =
+    difference ≡ record { mon = mon; direction = direction; place = place; sent = sent; received = received }
 IsDifference mon direction place sent received NoMemory = ⊤
 
 -- what looking at a link finds: that it is ordered, or its first difference
 abbrev pub Finds : Mon → Direction → KeptLink → Result (Unit {0}) JoinFault → Type 0
 Finds mon direction link (Ok done) = IsOrdered link
-Finds mon direction link (Err (Differs m d place sent received)) = (m ≡ mon) × (d ≡ direction) × IsFirstDifference link place sent received
+Finds mon direction link (Err (Differs found)) =
+    (found.mon ≡ mon) × (found.direction ≡ direction) × IsFirstDifference link found.place found.sent found.received
 Finds mon direction link (Err NoMemory) = ⊤
 
 -- all frames that were taken stand at the front of those sent, and this one was sent next, if one was

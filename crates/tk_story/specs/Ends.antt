@@ -17,8 +17,9 @@ use Rattle.tk_trail.specs.declared.entry.Entry.{Entry}
 use Rattle.tk_story.specs.Odd.{IsOddDown, IsOddUp}
 use Rattle.tk_story.specs.Story.{AreHistories, StoryView, setup_of}
 use Rattle.tk_story.specs.declared.ends.coord_end.CoordEnd.{CoordEnd}
-use Rattle.tk_story.specs.declared.ends.join_fault.Direction.{Direction}
-use Rattle.tk_story.specs.declared.ends.join_fault.Direction.TheVariants.{UpLink, DownLink}
+use Rattle.tk_story.specs.declared.ends.difference.Difference.{Difference}
+use Rattle.tk_story.specs.declared.ends.difference.Direction.{Direction}
+use Rattle.tk_story.specs.declared.ends.difference.Direction.TheVariants.{UpLink, DownLink}
 use Rattle.tk_story.specs.declared.ends.join_fault.JoinFault.{JoinFault}
 use Rattle.tk_story.specs.declared.ends.join_fault.JoinFault.TheVariants.{Differs, NoMemory}
 use Rattle.tk_story.specs.declared.ends.mon_end.MonEnd.{MonEnd}
@@ -120,9 +121,13 @@ pub record HaveDifference (ends : KeptEnds) : Type 0 where
   pub received : Received
   pub first : IsFirstOfAll ends mon direction place sent received
 
+-- a difference is the first of all
+abbrev pub IsFirst : KeptEnds → Difference → Type 0
+IsFirst ends found = IsFirstOfAll ends found.mon.0 found.direction found.place found.sent found.received
+
 -- what a fault says of ends
 abbrev pub TellsDifference : KeptEnds → JoinFault → Type 0
-TellsDifference ends (Differs mon direction place sent received) = IsFirstOfAll ends mon.0 direction place sent received
+TellsDifference ends (Differs difference) = IsFirst ends difference
 TellsDifference ends NoMemory = ⊤
 
 -- ---- what can be joined

@@ -5,7 +5,7 @@ use Rattle.tk_frames.specs.declared.frame.Frame.{Frame}
 use Rattle.tk_input.specs.Logs.{LogSet}
 use Rattle.tk_journal.specs.Laws.{IsMonitor}
 use Rattle.tk_story.specs.Ends.{IsFirstOfAll, KeptEnds, AreKept, HaveDifference, odd_at}
-use Rattle.tk_story.specs.declared.ends.join_fault.Direction.{Direction}
+use Rattle.tk_story.specs.declared.ends.difference.Direction.{Direction}
 use Rattle.tk_story.specs.declared.ends.received.Received.{Received}
 
 -- two first differences of the same ends are the same

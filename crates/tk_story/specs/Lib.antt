@@ -1,5 +1,6 @@
 pub mod Comparing
 pub mod Ends
+pub mod Headline
 pub mod JoinedLaws
 pub mod Kept
 pub mod KeptLaws

@@ -3,6 +3,7 @@
 pub mod bytes;
 pub mod comparing;
 pub mod coord_end;
+pub mod difference;
 pub mod join_fault;
 pub mod mon_end;
 pub mod received;

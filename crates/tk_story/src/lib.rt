@@ -7,6 +7,7 @@
 #![tactic(auto)]
 
 mod ends;
+mod headline;
 mod joined;
 mod kept;
 mod resting;
@@ -17,9 +18,11 @@ mod validity;
 pub use ends::Ends;
 pub use ends::bytes::Bytes;
 pub use ends::coord_end::CoordEnd;
-pub use ends::join_fault::{Direction, JoinFault};
+pub use ends::difference::{Difference, Direction};
+pub use ends::join_fault::JoinFault;
 pub use ends::mon_end::MonEnd;
 pub use ends::received::Received;
+pub use headline::{a_finished_run_is_sound, a_story_is_sound_so_far};
 pub use joined::{
     at_most_one_behind, links_hold_over_any_opening, the_next_frame_down_is_taken,
     the_next_frame_up_is_taken,

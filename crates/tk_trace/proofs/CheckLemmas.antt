@@ -13,17 +13,19 @@ use Rattle.tk_journal.specs.declared.publication.Publication.{Publication}
 use Rattle.tk_trail.specs.declared.entry.Entry.{Entry}
 use Rattle.tk_journal.proofs.StandLemmas.{last_push}
 use Rattle.tk_story.specs.Story.{IsStory, StoryView}
-use Rattle.tk_verify.specs.Recorded.{Finds, ReachesItsEnd, is_final, recorded as told_by}
+use Rattle.tk_story.specs.Headline.{ReachesItsEnd}
+use Rattle.tk_verify.specs.Recorded.{Finds, is_final, recorded as told_by}
 use Rattle.tk_verify.specs.declared.finding.Finding.{Finding}
 use Rattle.tk_verify.specs.declared.finding.Finding.TheVariants as f
-use Rattle.tk_trace.specs.Checked.{Faults, IsFoundIn, IsKeptOf, as_found, as_unread, told}
+use Rattle.tk_verify.specs.Faulty.{as_found}
+use Rattle.tk_trace.specs.Checked.{Faults, IsFoundIn, IsKeptOf, as_unread, told}
 use Rattle.tk_trace.specs.Recorded.{Recorded, recorded_of}
 use Rattle.tk_trace.specs.Spelling.{IsRecorded, IsTrace, IsTrail}
 use Rattle.tk_trace.specs.declared.fault.ParseFault.{ParseFault}
 use Rattle.tk_trace.specs.declared.fault.ParseFault.TheVariants as p
 use Rattle.tk_trace.specs.declared.trace.Trace.{Trace}
-use Rattle.tk_trace.specs.declared.trace_fault.TraceFault.{TraceFault}
-use Rattle.tk_trace.specs.declared.trace_fault.TraceFault.TheVariants as t
+use Rattle.tk_verify.specs.declared.trace_fault.TraceFault.{TraceFault}
+use Rattle.tk_verify.specs.declared.trace_fault.TraceFault.TheVariants as t
 use Rattle.tk_trace.proofs.TraceLemmas.{one_run}
 
 -- ---- what a checker asks of a record

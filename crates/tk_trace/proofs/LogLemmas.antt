@@ -28,7 +28,8 @@ use Rattle.tk_trace.specs.Spelling.{change, number, part, row}
 use Rattle.tk_trace.proofs.AssignedLemmas.{are_monitors, are_parts, logs_again}
 use Rattle.tk_trace.proofs.ExactLemmas.{exact_behind, exact_number, exact_tested, exact_times}
 use Rattle.tk_trace.proofs.FieldLemmas.{exact_one_of, exact_signed}
-use Rattle.tk_trace.proofs.NameLemmas.{made_ok, ok_is}
+use Rattle.tk_input.proofs.CatalogLemmas.{ok_is}
+use Rattle.tk_trace.proofs.NameLemmas.{made_ok}
 
 -- ---- rows of parts
 

@@ -11,7 +11,8 @@ use Rattle.tk_frames.proofs.Steps.{bind_some, some_is}
 use Rattle.tk_trace.specs.Reading.{if_ok, number_at, setup_at}
 use Rattle.tk_trace.specs.Spelling.{number, setup}
 use Rattle.tk_trace.proofs.ExactLemmas.{exact_number}
-use Rattle.tk_trace.proofs.NameLemmas.{made_ok, ok_is, unless_true}
+use Rattle.tk_input.proofs.CatalogLemmas.{ok_is, unless_true}
+use Rattle.tk_trace.proofs.NameLemmas.{made_ok}
 
 -- settings that were made are of these numbers, which are within the limits
 made : (k epsilon own objects monitors : ℕ) (s : Setup) → settings_of k epsilon own objects monitors ≡ Ok s

@@ -2,7 +2,8 @@
 use Rattle.std.specs.Prelude.{◌≡◌, ◌⊎◌, ℕ, List, [], Result, Ok, Err}
 use Rattle.tk_input.specs.Logs.{beginnings}
 use Rattle.tk_story.specs.Story.{IsStory, StoryView}
-use Rattle.tk_verify.specs.Recorded.{Finds, IsFinished, ReachesItsEnd, recorded as told_by}
+use Rattle.tk_story.specs.Headline.{ReachesItsEnd}
+use Rattle.tk_verify.specs.Recorded.{Finds, IsFinished, recorded as told_by}
 use Rattle.tk_verify.specs.declared.finding.Finding.{Finding}
 use Rattle.tk_verify.specs.declared.finding.Finding.TheVariants as f
 use Rattle.tk_trace.specs.Recorded.{Recorded, recorded_of}
@@ -10,8 +11,8 @@ use Rattle.tk_trace.specs.Spelling.{IsTrace}
 use Rattle.tk_trace.specs.declared.fault.ParseFault.{ParseFault}
 use Rattle.tk_trace.specs.declared.fault.ParseFault.TheVariants as p
 use Rattle.tk_trace.specs.declared.trace.Trace.{Trace}
-use Rattle.tk_trace.specs.declared.trace_fault.TraceFault.{TraceFault}
-use Rattle.tk_trace.specs.declared.trace_fault.TraceFault.TheVariants as t
+use Rattle.tk_verify.specs.declared.trace_fault.TraceFault.{TraceFault}
+use Rattle.tk_verify.specs.declared.trace_fault.TraceFault.TheVariants as t
 
 -- the story that a recorded run tells from its beginning, legal or not
 abbrev pub told : Recorded → StoryView
@@ -46,13 +47,6 @@ Refuses fault (Err other) = (other ≡ fault) ⊎ (other ≡ t.NoMemory)
 abbrev pub as_unread : ParseFault → TraceFault
 as_unread p.NotATrace = t.NotATrace
 as_unread p.NoMemory = t.NoMemory
-
--- what is found of a story, as a fault of its trace
-abbrev pub as_found : Finding → TraceFault
-as_found (f.NotLegal part place) = t.NotLegal part place
-as_found (f.Links mon direction place) = t.Links mon direction place
-as_found f.NotFinal = t.NotFinal
-as_found f.NoMemory = t.NoMemory
 
 -- what is kept of a recorded run: its names, and its story, which is legal and came to its end
 pub record IsKeptOf (r : Recorded) (trace : Trace) : Type 0 where

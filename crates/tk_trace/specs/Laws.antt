@@ -5,8 +5,8 @@ use Rattle.tk_story.specs.Story.{IsStory, StoryView}
 use Rattle.tk_trace.specs.Checked.{Faults}
 use Rattle.tk_trace.specs.Recorded.{recorded_of}
 use Rattle.tk_trace.specs.Spelling.{IsTrace}
-use Rattle.tk_trace.specs.declared.trace_fault.TraceFault.{TraceFault as Fault}
-use Rattle.tk_verify.specs.Recorded.{ReachesItsEnd}
+use Rattle.tk_verify.specs.declared.trace_fault.TraceFault.{TraceFault as Fault}
+use Rattle.tk_story.specs.Headline.{ReachesItsEnd}
 
 -- nothing is wrong with the trace of a legal story from the beginning of its logs to its end
 abbrev pub FinishedRunIsFaultless : Type 0

@@ -3,19 +3,19 @@
 ghost use Rattle.std.specs.Prelude.{ℕ, ◌≡◌, ◌⊎◌, List, [], IfOk, IfErr};
 ghost use Rattle.tk_story.specs.Story.{IsStory};
 ghost use Rattle.tk_input.specs.Logs.{beginnings};
-ghost use Rattle.tk_verify.specs.Recorded.{IsFinished, ReachesItsEnd};
+ghost use Rattle.tk_story.specs.Headline.{ReachesItsEnd};
+ghost use Rattle.tk_verify.specs.Recorded.{IsFinished};
 ghost use Rattle.tk_trace.specs.Checked.{Faults, IsKeptOf, OnFinishedTrace, Refuses, told};
 ghost use Rattle.tk_trace.specs.Recorded.{recorded, recorded_of};
 ghost use Rattle.tk_trace.specs.Spelling.{IsRecorded, IsTrace};
-ghost use Rattle.tk_trace.specs.declared.trace_fault.TraceFault.{TraceFault as Fault};
-ghost use Rattle.tk_trace.specs.declared.trace_fault.TraceFault.TheVariants.{NoMemory as Memory};
+ghost use Rattle.tk_verify.specs.declared.trace_fault.TraceFault.{TraceFault as Fault};
+ghost use Rattle.tk_verify.specs.declared.trace_fault.TraceFault.TheVariants.{NoMemory as Memory};
 
 use crate::reading::parse;
 use crate::recording::Recording;
 use crate::trace::Trace;
-use crate::trace_fault::TraceFault;
 use std::alloc::Global;
-use tk_verify::verify;
+use tk_verify::{TraceFault, verify};
 
 /// The story of a recorded run, under its names.
 fn checked(alloc: Global, run: Recording) -> Result<Trace, TraceFault>

@@ -1,10 +1,12 @@
 ghost use Rattle.std.specs.Prelude.{◌≡◌};
+ghost use Rattle.tk_trace.specs.Checked.{as_unread};
 ghost use Rattle.tk_trace.specs.declared.fault.ParseFault.TheVariants.{NoMemory as Memory};
 
 use std::alloc::{AllocError, AllocFailed};
 use std::error::Error;
 use std::fmt;
 use tk_base::NoMemory;
+use tk_verify::TraceFault;
 
 /// Why bytes were not read as a trace.
 #[derive(Clone, Copy, Debug, PartialEq, Eq)]
@@ -46,5 +48,16 @@ impl<T: Drop> From<AllocFailed<T>> for ParseFault {
 
     fn from(_error: AllocFailed<T>) -> ParseFault {
         ParseFault::NoMemory
+    }
+}
+
+impl From<ParseFault> for TraceFault {
+    ghost from_gives = { λ fault e. e ≡ as_unread fault };
+
+    fn from(fault: ParseFault) -> TraceFault {
+        match fault {
+            ParseFault::NotATrace => TraceFault::NotATrace,
+            ParseFault::NoMemory => TraceFault::NoMemory,
+        }
     }
 }

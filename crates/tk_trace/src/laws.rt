@@ -1,11 +1,10 @@
 //! What holds of every trace.
 
-ghost use Rattle.std.specs.Prelude.{◌≡◌, ℕ, List, Ok};
-ghost use Rattle.tk_input.specs.Catalog.{catalog_from, catalog_of};
+ghost use Rattle.std.specs.Prelude.{◌≡◌, ℕ, List};
 ghost use Rattle.tk_trace.specs.Checked.{Faults};
 ghost use Rattle.tk_trace.specs.Recorded.{Recorded};
 ghost use Rattle.tk_trace.specs.Spelling.{IsTrace};
-ghost use Rattle.tk_trace.specs.declared.trace_fault.TraceFault.{TraceFault as Fault};
+ghost use Rattle.tk_verify.specs.declared.trace_fault.TraceFault.{TraceFault as Fault};
 ghost use Rattle.tk_trace.specs.Laws.{FinishedRunIsFaultless};
 
 use tk_verify::{nothing_is_found_of_a_finished_story, one_finding};
@@ -13,13 +12,6 @@ use tk_verify::{nothing_is_found_of_a_finished_story, one_finding};
 /// A trace is of one run.
 pub fn a_trace_is_of_one_run()
     ensures { (bytes : List ℕ) (a b : Recorded) → IsTrace bytes a → IsTrace bytes b → a ≡ b }
-{}
-
-/// The names of a catalogue, which was read or made of names, make it again.
-pub fn a_catalogue_is_of_its_names()
-    ensures read { (bytes : List ℕ) (names : List (List ℕ)) → catalog_of bytes ≡ Ok names
-        → catalog_from names ≡ Ok names }
-    ensures made { (from names : List (List ℕ)) → catalog_from from ≡ Ok names → catalog_from names ≡ Ok names }
 {}
 
 /// One thing at most is wrong with some bytes.

@@ -13,17 +13,12 @@ mod laws;
 mod reading;
 mod recording;
 mod trace;
-mod trace_fault;
 mod writing;
 
 pub use checking::read;
 pub use fault::ParseFault;
-pub use laws::{
-    a_catalogue_is_of_its_names, a_trace_is_of_one_run, nothing_is_wrong_with_a_finished_run,
-    one_fault,
-};
+pub use laws::{a_trace_is_of_one_run, nothing_is_wrong_with_a_finished_run, one_fault};
 pub use reading::parse;
 pub use recording::Recording;
 pub use trace::Trace;
-pub use trace_fault::TraceFault;
 pub use writing::write;

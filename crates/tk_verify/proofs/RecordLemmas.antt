@@ -18,14 +18,15 @@ use Rattle.tk_trail.specs.Readings.{sent_by, taken_by}
 use Rattle.tk_trail.specs.declared.entry.Entry.{Entry}
 use Rattle.tk_story.specs.Ends.{AreOrdered, IsOrdered, down_link, link_at}
 use Rattle.tk_story.specs.Story.{IsStory, StoryView, setup_of, trail_of}
-use Rattle.tk_story.specs.declared.ends.join_fault.Direction.{Direction}
-use Rattle.tk_story.specs.declared.ends.join_fault.Direction.TheVariants.{UpLink, DownLink}
+use Rattle.tk_story.specs.declared.ends.difference.Direction.{Direction}
+use Rattle.tk_story.specs.declared.ends.difference.Direction.TheVariants.{UpLink, DownLink}
 use Rattle.tk_story.specs.declared.ends.received.Received.{Received}
 use Rattle.tk_story.specs.declared.ends.received.Received.TheVariants as r
 use Rattle.tk_story.proofs.EndsLemmas.{front_maps}
 use Rattle.tk_story.proofs.KeptLemmas.{never_both, one_first}
 use Rattle.tk_story.proofs.PublishedLemmas.{IsPublished, last_is_full, published_holds}
-use Rattle.tk_verify.specs.Recorded.{Finds, ReachesItsEnd, IsFirstFaultOf, IsFirstUnordered, is_final, links_of}
+use Rattle.tk_story.specs.Headline.{ReachesItsEnd}
+use Rattle.tk_verify.specs.Recorded.{Finds, IsFirstFaultOf, IsFirstUnordered, is_final, links_of}
 use Rattle.tk_verify.specs.Verifying.{AreLegalTrails}
 use Rattle.tk_verify.specs.declared.finding.Finding.{Finding}
 use Rattle.tk_verify.specs.declared.finding.Finding.TheVariants as f

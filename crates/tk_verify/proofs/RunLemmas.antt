@@ -155,7 +155,7 @@ pub joined_is : (settings : Setup) (logs : LogSet) (from : List (List ℕ)) (coo
 joined_is settings logs from coordinator nodes ends is = ap (λ (k : KeptEnds). joined k logs from) is
 
 pub unordered : (s : StoryView) (fault : JoinFault) → AreHistories s → TellsDifference (links_of s) fault → (is_unjoined fault ≡ f.NoMemory) ⊎ Finds s (is_unjoined fault)
-unordered s (j.Differs mon direction place sent received) are first = inr (record { histories = are; sent = sent; received = received; first = first })
+unordered s (j.Differs difference) are first = inr (record { histories = are; sent = difference.sent; received = difference.received; first = first })
 unordered s j.NoMemory are first = inl refl
 
 -- ---- what was driven is what was recorded

@@ -1,5 +1,5 @@
 pub mod Driving
 pub mod Faults
-pub mod Headline
+pub mod Faulty
 pub mod Recorded
 pub mod Verifying

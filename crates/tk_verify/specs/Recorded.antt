@@ -16,7 +16,7 @@ use Rattle.tk_trail.specs.declared.entry.Entry.{Entry}
 use Rattle.tk_story.specs.Ends.{IsFirstOfAll, KeptEnds}
 use Rattle.tk_story.specs.Moments.{IsPublishedValid}
 use Rattle.tk_story.specs.Story.{AreHistories, IsStory, StoryView, setup_of, trail_of}
-use Rattle.tk_story.specs.declared.ends.join_fault.Direction.{Direction}
+use Rattle.tk_story.specs.declared.ends.difference.Direction.{Direction}
 use Rattle.tk_story.specs.declared.ends.received.Received.{Received}
 use Rattle.tk_verify.specs.Faults.{IsFirstFault}
 use Rattle.tk_verify.specs.declared.finding.Finding.{Finding}
@@ -94,18 +94,6 @@ Finds s (f.NotLegal part place) = IsFirstFaultOf s part place
 Finds s (f.Links mon direction place) = IsFirstUnordered s mon.0 direction place
 Finds s f.NotFinal = IsNotFinal s
 Finds s f.NoMemory = ⊥
-
--- ---- what is a run to its end
-
--- the journal came to its end: behind the final publication, at the full cut and valid there, stands Stop to each
--- monitor and no more
-pub record ReachesItsEnd (s : StoryView) : Type 0 where
-  pub front : List Noted
-  pub final : Publication
-  pub is : s.journal ≡ front ++ n.Published final ∷ stops s.settings
-  pub last : final.last ≡ true
-  pub cut : final.cut ≡ full_cut s.logs.logs
-  pub valid : IsPublishedValid s final
 
 -- an answer is this finding, or else want of memory
 abbrev pub Answers : {S : Type 0} → Finding → Result S Finding → Type 0

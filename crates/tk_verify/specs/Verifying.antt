@@ -14,7 +14,8 @@ use Rattle.tk_story.specs.Kept.{KeptStory}
 use Rattle.tk_story.specs.Story.{IsStory, StoryView, setup_of, trail_of}
 use Rattle.tk_story.specs.declared.ends.join_fault.JoinFault.{JoinFault}
 use Rattle.tk_story.specs.declared.ends.join_fault.JoinFault.TheVariants as j
-use Rattle.tk_verify.specs.Recorded.{AreAgreed, Finds, ReachesItsEnd, is_final, recorded_from}
+use Rattle.tk_story.specs.Headline.{ReachesItsEnd}
+use Rattle.tk_verify.specs.Recorded.{AreAgreed, Finds, is_final, recorded_from}
 use Rattle.tk_verify.specs.declared.finding.Finding.{Finding}
 use Rattle.tk_verify.specs.declared.finding.Finding.TheVariants as f
 use Rattle.tk_verify.specs.declared.halt.Halt.{Halt}
@@ -27,7 +28,7 @@ is_found part h.NoMemory = f.NoMemory
 
 -- what is found where ends make no story
 abbrev pub is_unjoined : JoinFault → Finding
-is_unjoined (j.Differs mon direction place sent received) = f.Links mon direction place
+is_unjoined (j.Differs difference) = f.Links difference.mon difference.direction difference.place
 is_unjoined j.NoMemory = f.NoMemory
 
 -- each trail is legal

@@ -7,13 +7,13 @@
 
 mod finding;
 mod halt;
-mod headline;
 mod journals;
 mod laws;
+mod trace_fault;
 mod trails;
 mod verifying;
 
 pub use finding::Finding;
-pub use headline::{a_finished_run_is_sound, a_story_is_sound_so_far};
 pub use laws::{nothing_is_found_of_a_finished_story, one_finding};
+pub use trace_fault::TraceFault;
 pub use verifying::verify;

@@ -4,7 +4,8 @@ ghost use Rattle.tk_journal.specs.declared.noted.Noted.{Noted as Said};
 ghost use Rattle.tk_story.specs.Ends.{all_made_for, as_made};
 ghost use Rattle.tk_story.specs.Story.{IsStory};
 ghost use Rattle.tk_verify.specs.Verifying.{AreDriven, AreLegalTrails, Judges, Reveals, driven_story, is_found, is_unjoined};
-ghost use Rattle.tk_verify.specs.Recorded.{AreAgreed, Answers, Finds, IsFinished, ReachesItsEnd, recorded, recorded_from, trails_in};
+ghost use Rattle.tk_story.specs.Headline.{ReachesItsEnd};
+ghost use Rattle.tk_verify.specs.Recorded.{AreAgreed, Answers, Finds, IsFinished, recorded, recorded_from, trails_in};
 ghost use Rattle.tk_verify.specs.declared.finding.Finding.{Finding as Found};
 ghost use Rattle.tk_verify.specs.declared.finding.Finding.TheVariants.{NoMemory as Memory};
 
@@ -37,15 +38,10 @@ fn unjoined(fault: &JoinFault) -> Finding
     ensures { result ≡ is_unjoined fault.now }
 {
     match fault {
-        JoinFault::Differs {
-            mon,
-            direction,
-            place,
-            ..
-        } => Finding::Links {
-            mon: *mon,
-            direction: *direction,
-            place: *place,
+        JoinFault::Differs(difference) => Finding::Links {
+            mon: difference.mon,
+            direction: difference.direction,
+            place: difference.place,
         },
         JoinFault::NoMemory => Finding::NoMemory,
     }

@@ -8,12 +8,13 @@ ghost use Rattle.tk_trail.specs.Legal.{IsLegal};
 ghost use Rattle.tk_trail.specs.Readings.{sent_by, taken_in as taken_in_entry};
 ghost use Rattle.tk_story.specs.Comparing.{AreTrailsLegal, Finds, FindsBehind, IsDifference};
 ghost use Rattle.tk_story.specs.Ends.{AreOrdered, TellsDifference, down_link, kept_by, odd_from as odd_of, up_link};
-ghost use Rattle.tk_story.specs.declared.ends.join_fault.Direction.TheVariants.{UpLink, DownLink};
+ghost use Rattle.tk_story.specs.declared.ends.difference.Direction.TheVariants.{UpLink, DownLink};
 ghost use Rattle.tk_story.specs.declared.ends.received.Received.TheVariants as r;
 
 use crate::ends::Ends;
 use crate::ends::coord_end::CoordEnd;
-use crate::ends::join_fault::{Direction, JoinFault};
+use crate::ends::difference::{Difference, Direction};
+use crate::ends::join_fault::JoinFault;
 use crate::ends::mon_end::MonEnd;
 use crate::ends::received::Received;
 use crate::same::is_same_frame;
@@ -66,13 +67,13 @@ fn differ(way: Way, place: usize, sent: Option<&Frame>, received: Received) -> R
     let sent = clone_of(sent)?;
     let Way { mon, direction } = way;
     let place = place as u64;
-    Err(JoinFault::Differs {
+    Err(JoinFault::Differs(Difference {
         mon,
         direction,
         place,
         sent,
         received,
-    })
+    }))
 }
 
 /// What is odd is the last that was received.

@@ -1,8 +1,8 @@
 use Rattle.std.proofs.Common.{◌≡◌, sym, ap, ◌∙◌}
 use Rattle.tk_story.specs.Ends.{joined, kept_by}
 use Rattle.tk_live.specs.Joined.{joined_as}
-use Rattle.tk_live.specs.Serving.{faults_told, status_of}
-use Rattle.tk_live.specs.declared.verdict.Lived.{Lived}
+use Rattle.tk_live.specs.Serving.{faults_told}
+use Rattle.tk_live.specs.declared.outcome.Outcome.{Outcome}
 use Rattle.tk_live.proofs.CountLemmas.{joined_spared}
 use Rattle.tk_live.proofs.TellLemmas.{complete_story, concludes_joined, kept_as, of_run, of_story}
 use Rattle.tk_live.proofs.joining.join_ends.Goals as goal
@@ -19,13 +19,13 @@ returns-in-Ok-clause-concludes g c = λ input version was taken taken' from comp
 pub returns-in-Err-clause-concludes : goal.returns-in-Err-clause-concludes
 returns-in-Err-clause-concludes g c = λ input version was taken taken' from complete front.
     let a = c.args in
-    let verdict = c.of_join.ensures in
+    let status = c.of_join.ensures in
     let same : c.in-Err.ends ≡ a.ends = c.in-Err.ensures.err in
-    let told : c.kept.result ≡ kept_as (joined_as c.in-Err.fault) a.ends = c.kept.ensures ∙ (ap (λ x. kept_as x c.in-Err.ends) verdict ∙ ap (λ e. kept_as (joined_as c.in-Err.fault) e) same) in
+    let told : c.kept.result ≡ kept_as (joined_as c.in-Err.fault) a.ends = c.kept.ensures ∙ (ap (λ x. kept_as x c.in-Err.ends) status ∙ ap (λ e. kept_as (joined_as c.in-Err.fault) e) same) in
     concludes_joined input version was (g.O.Sink.written a.out.now) taken taken' c.in-Err.fault a.ends c.kept.result (of_run input a.settings a.logs a.from a.ends from c.requires) front c.in-Err.ensures.differs told
 
 pub returns-in-Err-clause-counted : goal.returns-in-Err-clause-counted
 returns-in-Err-clause-counted g c =
-    let told = ap (λ (l : Lived). l.verdict) c.kept.ensures ∙ c.of_join.ensures in
+    let told = ap (λ (l : Outcome). l.status) c.kept.ensures ∙ c.of_join.ensures in
     let before = g.O.Sink.fault_count c.args.out.now in
-    joined_spared c.in-Err.fault before ∙ ap (λ x. faults_told (status_of x) before) (sym told)
+    joined_spared c.in-Err.fault before ∙ ap (λ x. faults_told x before) (sym told)

@@ -1,8 +1,8 @@
 use Rattle.std.proofs.Common.{None, ap, sym, subst, refl}
 use Rattle.tk_live.specs.Lived.{Concludes}
-use Rattle.tk_live.specs.Serving.{faults_told, status_of}
+use Rattle.tk_live.specs.Serving.{faults_told}
 use Rattle.tk_live.specs.Traffic.{traffic_of}
-use Rattle.tk_live.specs.declared.verdict.Lived.{Lived}
+use Rattle.tk_live.specs.declared.outcome.Outcome.{Outcome}
 use Rattle.tk_live.proofs.CountLemmas.{unstarted_spared}
 use Rattle.tk_live.proofs.TellLemmas.{concludes_unstarted}
 use Rattle.tk_live.proofs.living.live_over.Goals as goal

@@ -1,7 +1,7 @@
 use Rattle.std.proofs.Common.{Option, None, refl, subst}
 use Rattle.std.specs.Prelude.{IfSome}
 use Rattle.tk_story.specs.Kept.{KeptStory}
-use Rattle.tk_verify.specs.Headline.{IsSound}
+use Rattle.tk_story.specs.Headline.{IsSound}
 use Rattle.tk_words.specs.Words.{Asked, words_of}
 use Rattle.tk_words.specs.Words.Asked.{Checks, Replays}
 use Rattle.tk_run.specs.Ends.{RunsAsked}

@@ -1,5 +1,5 @@
 use Rattle.std.proofs.Common.{◌≡◌, ◌∙◌, ℕ, List, ap, subst, sym, inr}
-use Rattle.tk_load.specs.MultiInput.{LoadsMulti}
+use Rattle.tk_commands.specs.MultiInput.{LoadsMulti}
 use Rattle.tk_load.specs.Reads.{reads_by}
 use Rattle.tk_multi.specs.Answers.{AreAnswers, events_in}
 use Rattle.tk_story.specs.Kept.{KeptStory}

@@ -1,5 +1,5 @@
 use Rattle.std.proofs.Common.{◌≡◌, ◌∙◌, ℕ, List, ap, subst, sym}
-use Rattle.tk_load.specs.SessionInput.{LoadsSessions}
+use Rattle.tk_commands.specs.SessionInput.{LoadsSessions}
 use Rattle.tk_load.specs.Reads.{reads_by}
 use Rattle.tk_story.specs.Kept.{KeptStory}
 use Rattle.tk_words.specs.Asked.{asked_sources}

@@ -6,7 +6,7 @@ use Rattle.tk_verify.specs.Recorded.{Finds, trails_in}
 use Rattle.tk_verify.specs.declared.finding.Finding.TheVariants as f
 use Rattle.tk_trace.specs.Checked.{Faults}
 use Rattle.tk_trace.specs.Recorded.{recorded}
-use Rattle.tk_trace.specs.declared.trace_fault.TraceFault.TheVariants as t
+use Rattle.tk_verify.specs.declared.trace_fault.TraceFault.TheVariants as t
 use Rattle.tk_trace.proofs.CheckLemmas.{a_trail_each, found_in, nothing_wrong, told_is, wrong_is}
 use Rattle.tk_trace.proofs.checking.checked.Goals as goal
 

@@ -2,7 +2,7 @@ use Rattle.std.proofs.Common.{◌≡◌, ◌⊎◌, Err, sym, ap, subst, ◌∙�
 use Rattle.tk_trace.specs.Checked.{Faults}
 use Rattle.tk_trace.specs.Recorded.{recorded, recorded_of}
 use Rattle.tk_trace.specs.declared.fault.ParseFault.{ParseFault}
-use Rattle.tk_trace.specs.declared.trace_fault.TraceFault.TheVariants as t
+use Rattle.tk_verify.specs.declared.trace_fault.TraceFault.TheVariants as t
 use Rattle.tk_trace.proofs.CheckLemmas.{kept_events, kept_finished, kept_legal, kept_spelled, kept_starts, kept_succeeds, unread_exact, unread_is, unread_none}
 use Rattle.tk_trace.proofs.checking.read.Goals as goal
 

@@ -1,5 +1,5 @@
 use Rattle.std.proofs.Common.{ap, ◌∙◌}
-use Rattle.tk_trace.proofs.NameLemmas.{names_fit}
+use Rattle.tk_input.proofs.CatalogLemmas.{names_fit}
 use Rattle.tk_trace.proofs.StoryLemmas.{journal_given}
 use Rattle.tk_trace.proofs.writing.text_of.Goals as goal
 

@@ -7,7 +7,7 @@ use Rattle.tk_base.specs.Settings.{Setup}
 use Rattle.tk_trail.specs.Legal.{IsLegal}
 use Rattle.tk_story.specs.Comparing.{Finds}
 use Rattle.tk_story.specs.Ends.{IsOrdered, kept_by}
-use Rattle.tk_story.specs.declared.ends.join_fault.Direction.TheVariants.{UpLink, DownLink}
+use Rattle.tk_story.specs.declared.ends.difference.Direction.TheVariants.{UpLink, DownLink}
 use Rattle.tk_story.specs.declared.ends.mon_end.MonEnd.{MonEnd}
 use Rattle.tk_story.proofs.JoiningLemmas.{all_ordered, before_more, down_of, tells_down, tells_up, up_of}
 use Rattle.tk_story.proofs.ends.comparing.check.Goals as goal

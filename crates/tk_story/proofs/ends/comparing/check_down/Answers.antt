@@ -8,7 +8,7 @@ use Rattle.tk_journal.specs.Links.{frames_to}
 use Rattle.tk_trail.specs.Readings.{taken_in}
 use Rattle.tk_story.specs.Comparing.{IsDifference}
 use Rattle.tk_story.specs.Ends.{down_link, with_odd}
-use Rattle.tk_story.specs.declared.ends.join_fault.Direction.TheVariants.{DownLink}
+use Rattle.tk_story.specs.declared.ends.difference.Direction.TheVariants.{DownLink}
 use Rattle.tk_story.specs.declared.ends.received.Received.TheVariants as r
 use Rattle.tk_story.proofs.EndsLemmas.{Agrees, agrees_on, agrees_over, differs_here, finds_difference}
 use Rattle.tk_story.proofs.ends.comparing.check_down.Goals as goal

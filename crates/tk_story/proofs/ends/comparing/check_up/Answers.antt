@@ -8,7 +8,7 @@ use Rattle.tk_journal.specs.Links.{got_from}
 use Rattle.tk_trail.specs.Readings.{sent_by}
 use Rattle.tk_story.specs.Comparing.{IsDifference}
 use Rattle.tk_story.specs.Ends.{up_link, with_odd, odd_from}
-use Rattle.tk_story.specs.declared.ends.join_fault.Direction.TheVariants.{UpLink}
+use Rattle.tk_story.specs.declared.ends.difference.Direction.TheVariants.{UpLink}
 use Rattle.tk_story.specs.declared.ends.received.Received.TheVariants as r
 use Rattle.tk_story.proofs.EndsLemmas.{Agrees, agrees_on, agrees_over, differs_here, finds_difference}
 use Rattle.tk_story.proofs.ends.comparing.check_up.Goals as goal

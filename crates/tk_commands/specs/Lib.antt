@@ -1,0 +1,6 @@
+pub mod Generated
+pub mod Laws
+pub mod MultiInput
+pub mod SessionInput
+pub mod Told
+pub mod Traced

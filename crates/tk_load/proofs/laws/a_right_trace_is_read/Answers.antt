@@ -1,5 +1,0 @@
-use Rattle.tk_load.proofs.TracedLemmas.{right_is_read}
-use Rattle.tk_load.proofs.laws.a_right_trace_is_read.Goals as goal
-
-pub returns : goal.returns
-returns c = λ reads name bytes status told right loads. right_is_read reads name bytes status told right loads
