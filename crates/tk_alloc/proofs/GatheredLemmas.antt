@@ -58,7 +58,8 @@ pub gathered_members : (setup : Setup) (grid : Grid) (present : List ℕ) (repor
 gathered_members setup grid present reports first sums members g =
     g.members_are ∙ ap (λ (x : List (ℕ × ℤ)). picked x present setup.k) (g.sums_are ∙ ap (totals reports) (gathered_over setup grid present reports first sums members g))
 
-all_positive : (xs : List ℕ) → IsAscending xs → All (λ o. 0 < o) xs
+-- numbers that ascend are at least 1
+pub all_positive : (xs : List ℕ) → IsAscending xs → All (λ o. 0 < o) xs
 all_positive xs up k d within =
     let some = ascending_positive xs up k within in
     subst (λ (o : ℕ). 0 < o) (get_or_default xs k 0 d within) some

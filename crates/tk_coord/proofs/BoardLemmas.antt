@@ -11,7 +11,6 @@ use Rattle.tk_base.specs.Ascending.{IsAscending}
 use Rattle.tk_base.specs.Objects.{is_in}
 use Rattle.tk_base.specs.Pairs.{objects_of, value_at}
 use Rattle.tk_base.specs.Settings.{Setup}
-use Rattle.tk_base.proofs.AscendingLemmas.{ascending_positive}
 use Rattle.tk_base.proofs.PairsLemmas.{value_at-absent}
 use Rattle.tk_base.proofs.MemberLemmas.{contained_is_in}
 use Rattle.tk_border.specs.Levels.{AreSmall, holds, level_at, own_border}
@@ -22,6 +21,7 @@ use Rattle.tk_rows.specs.declared.reallocation.Reallocation.{Reallocation}
 use Rattle.tk_rows.proofs.WritingLemmas.{AreApart, ascending_are_apart}
 use Rattle.tk_alloc.specs.Resolving.{own_factors, round_border}
 use Rattle.tk_alloc.proofs.BorderLemmas.{own_level, level_size, factors_count}
+use Rattle.tk_alloc.proofs.GatheredLemmas.{all_positive}
 use Rattle.tk_coord.specs.Board.{ranks_of, relevelled}
 use Rattle.tk_coord.specs.Steps.{IsReplaced}
 use Rattle.tk_coord.proofs.ElementLemmas.{same_elements}
@@ -64,10 +64,6 @@ level_after (p ∷ own) levels o some apart low high =
           ∙ ap (unwrap_or (value_at own o)) (get_or-set_other levels (p.0 - 1) (o - 1) p.1 (pos 0) (λ e. other (omega (arith, e, from, some))))
           ∙ sym (ap (λ b. unwrap_or (cond b (Some p.1) (value_at own o)) (level_at levels o)) (ne_eqb p.0 o other))
     ]
-
--- numbers that ascend are at least 1
-all_positive : (xs : List ℕ) → IsAscending xs → All (λ q. 0 < q) xs
-all_positive xs up k d below = let some = ascending_positive xs up k below in let same = get_or_default xs k 0 d below in omega (arith, some, same)
 
 -- the own factors of a table after a reallocation
 pub own_after : (old new : Grid) (r : Reallocation) → IsReplaced old r new → IsAscending (objects_of r.own) → All (λ o. o ≤ length old.rows) (objects_of r.own)

@@ -4,8 +4,6 @@ use Rattle.std.specs.List.{list_all, range_with_len}
 use Rattle.std.proofs.lemmas.Bool.{cases_eq}
 use Rattle.std.proofs.Math.Bool.{and-false}
 
--- ---- one more number
-
 -- ---- tests
 
 -- a test that one of a range fails

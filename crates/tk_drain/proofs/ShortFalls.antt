@@ -62,8 +62,6 @@ use Rattle.tk_drain.proofs.AssignFalls.{assigned_once, renewed_by}
 use Rattle.tk_journal.proofs.Ending.{passed}
 use Rattle.tk_journal.proofs.LeftLemmas.{short_is}
 
--- ---- the short test
-
 -- ---- the values of a Report under the last number are the present ones
 
 report_values : (o : Opening) (j : List Noted) (mon : ℕ) (setup : MonitorSetup) (trail : List Entry) (border : ℤ) (failed : List ℕ) (values : List (ℕ × ℤ)) → IsJoined o j mon setup trail

@@ -9,10 +9,12 @@ use Rattle.tk_input.specs.Records.{and_then, records_in, through}
 use Rattle.tk_input.specs.declared.catalog.CatalogFault.{CatalogFault}
 use Rattle.tk_input.specs.declared.catalog.CatalogFault.TheVariants.{BadName, BadRow, Repeated, TooMany}
 
+-- one name more
 abbrev adds : List (List ℕ) → List ℕ → Result (List (List ℕ)) CatalogFault
 adds before name = next_name before (Some name)
 
-abbrev ok : {A E : Type 0} → A → Result A E
+-- one value
+abbrev pub ok : {A E : Type 0} → A → Result A E
 ok x = Ok x
 
 -- a value that is a result's

@@ -234,5 +234,3 @@ one_stop o j mon set legal =
       order = opened_orderly o k.0 k.1 set.factors;
       once = λ m. let z = none_batch is_halt m (λ (p : ℕ × List (ℕ × ℤ)). p.0) (named (λ _. 1) o.members (λ p. p.1)) (enumerate_from 1 o.factors) (λ p. refl) in omega (arith, z);
     }) j legal).once mon
-
--- ---- a down link holds at most three frames

@@ -22,13 +22,9 @@ use Rattle.tk_load.specs.Windowed.{IsTicked, IsWindowedOver, ticked_row, ticked_
 use Rattle.tk_load.specs.declared.basis.Basis.{Basis}
 use Rattle.tk_load.specs.declared.changes.Together.{Together}
 use Rattle.tk_load.specs.declared.settings.Limits.{Limits}
-use Rattle.tk_input.proofs.CatalogLemmas.{ok_is, then_is}
+use Rattle.tk_input.proofs.CatalogLemmas.{ok, ok_is, then_is}
 
 -- ---- what rules that were passed gave
-
--- one value
-abbrev ok : {A E : Type 0} → A → Result A E
-ok x = Ok x
 
 -- a result whose faults are told as those of the input
 told_is : {A E : Type 0} (fault : E → Fault) (r : Result A E) (x : A) → telling fault r ≡ Ok x → r ≡ Ok x

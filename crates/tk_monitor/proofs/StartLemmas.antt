@@ -103,6 +103,7 @@ pub start_levels : (setup : MonitorSetup) → values_on setup.objects setup.part
 unfolding values_on levels_of objects level_of
 start_levels setup = mapped_same (level_of setup []) (value_of setup.parts setup.from) 1 setup.objects (λ o low high. omega (arith, ints, start_value setup o))
 
+-- a trail without entries is legal
 pub start_legal : (setup : MonitorSetup) → IsLegal setup []
 unfolding owed_at
 start_legal setup = record { each = tt; answered = refl }

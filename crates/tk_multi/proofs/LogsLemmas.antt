@@ -1,62 +1,21 @@
 -- The logs of a query pass every test, since the common ones do.
-use Rattle.std.proofs.Common.{◌≡◌, ℕ, suc, zero, ℤ, ◌+◌, ◌-◌, ◌<◌, ◌≤◌, ◌^◌, max, Bool, true, false, cond, unsigned_abs, Option, Some, None, option_map, Result, Ok, List, [], ◌∷◌, ◌++◌, All, length, map, get_or, ap, sym, subst, ◌∙◌, arith, refl, ⊎_elim}
-use Rattle.std.specs.Prelude.{filter, fold, is_some, nat_lt, option_and_then, sum_by, ◌==◌, ◌⊎◌, if◌then◌else◌}
-use Rattle.std.specs.List.{cons_option, position_or_len, range_with_len}
+use Rattle.std.proofs.Common.{◌≡◌, ℕ, suc, zero, ℤ, ◌+◌, ◌-◌, ◌<◌, ◌≤◌, ◌^◌, Bool, true, false, cond, unsigned_abs, Option, Some, None, option_map, Result, Ok, List, [], ◌∷◌, All, length, map, get_or, ap, sym, subst, ◌∙◌, arith, refl, ⊎_elim}
+use Rattle.std.specs.Prelude.{filter, is_some, nat_lt, option_and_then, sum_by, ◌==◌, ◌⊎◌, if◌then◌else◌}
+use Rattle.std.specs.List.{cons_option, position_or_len}
 use Rattle.std.proofs.Common.{inl, inr}
 use Rattle.std.proofs.lemmas.Bool.{cases_eq, eq-eqb, le-ltb, ne_eqb}
-use Rattle.std.proofs.lemmas.List.{append-nil, get_or-map, length-map}
+use Rattle.std.proofs.lemmas.List.{get_or-map, length-map}
 use Rattle.std.proofs.lemmas.List.Elements.{All-append, All-map}
-use Rattle.std.proofs.lemmas.List.Sums.{fold-append, position_or_len_is, sum_by-cons}
+use Rattle.std.proofs.lemmas.List.Sums.{position_or_len_is, sum_by-cons}
 use Rattle.tk_base.specs.Objects.{objects}
 use Rattle.tk_base.specs.declared.ids.Mon.{Mon}
 use Rattle.tk_base.proofs.FindLemmas.{find_none}
-use Rattle.tk_input.specs.Judged.{Assigned, feeders_of, first_at, first_crowded, first_gap, great_in, great_object, Refuses, judged, logs_by_monitor, logs_of, too_great, unless, under, assigned_from}
+use Rattle.tk_input.specs.Judged.{Assigned, first_at, first_crowded, first_gap, great_in, great_object, Refuses, judged, logs_by_monitor, logs_of, too_great, unless, under, assigned_from}
 use Rattle.tk_input.specs.Logs.{AreGathered, AreLogs, AreParts, IsObject, LogSet, updates_of, weight_for, weight_of}
 use Rattle.tk_input.specs.declared.logs.LogsFault.{LogsFault}
-use Rattle.tk_input.proofs.AssignedLemmas.{feeders_at, feeders_off, feeders_low, feeders_both}
+use Rattle.tk_input.proofs.AssignedLemmas.{logs_again}
 use Rattle.tk_input.specs.declared.logs.LogsFault.TheVariants as f
 use Rattle.tk_multi.specs.Projection.{Numbers, anew, seen_logs, watched_change, watched_in}
-
--- ---- the parts under their monitors make these logs
-
-abbrev later : ℕ → Mon × List (ℕ × ℤ) → ℕ
-later last p = max last p.0.0
-
-fold_under : (k m : ℕ) (row : List (List (ℕ × ℤ))) → m ≤ k → 1 ≤ length row → fold later m (under k row) ≡ k
-fold_under k m [] low some = absurd (omega (arith, some))
-fold_under k m (p ∷ []) low some = omega arith
-fold_under k m (p ∷ q ∷ row) low some = fold_under k (max m k) (q ∷ row) (omega arith) (omega arith)
-
-last_from : (m : ℕ) (logs : List (List (List (ℕ × ℤ)))) → All (λ row. 1 ≤ length row) logs → fold later m (assigned_from (m + 1) logs) ≡ m + length logs
-last_from m [] all = omega arith
-last_from m (row ∷ logs) all =
-    fold-append later m (under (m + 1) row) (assigned_from (m + 1 + 1) logs)
-    ∙ ap (λ (k : ℕ). fold later k (assigned_from (m + 1 + 1) logs)) (fold_under (m + 1) m row (omega arith) (all 0 [] (omega arith)))
-    ∙ last_from (m + 1) logs (λ k d h. all (suc k) d (omega (arith, h)))
-    ∙ omega arith
-
-feeders_from : (n j : ℕ) (logs : List (List (List (ℕ × ℤ)))) → feeders_of (assigned_from n logs) (n + j) ≡ get_or logs j []
-feeders_from n j [] = refl
-feeders_from n zero (row ∷ logs) =
-    feeders_both (under n row) (assigned_from (n + 1) logs) (n + 0)
-    ∙ ap (λ (l : List (List (ℕ × ℤ))). l ++ feeders_of (assigned_from (n + 1) logs) (n + 0)) (feeders_at n (n + 0) row (omega arith))
-    ∙ ap (λ (l : List (List (ℕ × ℤ))). row ++ l) (feeders_low (n + 1) (n + 0) logs (omega arith)) ∙ append-nil row
-feeders_from n (suc j) (row ∷ logs) =
-    feeders_both (under n row) (assigned_from (n + 1) logs) (n + suc j)
-    ∙ ap (λ (l : List (List (ℕ × ℤ))). l ++ feeders_of (assigned_from (n + 1) logs) (n + suc j)) (feeders_off n (n + suc j) row (λ same. omega (arith, same)))
-    ∙ ap (feeders_of (assigned_from (n + 1) logs)) (let e : n + suc j ≡ n + 1 + j = omega arith in e)
-    ∙ feeders_from (n + 1) j logs
-
-map_range : {X : Type 0} (g : ℕ → X) (xs : List X) (a : ℕ) (d : X) → ((j : ℕ) → j < length xs → g (a + j) ≡ get_or xs j d) → map g (range_with_len a (length xs)) ≡ xs
-map_range g [] a d each = refl
-map_range g (x ∷ xs) a d each =
-    ap (λ (y : _). y ∷ map g (range_with_len (a + 1) (length xs))) (ap g (let e : a ≡ a + 0 = omega arith in e) ∙ each 0 (omega arith))
-    ∙ ap (λ (l : List _). x ∷ l) (map_range g xs (a + 1) d (λ j h. ap g (let e : a + 1 + j ≡ a + suc j = omega arith in e) ∙ each (suc j) (omega (arith, h))))
-
-pub by_monitor : (logs : List (List (List (ℕ × ℤ)))) → All (λ row. 1 ≤ length row) logs → logs_by_monitor (assigned_from 1 logs) ≡ logs
-by_monitor logs some =
-    ap (λ (n : ℕ). map (feeders_of (assigned_from 1 logs)) (range_with_len 1 n)) (last_from 0 logs some ∙ (let e : 0 + length logs ≡ length logs = omega arith in e))
-    ∙ map_range (feeders_of (assigned_from 1 logs)) logs 1 [] (λ j h. feeders_from 1 j logs)
 
 -- ---- what holds of each part
 
@@ -278,7 +237,7 @@ some_rows watch all logs = All-map (λ (row : List (List (ℕ × ℤ))). 1 ≤ l
     (λ k d h. let e = length-map (get_or all.logs k d) (watched_in watch) in let one = (logs.each k d h).some_feeder in omega (arith, e, one))
 
 pub seen_made : (watch : List (Option ℕ)) (count : ℕ) (all : LogSet) → AreLogs all → logs_by_monitor (assigned_from 1 (seen_logs watch all.logs)) ≡ seen_logs watch all.logs
-seen_made watch count all logs = by_monitor (seen_logs watch all.logs) (some_rows watch all logs)
+seen_made watch count all logs = logs_again (seen_logs watch all.logs) (some_rows watch all logs)
 
 pub memory_alone : (watch : List (Option ℕ)) (count : ℕ) (all : LogSet) (parts : Assigned) (e : LogsFault) → AreGathered all → Numbers count watch → parts ≡ assigned_from 1 (seen_logs watch all.logs)
     → Refuses e (logs_of parts count) → e ≡ f.NoMemory

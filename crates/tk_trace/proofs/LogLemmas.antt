@@ -21,11 +21,12 @@ use Rattle.tk_frames.specs.Reading.{◌>>=◌}
 use Rattle.tk_frames.proofs.BytesLemmas.{IsBytes}
 use Rattle.tk_frames.proofs.ExactLemmas.{IsExact, exact_both, exact_fact}
 use Rattle.tk_frames.proofs.Steps.{bind_some, some_is}
+use Rattle.tk_input.proofs.AssignedLemmas.{logs_again}
 use Rattle.tk_trace.specs.declared.fault.ParseFault.{ParseFault}
 use Rattle.tk_trace.specs.declared.fault.ParseFault.TheVariants as fault
 use Rattle.tk_trace.specs.Reading.{Fails, change_at, if_ok, log_set, logs_at, number_at, part_at, row_at, tested_at, times_at}
 use Rattle.tk_trace.specs.Spelling.{change, number, part, row}
-use Rattle.tk_trace.proofs.AssignedLemmas.{are_monitors, are_parts, logs_again}
+use Rattle.tk_trace.proofs.AssignedLemmas.{are_monitors, are_parts}
 use Rattle.tk_trace.proofs.ExactLemmas.{exact_behind, exact_number, exact_tested, exact_times}
 use Rattle.tk_trace.proofs.FieldLemmas.{exact_one_of, exact_signed}
 use Rattle.tk_input.proofs.CatalogLemmas.{ok_is}

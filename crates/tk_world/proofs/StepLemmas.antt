@@ -21,8 +21,7 @@ use Rattle.tk_journal.proofs.Appends.{frames_from-append, frames_to-append}
 use Rattle.tk_journal.proofs.Pieces.{batch_from}
 use Rattle.tk_base.specs.History.{IsFront}
 use Rattle.tk_story.proofs.JoinLemmas.{rest_of}
-use Rattle.tk_trail.specs.Setup.{MonitorSetup}
-use Rattle.tk_trail.specs.Frames.{answer_to, due_at, owed_at}
+use Rattle.tk_trail.specs.Frames.{answer_to, due_at}
 use Rattle.tk_trail.specs.Legal.{HasNext, IsLegal as IsLegalTrail, after_take, part_length, place_of, with_answer}
 use Rattle.tk_trail.specs.Readings.{sent_by, taken_by}
 use Rattle.tk_trail.specs.declared.entry.Entry.{Entry}
@@ -39,6 +38,7 @@ use Rattle.tk_story.proofs.QuietLemmas.{joined, setup_is, starts_at}
 use Rattle.tk_journal.proofs.WholeLemmas.{goes_on, opened_legal, turn_is}
 use Rattle.tk_story.proofs.UpLemmas.{up_is_taken}
 use Rattle.tk_input.proofs.CountLemmas.{not_some}
+use Rattle.tk_monitor.proofs.StartLemmas.{start_legal}
 use Rattle.tk_journal.proofs.HeardLemmas.{no_input}
 
 -- ---- fronts
@@ -246,10 +246,6 @@ unfolding nothing_done
 counted zero = refl
 counted (suc k) = ap suc (counted k)
 
-empty_legal : (setup : MonitorSetup) → IsLegalTrail setup []
-unfolding owed_at
-empty_legal setup = record { each = tt; answered = refl }
-
 pub begin_is_story : (settings : Setup) (logs : LogSet) (from : List (List ℕ)) → IsWithinLimits settings → AreLogs logs → logs.objects ≡ settings.objects → length logs.logs ≡ settings.monitors → IsCut logs.logs from → IsStory (begin settings logs from)
 unfolding nothing_done
 begin_is_story settings logs from limits are objects monitors cut =
@@ -262,7 +258,7 @@ begin_is_story settings logs from limits are objects monitors cut =
       starts = cut;
       count = counted settings.monitors;
       journal_legal = opened_legal (start settings);
-      trails_legal = λ mon m. subst (IsLegalTrail (setup_of s mon)) (sym (none_yet settings.monitors (mon - 1))) (empty_legal (setup_of s mon));
+      trails_legal = λ mon m. subst (IsLegalTrail (setup_of s mon)) (sym (none_yet settings.monitors (mon - 1))) (start_legal (setup_of s mon));
       links = λ mon m. subst (IsOrderedLink s.journal mon) (sym (none_yet settings.monitors (mon - 1))) (record {
         down = record { is = refl };
         up = subst (λ xs. IsFront xs []) (sym (batch_from mon (λ (p : ℕ × List (ℕ × ℤ)). p.0) (λ p. f.Assign 1 (Rattle.tk_base.specs.Objects.objects settings.k) p.1) (enumerate_from 1 (start settings).factors))) (record { is = refl });
