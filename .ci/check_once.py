@@ -18,11 +18,11 @@ TOP = os.path.dirname(os.path.dirname(os.path.abspath(__file__)))
 # What may stand in two crates: the names that one such group has, and why.
 EXCEPTIONS = {
     "at_both of_both": "tables of two crates of tests",
-    "factor_of level_at": "a factor and a level, each looked up in a list",
-    "kept_at node_at": "what is kept for an object, and a node of a tree",
+    "factor_of kept_at level_at node_at": "a factor and a level, what is kept and a node of a tree: each looked up in a list",
     "lent_name name_in text_in": "bytes that are lent: a name, the name of a file, a word",
     "HasRisen": "a count of the faults of files, and one of what a wire took",
     "no_frame no_payload": "no crate below tk_hub and tk_port knows both the ends and the odd bytes of a story",
+    "ok": "a name for one constructor",
     "len": "lists of pairs and of changes, each with forms of its own",
     "row_of": "parts of one monitor, and logs with ticks of one monitor",
     "IsSteady front_size halted no_input": "tk_hub had its own before they stood below it or in tk_port",
@@ -35,7 +35,8 @@ IMPORT = re.compile(r"^(?:pub )?use (\S+)\.\{([^}]*)\}", re.M)
 MODULE = re.compile(r"^use (\S+) as (\S+)", re.M)
 FIELD = re.compile(r"^  (?:pub )?(\w+) :", re.M)
 FUNCTION = re.compile(r"^( *)(?:pub(?:\([^)]*\))? )?(?:const )?fn (\w+)")
-WORD = re.compile(r"[\w◌⊥⊤][\w'◌-]*|\S")
+WORD = re.compile(r"(?<=[\w)])\.\w[\w'◌-]*|[\w◌⊥⊤][\w'◌-]*|\S")
+BINDERS = re.compile(r"[({]([a-z_][\w' ]*) :|λ ([^.]*)\.|^[^\s(]+ ([^=:→]*) =(?: |$)", re.M)
 BOUND = re.compile(r"[a-z_][\w']*$")
 KEPT = set("if then else let in match for while return mut self record where elim case as true false pos suc zero None Some".split())
 
@@ -57,10 +58,8 @@ def module(path):
 def known(path, text):
     """Where each name comes from that a file imports from our crates or declares; those of the library keep their name."""
     names = {}
-    for found in re.finditer(r"^(?:pub |abbrev |unfoldable |record |data )*([^\s:({]+)", text, re.M):
+    for found in re.finditer(r"^(?:pub |abbrev |unfoldable |record |data )*([\w◌][^\s:({]*)", text, re.M):
         names.setdefault(found[1], f"{module(path)}.{found[1]}")
-    for field in FIELD.findall(text):
-        names.setdefault(field, field)
     for place, listed in IMPORT.findall(text):
         for name in listed.split(","):
             old, _, new = name.strip().partition(" as ")
@@ -72,12 +71,14 @@ def known(path, text):
 
 def plain(text, names, own, calls=False):
     """The words of a text, with what it binds and its own name under numbers; of code, calls and fields keep their names."""
-    seen, words = {own: "own"}, []
+    seen, words, bound = {own: "own"}, [], set()
+    for front in BINDERS.findall(text):
+        bound.update(word for word in "".join(front).split() if BOUND.match(word) and word not in KEPT)
     all_words = WORD.findall(re.sub(r"\b(?:pub|abbrev) |--.*", "", text))
     for word, follows in zip(all_words, all_words[1:] + [""]):
         if word in seen:
             words.append(seen[word])
-        elif word in names or word in KEPT or not BOUND.match(word) or calls and (follows == "(" or words[-1:] == ["."]):
+        elif word in names and word not in bound or word in KEPT or not BOUND.match(word) or calls and follows == "(":
             words.append(names.get(word, word))
         else:
             words.append(seen.setdefault(word, f"v{len(seen)}"))
@@ -113,7 +114,8 @@ def definitions():
     for path, text in texts("specs/*.antt"):
         names = known(path, text)
         for name, line, lines in items(text, DEFINITION):
-            yield plain("\n".join(lines), {k: v for k, v in names.items() if k != name}, name), path, line, name
+            fields = {field: field for field in FIELD.findall("\n".join(lines))} if "record " in lines[0] else {}
+            yield plain("\n".join(lines), {k: v for k, v in {**names, **fields}.items() if k != name}, name), path, line, name
 
 
 def bodies():

@@ -43,11 +43,11 @@ use Rattle.tk_journal.proofs.GatheredLemmas.{Gathered, HasGathered, IsAwaiting, 
 
 -- ---- a current answer was got
 
-up_in : Passed → Option Frame
+unfoldable pub up_in : Passed → Option Frame
 up_in (Up frame) = Some frame
 up_in (Down frame) = None
 
-ups : List Passed → List Frame
+unfoldable pub ups : List Passed → List Frame
 ups link = filter_map up_in link
 
 kept_or_new : (b : Bool) (frame g : Frame) (answer : Option Frame) → (if b then Some frame else answer) ≡ Some g → (answer ≡ Some g) ⊎ (frame ≡ g)

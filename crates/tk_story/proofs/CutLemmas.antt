@@ -23,16 +23,9 @@ use Rattle.tk_trail.proofs.LegalLemmas.{legal_places}
 use Rattle.tk_trail.proofs.SlackLemmas.{places_rise}
 use Rattle.tk_journal.proofs.ProgressLemmas.{are_same_by}
 use Rattle.tk_trail.proofs.SaysLemmas.{ends_by_places, stays_at_ends}
-use Rattle.tk_journal.proofs.HeardLemmas.{ups_are}
+use Rattle.tk_journal.proofs.HeardLemmas.{ups_are, up_in, ups}
 
 -- ---- what was accepted last was got
-
-up_in : Passed → Option Frame
-up_in (Up frame) = Some frame
-up_in (Down frame) = None
-
-ups : List Passed → List Frame
-ups link = filter_map up_in link
 
 pub record GotSettled (frames : List Frame) (p : Progress) : Type 0 where
   pub seq : ℕ
