@@ -8,12 +8,12 @@ use std::marker::Sync;
 use std::sync::Wait;
 use std::test::Fail;
 use std::thread::Threads;
-use tk_frames::{Frame, Kind};
+use tk_frames::Kind;
 use tk_input::{MapFiles, Sink, VecSink};
-use tk_live::{Verdict, live, live_over, run_number};
+use tk_live::{live, live_over, run_number};
 use tk_load::Status;
 use tk_net::MemNet;
-use tk_story::Direction;
+use tk_story::{Difference, Direction};
 use tk_wire::Net;
 
 /// The call at which each net in memory fails, so that no run waits for ever: one that needs so many ends with a failed link.
@@ -35,28 +35,26 @@ enum Ended {
     /// A link differs where nothing was sent.
     NothingSent,
     NoMemory,
+    /// No input was run.
+    NotRun,
 }
 
-/// How a run ended on whose link in this direction a frame differs.
-fn differing(direction: Direction, sent: &Frame) -> Ended {
-    match direction {
-        Direction::UpLink => Ended::UpDiffers(sent.kind()),
-        Direction::DownLink => Ended::DownDiffers(sent.kind()),
+fn differing(difference: &Difference) -> Ended {
+    match (&difference.sent, difference.direction) {
+        (Some(frame), Direction::UpLink) => Ended::UpDiffers(frame.kind()),
+        (Some(frame), Direction::DownLink) => Ended::DownDiffers(frame.kind()),
+        (None, _) => Ended::NothingSent,
     }
 }
 
-fn end_of(verdict: &Verdict) -> Ended {
-    match verdict {
-        Verdict::Done => Ended::Done,
-        Verdict::WriteFault => Ended::WriteFault,
-        Verdict::LinkFault => Ended::LinkFault,
-        Verdict::LinkDiffers {
-            direction,
-            sent: Some(frame),
-            ..
-        } => differing(*direction, frame),
-        Verdict::LinkDiffers { sent: None, .. } => Ended::NothingSent,
-        Verdict::NoMemory => Ended::NoMemory,
+fn end_of(status: &Status) -> Ended {
+    match status {
+        Status::Done => Ended::Done,
+        Status::WriteFault => Ended::WriteFault,
+        Status::LinkFault => Ended::LinkFault,
+        Status::LinkDiffers(difference) => differing(difference),
+        Status::NoMemory => Ended::NoMemory,
+        _ => Ended::NotRun,
     }
 }
 
@@ -84,9 +82,9 @@ fn ended_over<R: Threads + Wait + Sync>(
     requires links { net.old.state.links ≡ 0 }
 {
     let input = case.input(alloc)?;
-    let verdict = live_over(rt, alloc, input, 1, net, 5, gate, out).into_verdict();
-    let ended = end_of(&verdict);
-    drop(verdict);
+    let status = live_over(rt, alloc, input, 1, net, 5, gate, out).into_status();
+    let ended = end_of(&status);
+    drop(status);
     Some(ended)
 }
 
