@@ -1,4 +1,4 @@
-//! How a monitor takes a frame of the coordinator: it refuses it, or notes it with the answer.
+//! How a monitor takes a frame of the coordinator: it refuses it, or notes it, with the answer where one is due.
 
 ghost use Rattle.std.specs.Prelude.{◌≡◌, None, IfErr, OnOk, OnErr};
 ghost use Rattle.tk_frames.specs.declared.frame.Frame.TheVariants as f;
