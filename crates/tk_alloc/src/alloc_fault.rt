@@ -1,3 +1,5 @@
+//! What keeps a short or a full round from a reallocation, and how that is printed.
+
 ghost use Rattle.std.specs.Prelude.{◌≡◌};
 ghost use Rattle.tk_alloc.specs.declared.alloc_fault.AllocFault.TheVariants.{NoMemory as OutOfMemory};
 

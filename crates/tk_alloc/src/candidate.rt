@@ -1,3 +1,5 @@
+//! What objects are ordered by where a round picks its members.
+
 use std::cmp::Reverse;
 
 /// An object in the order of the pick: the greater total first, then a present member, then the lesser

@@ -1,3 +1,5 @@
+//! The full round: members and factors anew over some objects, with the coordinator's border found or told.
+
 ghost use Rattle.std.specs.Prelude.{◌≡◌, IfOk, IfErr, length};
 ghost use Rattle.std.specs.List.{All};
 ghost use Rattle.tk_rows.specs.Replacing.{IsReplacement};

@@ -1,3 +1,5 @@
+//! The limit of a factor, 2^112, and the search of a reallocation for the first one past it.
+
 ghost use Rattle.std.specs.Prelude.{◌≡◌, ◌^◌, ◌<◌, ℕ, nat_lt, unsigned_abs, length, IfSome, IfNone, IfOk, IfErr};
 ghost use Rattle.std.specs.List.{All};
 ghost use Rattle.tk_alloc.specs.Limit.{IsPastLimit};

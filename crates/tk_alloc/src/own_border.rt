@@ -1,3 +1,5 @@
+//! The coordinator's border in a round, found by a scan of the table.
+
 ghost use Rattle.std.specs.Prelude.{◌≡◌, ◌<◌, ◌≤◌, Some, length};
 ghost use Rattle.std.specs.List.{All};
 ghost use Rattle.tk_base.specs.Objects.{is_in};

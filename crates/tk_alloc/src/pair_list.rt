@@ -1,3 +1,5 @@
+//! Lists of objects with numbers, which grow one by one and then become pairs.
+
 ghost use Rattle.std.specs.Prelude.{◌≡◌, [], ◌∷◌, ◌++◌, IfOk};
 ghost use Rattle.tk_base.specs.Ascending.{IsAscending};
 ghost use Rattle.tk_base.specs.Pairs.{pairs_of, objects_of};

@@ -1,3 +1,5 @@
+//! The choice of members by total, where a present member and then the lesser number goes first among equals.
+
 ghost use Rattle.std.specs.Prelude.{◌≡◌, ℕ, ℤ, ◌<◌, ◌≤◌, IfOk, length, map, not, slice_index_or, pos};
 ghost use Rattle.std.specs.List.Sorted.{IsPermutation, IsSortedBy};
 ghost use Rattle.tk_base.specs.Ascending.{IsAscending, numbers_of};

@@ -1,3 +1,5 @@
+//! How a round deals: the leeways above the borders, and the factors that their shares give.
+
 ghost use Rattle.std.specs.Prelude.{◌≡◌, ◌+◌, ◌^◌, ◌<◌, ◌≤◌, ℕ, ℤ, pos, ◌+ℤ◌, ◌-ℤ◌, ◌∷◌, unsigned_abs, IfOk, length, map, replicate, slice_index, slice_get, Some, if◌then◌else◌};
 ghost use Rattle.std.specs.List.{All, sum};
 ghost use Rattle.tk_base.specs.Ascending.{IsAscending};

@@ -1,3 +1,5 @@
+//! The short round: its test, and the factors by which the coordinator and one monitor mend what is broken alone.
+
 ghost use Rattle.std.specs.Prelude.{◌≡◌, ◌<◌, ◌≤◌, ◌↔◌, ◌^◌, IsTrue, IfSome, IfOk, IfErr, unsigned_abs, length, slice_index};
 ghost use Rattle.std.specs.List.{All};
 ghost use Rattle.tk_base.specs.Pairs.{objects_of};

@@ -1,3 +1,5 @@
+//! The borders, weight and values that the dealing of a round goes by.
+
 ghost use Rattle.std.specs.Prelude.{◌≡◌};
 
 use crate::reported::Reported;

@@ -1,3 +1,5 @@
+//! The wide round, over all objects with every border 0, and the totals by which members are picked.
+
 ghost use Rattle.std.specs.Prelude.{◌≡◌, ◌^◌, ◌<◌, ◌≤◌, ℤ, unsigned_abs, IfOk, length, slice_index};
 ghost use Rattle.std.specs.List.{All};
 ghost use Rattle.tk_base.specs.Objects.{objects as objects_in};

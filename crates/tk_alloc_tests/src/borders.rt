@@ -1,3 +1,5 @@
+//! Broken outsiders, resolution sets and borders over a few levels.
+
 ghost use Rattle.std.specs.Prelude.{length};
 ghost use Rattle.tk_border.specs.Levels.{AreMembers, AreObjects};
 

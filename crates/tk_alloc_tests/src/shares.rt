@@ -1,3 +1,5 @@
+//! How leeways are dealt to three participants.
+
 ghost use Rattle.std.specs.Prelude.{◌<◌, ◌^◌, unsigned_abs};
 
 use tk_share::Participant;

@@ -1,3 +1,5 @@
+//! What short, full and wide rounds give of two objects at two monitors, also where a factor is past its limit.
+
 ghost use Rattle.std.specs.Prelude.{◌≡◌, ◌≤ℤ◌, pos, negsuc, [], ◌∷◌, IfOk, length};
 ghost use Rattle.std.specs.List.{All};
 ghost use Rattle.tk_base.specs.Objects.{objects as objects_in};

@@ -1,3 +1,5 @@
+//! How far the logs of all monitors are reached, as one value.
+
 ghost use Rattle.std.specs.Prelude.{◌≡◌, ◌<◌, ◌↔◌, IsTrue, IfOk, length, Some, slice_get};
 
 use crate::memory::NoMemory;

@@ -1,3 +1,5 @@
+//! The numbers by which objects, monitors and feeders go, and how they are printed.
+
 ghost use Rattle.std.specs.Prelude.{Some, ◌++◌, codes};
 ghost use Rattle.std.specs.Fmt.{decimal};
 

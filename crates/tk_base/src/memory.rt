@@ -1,3 +1,5 @@
+//! Want of memory as a fault of its own, which every failed allocation becomes.
+
 ghost use Rattle.std.specs.Prelude.{⊤, Some, codes};
 
 use std::alloc::{AllocError, AllocFailed};

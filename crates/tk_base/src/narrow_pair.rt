@@ -1,3 +1,5 @@
+//! The short form of a pair, for the numbers that fit in it.
+
 ghost use Rattle.std.specs.Prelude.{◌≡◌, ◌≤◌, ◌^◌, ◌↔◌, IfSome, IsNone, IsSome, FitsSigned, unsigned_abs};
 ghost use Rattle.std.specs.Int.{w32};
 ghost use Rattle.tk_base.specs.Pairs.{narrow_pair_of};

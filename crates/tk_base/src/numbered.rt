@@ -1,3 +1,5 @@
+//! Lists in the order of their objects: whether one ascends, and where an object stands in it.
+
 ghost use Rattle.std.specs.Prelude.{◌≡◌, ℕ, ◌<◌, length, map, slice_index, IfSome, IfNone, Contains};
 ghost use Rattle.tk_base.specs.Ascending.{IsAscending, FirstDisorder};
 

@@ -1,3 +1,5 @@
+//! Sets of objects, by which members, broken outsiders and the objects that are asked for are named.
+
 ghost use Rattle.std.specs.Prelude.{◌≡◌, ◌<◌, ◌↔◌, IsTrue, IfOk, IfErr, IsOk, length, slice_index, Contains};
 ghost use Rattle.tk_base.specs.Ascending.{IsAscending, FirstDisorder};
 

@@ -1,3 +1,5 @@
+//! Values and factors by their objects, as frames and rounds hold them, in little room.
+
 ghost use Rattle.std.specs.Prelude.{◌≡◌, ◌<◌, ◌↔◌, IsTrue, IfOk, IfErr, IsOk, IfSome, IfNone, length, map, Some, slice_get, slice_index, Contains};
 ghost use Rattle.tk_base.specs.Ascending.{IsAscending, FirstDisorder};
 ghost use Rattle.tk_base.specs.Pairs.{objects_of, value_at, pairs_of, narrow_pair_of};

@@ -1,3 +1,5 @@
+//! How far the parts of one monitor are reached, as one value.
+
 ghost use Rattle.std.specs.Prelude.{◌≡◌, ◌<◌, ◌↔◌, IsTrue, IfOk, length, slice_index};
 
 use crate::memory::NoMemory;

@@ -1,3 +1,5 @@
+//! The settings of a run, with the limits that their numbers are tested against.
+
 ghost use Rattle.std.specs.Prelude.{◌≡◌, pos};
 ghost use Rattle.tk_base.specs.Settings.{settings_of, IsWithinLimits, are_counts as are_counts_of, is_k as is_k_of};
 

@@ -1,3 +1,5 @@
+//! Lists out of order, settings past their limits, copies, and pairs in both their forms.
+
 use std::alloc::Global;
 use std::test::Fail;
 use tk_base::{Cut, NoMemory, Obj, ObjSet, Pairs, Places, SettingFault, Settings};

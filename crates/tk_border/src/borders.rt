@@ -1,3 +1,5 @@
+//! The border of a monitor over its levels, and that of the coordinator over its own factors.
+
 ghost use Rattle.std.specs.Prelude.{◌≡◌, ◌^◌, ◌≤ℤ◌, pos, length};
 ghost use Rattle.tk_border.specs.Levels.{border as border_of, own_border as own_border_of, AreMembers, AreObjects, AreSmall};
 

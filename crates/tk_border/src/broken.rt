@@ -1,3 +1,5 @@
+//! The search for broken outsiders among the levels of a node.
+
 ghost use Rattle.std.specs.Prelude.{◌≡◌, ◌<◌, ◌≤◌, length, IfOk, Some};
 ghost use Rattle.tk_border.specs.Levels.{broken, is_above, level_at, AreMembers, AreObjects};
 

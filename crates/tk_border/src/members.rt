@@ -1,3 +1,5 @@
+//! What a set of objects is tested for: whether it can be the members, and whether it holds them.
+
 ghost use Rattle.std.specs.Prelude.{◌≡◌, ◌↔◌, IsTrue};
 ghost use Rattle.tk_border.specs.Levels.{holds as holds_of, AreMembers};
 

@@ -1,3 +1,5 @@
+//! The resolution set, merged from the members and the broken outsiders.
+
 ghost use Rattle.std.specs.Prelude.{◌≡◌, ℕ, ◌+◌, ◌<◌, ◌≤◌, true, ◌||◌, length, IfOk};
 ghost use Rattle.tk_base.specs.Objects.{is_in};
 ghost use Rattle.tk_border.specs.Levels.{IsPassed, IsResolution};

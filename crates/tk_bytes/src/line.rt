@@ -1,3 +1,5 @@
+//! What one connection is in memory: a port, and a pipe each way.
+
 use tk_port::Port;
 use tk_wire::{Pipe, SureWire};
 

@@ -1,3 +1,5 @@
+//! A line beside the counts of the frames that each end took.
+
 use crate::line::Line;
 
 /// A line, and how far its two ways were walked.

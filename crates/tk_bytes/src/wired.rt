@@ -1,3 +1,5 @@
+//! The nodes of a world whose frames go as bytes: each step of one of them, over its line.
+
 ghost use Rattle.std.specs.Prelude.{◌≡◌, IfOk, map};
 
 mod making;

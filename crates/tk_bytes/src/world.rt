@@ -1,3 +1,5 @@
+//! The world over nodes at the ends of wires in memory, and how it begins.
+
 ghost use Rattle.std.specs.Prelude.{◌≡◌, ◌<◌, ◌≤◌, [], IfOk};
 ghost use Rattle.tk_frames.specs.Spelling.{IsVersion};
 ghost use Rattle.tk_world.specs.Events.{begin};

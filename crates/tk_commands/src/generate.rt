@@ -1,3 +1,5 @@
+//! What the words of `gen` give: a catalogue, settings, and logs from a seed.
+
 ghost use Rattle.std.specs.Prelude.{◌≡◌, ◌<◌, ◌≤◌, ◌++◌, IfErr, IfOk, OnOk, codes, decimal, length};
 ghost use Rattle.tk_commands.specs.Generated.{generated_of, logs_asked, names_made, names_text as text_of_names};
 ghost use Rattle.tk_load.specs.Reads.{Meets};

@@ -1,3 +1,5 @@
+//! Changes that are drawn from a seed, and the logs that they make.
+
 ghost use Rattle.std.specs.Prelude.{◌≡◌, ◌≤◌, ◌+◌, ◌%◌, ◌-ℤ◌, ◌<◌, IfOk, All, length, map, min, pos};
 ghost use Rattle.tk_input.specs.Logs.{IsObject};
 ghost use Rattle.tk_commands.specs.Generated.{after_update, log_of, logs_made, made, shown, update_at};

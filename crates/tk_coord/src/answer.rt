@@ -1,3 +1,5 @@
+//! What a monitor last said: its current answer, and how far it is.
+
 ghost use Rattle.std.specs.Prelude.{◌≡◌, IfOk};
 ghost use Rattle.tk_journal.specs.Readings.{Progress as ProgressView};
 

@@ -1,3 +1,5 @@
+//! The tests that the content of a fresh frame must pass: its objects, values, border and places.
+
 ghost use Rattle.std.specs.Prelude.{◌≡◌, ◌<◌, ◌≤◌, ◌^◌, ◌&&◌, ◌||◌, ◌==◌, nat_le, not, length, unsigned_abs};
 ghost use Rattle.std.specs.List.{list_all, zip};
 ghost use Rattle.tk_alloc.specs.Parts.{value_of as value_in};

@@ -1,3 +1,5 @@
+//! The coordinator and what it shows: its settings, members, factors, journal and turns.
+
 ghost use Rattle.std.specs.Prelude.{◌≡◌, not, ◌<◌, ◌≤◌, length, IfOk, Some, slice_get};
 ghost use Rattle.std.specs.List.{All};
 ghost use Rattle.tk_frames.specs.declared.frame.Frame.{Frame};

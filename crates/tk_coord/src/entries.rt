@@ -1,3 +1,5 @@
+//! The journal's entries of frames that are sent: how Assigns, Collects and Stops are made.
+
 ghost use Rattle.std.specs.Prelude.{◌≡◌, ℕ, ◌+◌, ◌-◌, ◌^◌, ◌<◌, ◌≤◌, [], ◌++◌, length, IfOk, OnOk};
 ghost use Rattle.std.specs.List.{All};
 ghost use Rattle.tk_base.specs.Objects.{objects};

@@ -1,3 +1,5 @@
+//! The coordinator's view of each monitor, and for which of them the open round waits.
+
 ghost use Rattle.std.specs.Prelude.{◌≡◌, ◌≢◌, ℕ, None, Some, slice_get, not, false, true, length, IfOk};
 ghost use Rattle.std.specs.Bool.{OnTrue, OnFalse};
 ghost use Rattle.tk_coord.specs.declared.peer.Peer.{Peer};

@@ -1,3 +1,5 @@
+//! The k and epsilon in force and those that come next, and whether Stop was sent.
+
 ghost use Rattle.std.specs.Prelude.{◌≡◌, false};
 
 use tk_base::Settings;

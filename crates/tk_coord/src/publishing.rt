@@ -1,3 +1,5 @@
+//! How a turn ends in which all have settled: whether a set is due, its publication, and Stop behind the final one.
+
 ghost use Rattle.std.specs.Prelude.{◌≡◌, ◌≢◌, ◌+◌, ◌<◌, ℕ, true, false, Some, None, IfOk, IfSome, IfNone, slice_get, length, map};
 ghost use Rattle.std.specs.Bool.{OnTrue, OnFalse};
 ghost use Rattle.std.specs.List.{All};

@@ -1,3 +1,5 @@
+//! What stands for the reports of all monitors before the first round.
+
 ghost use Rattle.std.specs.Prelude.{◌≡◌, length, IfOk};
 
 use crate::entries::no_pairs;

@@ -1,3 +1,5 @@
+//! What the coordinator keeps of a round that asks: its number, whether it is open and wide, and its objects.
+
 ghost use Rattle.std.specs.Prelude.{◌≡◌, [], false};
 
 use crate::entries::no_objects;

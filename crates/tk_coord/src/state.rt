@@ -1,3 +1,5 @@
+//! How a taken frame, and then what it brings about, changes what the coordinator keeps.
+
 ghost use Rattle.std.specs.Prelude.{◌≡◌, ℕ, List, Some, length, slice_get, suc, IfOk};
 ghost use Rattle.tk_base.specs.Settings.{Setup};
 ghost use Rattle.std.specs.List.{list_all};

@@ -1,3 +1,5 @@
+//! A turn before it is noted: its statement, its entries, what they send, its kind and the phase behind it.
+
 ghost use Rattle.std.specs.Prelude.{◌≡◌, ◌+◌, ◌≤◌, true, false, if◌then◌else◌};
 ghost use Rattle.tk_journal.specs.declared.turn.TurnKind.TheVariants.{Tune, Short, Wide};
 ghost use Rattle.tk_coord.specs.Steps.{asks_wide, step_with};

@@ -1,3 +1,5 @@
+//! The drive of an order: its events, then the raises that are left, with a settling behind each.
+
 ghost use Rattle.std.specs.Prelude.{◌≡◌, [], ◌∷◌, IfOk, OnErr, OnOk};
 ghost use Rattle.tk_story.specs.Moments.{IsOver};
 ghost use Rattle.tk_story.specs.Story.{IsStory};

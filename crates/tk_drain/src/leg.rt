@@ -1,3 +1,5 @@
+//! The legs of a sweep: one event at each monitor that may have something to do.
+
 ghost use Rattle.std.specs.Prelude.{◌≡◌, IfOk, OnErr};
 ghost use Rattle.tk_story.specs.Kept.{KeptStory};
 ghost use Rattle.tk_story.specs.Story.{IsStory};

@@ -1,3 +1,5 @@
+//! Which parts some logs have, and how long the longest is.
+
 ghost use Rattle.std.specs.Prelude.{◌≡◌, ◌++◌, ◌≤◌, IfOk, length, map};
 ghost use Rattle.std.specs.List.{range_with_len};
 ghost use Rattle.tk_input.specs.Logs.{IsMonitor, parts_of as parts_in};

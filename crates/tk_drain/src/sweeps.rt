@@ -1,3 +1,5 @@
+//! Sweeps, and the settling that repeats them.
+
 ghost use Rattle.std.specs.Prelude.{◌≡◌, ◌↔◌, ◌+◌, ◌*◌, ◌≤◌, IfOk, OnErr, OnOk};
 ghost use Rattle.tk_story.specs.Story.{IsStory};
 ghost use Rattle.tk_world.specs.Events.{CanOnlyChange};

@@ -1,3 +1,5 @@
+//! What an end of a connection asks of its node, which takes frames and has some to send.
+
 ghost use Rattle.std.specs.Prelude.{◌≡◌, ◌<◌, ◌∷◌, ◌++◌, ℕ, [], List, Bool, Option, Some, OnOk, OnErr, length, slice_get};
 ghost use Rattle.tk_base.specs.History.{IsFront};
 ghost use Rattle.tk_frames.specs.declared.frame.Frame.{Frame};

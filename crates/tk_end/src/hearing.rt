@@ -1,3 +1,5 @@
+//! What the taking of frames, and a whole hearing, answer.
+
 use tk_frames::BadFrame;
 
 /// Why no further frame is taken now.

@@ -1,3 +1,5 @@
+//! What came over a connection, read frame by frame, with a place in front for one that is put back.
+
 ghost use Rattle.std.specs.Prelude.{◌≡◌, ◌++◌, ℕ, List, Some, None};
 ghost use Rattle.tk_frames.specs.Spelling.{IsSpelling, spelling};
 ghost use Rattle.tk_wire.specs.Buffered.{Pulls, counts_pulled};

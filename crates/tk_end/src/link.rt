@@ -1,3 +1,5 @@
+//! The link that a port and each seat of a hub have: how it begins, is shut, and gives its wire back.
+
 ghost use Rattle.std.specs.Prelude.{◌≡◌, ◌↔◌, [], None, IsTrue, OnErr, OnOk, true};
 ghost use Rattle.tk_frames.specs.declared.answer.Next.TheVariants as n;
 ghost use Rattle.tk_frames.specs.Answer.{Answers};

@@ -1,3 +1,5 @@
+//! Frames handed from an inbox to an actor, one or as many as it takes.
+
 ghost use Rattle.std.specs.Prelude.{◌≡◌, ◌<◌, IfSome, IfNone, OnSome, length};
 ghost use Rattle.tk_end.specs.Hearing.{Stops, TakesIn, TakesOne};
 

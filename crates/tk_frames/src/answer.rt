@@ -1,3 +1,5 @@
+//! What the reading of a frame answers, and the faults that bytes can have.
+
 use crate::frame::Frame;
 use crate::kind::Kind;
 use std::error::Error;

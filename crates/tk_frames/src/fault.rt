@@ -1,3 +1,5 @@
+//! What can keep a frame from being written as bytes.
+
 ghost use Rattle.std.specs.Prelude.{◌≡◌};
 ghost use Rattle.tk_frames.specs.declared.fault.EncodeFault.TheVariants.{NoMemory as Memory};
 

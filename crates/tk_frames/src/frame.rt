@@ -1,3 +1,5 @@
+//! The seven frames and what each of them says, with their kinds and sizes.
+
 ghost use Rattle.std.specs.Prelude.{◌≡◌, IfOk};
 
 use crate::kind::Kind;

@@ -1,3 +1,5 @@
+//! How journals and trails keep a frame, in little room.
+
 ghost use Rattle.std.specs.Prelude.{◌≡◌, IfOk, IfErr};
 
 use crate::frame::Frame;

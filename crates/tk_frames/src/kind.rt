@@ -1,3 +1,5 @@
+//! The kinds of frames, with their bytes and their names.
+
 ghost use Rattle.std.specs.Prelude.{◌≡◌};
 ghost use Rattle.tk_frames.specs.Spelling.{code_of};
 

@@ -1,3 +1,5 @@
+//! Frames beside their bytes in both versions, bytes that are no frame or a part of one, and frames refused.
+
 ghost use Rattle.tk_frames.specs.Spelling.{IsVersion};
 
 use std::alloc::Global;

@@ -1,3 +1,5 @@
+//! How a hub stands after each turn: what the turn answered, and whether and why the hub is closed.
+
 use tk_base::Mon;
 use tk_coord::CoordRefusal;
 use tk_frames::BadFrame;

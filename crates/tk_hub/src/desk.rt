@@ -1,3 +1,5 @@
+//! The coordinator as an actor, whose frames the links of a hub carry.
+
 use tk_base::Mon;
 use tk_coord::{CoordRefusal, Coordinator};
 use tk_end::{Actor, Declined};

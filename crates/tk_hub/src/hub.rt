@@ -1,3 +1,5 @@
+//! The hub, turn by turn: who is new is greeted, frames go both ways, and the lines of new sets are written.
+
 ghost use Rattle.std.specs.Prelude.{◌≡◌, ◌≤◌, ◌↔◌, [], true, None, Ok, Some, IfOk, IsTrue, length, replicate};
 ghost use Rattle.slab.specs.Slab.{slab_len};
 ghost use Rattle.tk_base.specs.History.{IsFront};

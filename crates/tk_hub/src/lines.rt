@@ -1,3 +1,5 @@
+//! The lines of published sets, written as the journal grows.
+
 ghost use Rattle.std.specs.Prelude.{◌≡◌, ◌-◌, ◌^◌, ◌<◌, ◌≤◌, false, length, IsErrOf, OnOk, OnErr};
 ghost use Rattle.std.specs.List.{All};
 ghost use Rattle.tk_input.specs.Files.{HasRisen};

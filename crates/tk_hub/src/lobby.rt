@@ -1,3 +1,5 @@
+//! Where connections wait until their Hello: each is then seated, or closed as a stranger.
+
 ghost use Rattle.std.specs.Prelude.{◌≡◌, ◌↔◌, ◌+◌, ◌<◌, ◌≤◌, [], None, Ok, Some};
 ghost use Rattle.slab.specs.Slab.{HasRoomFor, Updates, slab_len};
 ghost use Rattle.tk_frames.specs.Spelling.{IsVersion};

@@ -1,3 +1,5 @@
+//! Room for wires, so that the end of a hub takes no memory.
+
 use std::alloc::Global;
 use std::marker::Model;
 use tk_base::NoMemory;

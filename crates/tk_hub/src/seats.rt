@@ -1,3 +1,5 @@
+//! The seats of a hub, at which admitted monitors are heard and told what was sent to them.
+
 ghost use Rattle.std.specs.Prelude.{◌≡◌, ◌↔◌, ◌-◌, [], true, None, Some, IfOk, IsTrue, length, slice_set, replicate};
 ghost use Rattle.tk_journal.specs.Laws.{IsMonitor};
 ghost use Rattle.tk_journal.specs.Legal.{inputs_of};

@@ -1,3 +1,5 @@
+//! A connection before its Hello: what comes over it is judged and kept, and it becomes a link or is closed.
+
 ghost use Rattle.std.specs.Prelude.{◌≡◌, ◌≤◌, ◌∷◌, ℕ, [], false, true, IsTrue, IfSome, IfNone, length, take};
 ghost use Rattle.tk_base.specs.declared.ids.Mon.{Mon as Number};
 ghost use Rattle.tk_frames.specs.Spelling.{IsVersion};

@@ -1,3 +1,5 @@
+//! The catalogue: the rules for its names, how a file gives them, and how names and objects are found.
+
 ghost use Rattle.std.specs.Prelude.{◌≡◌, ◌<◌, ◌≤◌, ◌-◌, IfOk, IfErr, OnOk, Ok, nat_le, ◌&&◌, [], bytes_eq, length, option_map, slice_get, Some};
 ghost use Rattle.std.specs.List.{IsDistinct, list_all};
 ghost use Rattle.csv.specs.Records.{fields_of};

@@ -1,3 +1,5 @@
+//! What logs are made of, and how it is printed.
+
 use std::fmt;
 use tk_base::Obj;
 

@@ -1,3 +1,5 @@
+//! The changes of a log, in 8 bytes each where all amounts are small.
+
 ghost use Rattle.std.specs.Prelude.{◌≡◌, ◌<◌, ◌++◌, ◌∷◌, [], IfOk, OnOk, OnErr, length, map, slice_get, Some};
 ghost use Rattle.tk_base.specs.Pairs.{narrow_pair_of};
 ghost use Rattle.tk_input.specs.Changes.{changes_of, pair_of};

@@ -1,3 +1,5 @@
+//! The events of a run, as an order file lists them and a world makes them happen.
+
 ghost use Rattle.std.specs.Prelude.{◌≡◌, IfOk};
 ghost use Rattle.tk_input.specs.declared.event.Event.TheVariants.{Retune};
 

@@ -1,3 +1,5 @@
+//! What a run asks of the files that it reads, and why one is not read.
+
 ghost use Rattle.std.specs.Prelude.{◌≡◌, ◌≢◌, ℕ, ◌<◌, ◌≤◌, max, List, length, Option, IfOk, IfSome, IsErrOf};
 ghost use Rattle.tk_input.specs.MapFiles.{faults_after};
 

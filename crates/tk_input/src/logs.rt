@@ -1,3 +1,5 @@
+//! The logs of all monitors, tested where they are made, with values and totals up to a cut.
+
 ghost use Rattle.std.specs.Prelude.{◌≡◌, ◌<◌, ◌≤◌, ◌^◌, ◌*◌, IfOk, IfErr, Ok, All, length, slice_get, Some, unsigned_abs};
 ghost use Rattle.tk_input.specs.declared.logs.LogsFault.TheVariants.{NoMemory as OutOfMemory};
 ghost use Rattle.tk_input.specs.Judged.{Refuses, last_monitor, logs_by_monitor};

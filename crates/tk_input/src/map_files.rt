@@ -1,3 +1,5 @@
+//! Files given in memory, for runs that read none of the system: their content, and which reads fail.
+
 ghost use Rattle.std.specs.Prelude.{◌≡◌, ◌≢◌, ℕ, ◌<◌, ◌≤◌, [], List, length, IfOk, IfErr, IfSome, IsErrOf, IsOk, IsSome, Ok, option_map, position, bytes_eq, string_bytes};
 ghost use Rattle.tk_input.specs.MapFiles.{Faults, TakesNoMore, content_of, faults_after, files_of, given, longest_after, read_of, reads_after as reads_then};
 ghost use Rattle.tk_input.specs.Tallies.{Notes, count_of, faults_of, longest_of};

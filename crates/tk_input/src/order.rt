@@ -1,3 +1,5 @@
+//! The order of a run, and how its lines are read as events.
+
 ghost use Rattle.std.specs.Prelude.{◌≡◌, ◌<◌, IfOk, IfErr, OnOk, Ok, length, slice_get, Some};
 ghost use Rattle.tk_input.specs.Order.{AddsLine, IsFault, IsLineFault, IsReadAs, event_in, event_of_one as of_one, event_of_two as of_two, is_short as is_short_word, line_added, number_in, order_of, ordered, raise_at, retune_at, words};
 ghost use Rattle.tk_input.specs.declared.order.OrderFault.TheVariants.{NoMemory as OutOfMemory};

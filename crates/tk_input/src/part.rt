@@ -1,3 +1,5 @@
+//! The log of a feeder: how a file gives it, and how several hold the same list.
+
 ghost use Rattle.std.specs.Prelude.{◌≡◌, ◌<◌, ◌≤◌, ◌^◌, IfOk, IfErr, OnOk, Ok, Err, All, [], length, option_map, slice_get, Some, unsigned_abs};
 ghost use Rattle.csv.specs.Records.{fields_of};
 ghost use Rattle.tk_input.specs.Log.{IsFault, both_fields as both_fields_of, change_added, log_of, next_change as next_change_of};

@@ -1,3 +1,5 @@
+//! The records of a text as csv reads them, one after the other.
+
 ghost use Rattle.std.specs.Prelude.{◌≡◌, ◌∷◌, [], false, IfOk, MatchBool, IsTrue};
 ghost use Rattle.csv.specs.Records.{fields_of};
 ghost use Rattle.tk_input.specs.Records.{found_in, records_in};

@@ -1,3 +1,5 @@
+//! What a retune asks for, in little room.
+
 ghost use Rattle.std.specs.Prelude.{◌≡◌, IfOk};
 
 use std::alloc::Global;

@@ -1,3 +1,5 @@
+//! Standard output as the output of a run, with its failed puts counted.
+
 ghost use Rattle.std.specs.Io.KnownBytes.{Appends};
 ghost use Rattle.std.specs.Prelude.{◌≡◌, None, OnOk};
 ghost use Rattle.tk_input.specs.Sink.{put_faults};

@@ -1,3 +1,5 @@
+//! Counts by name of the reads that failed, and of the most bytes that one took.
+
 ghost use Rattle.std.specs.Prelude.{◌≡◌, ◌≤◌, [], max, IfOk, OnOk, OnErr, IsSome, position, bytes_eq};
 ghost use Rattle.tk_input.specs.Files.{one_more};
 ghost use Rattle.tk_input.specs.Tallies.{Notes, count_of, faults_of, longest_of};

@@ -1,3 +1,5 @@
+//! The system's files as those of a run, with what came of their reads counted.
+
 ghost use Rattle.std.specs.Prelude.{◌≡◌, ◌<◌, ◌≤◌, [], None, IfOk, IsErrOf, IsSome, OnOk, length, max};
 ghost use Rattle.tk_input.specs.Files.{Gives};
 ghost use Rattle.tk_input.specs.MapFiles.{faults_after};

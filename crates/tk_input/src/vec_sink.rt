@@ -1,3 +1,5 @@
+//! An output in memory that can be read back, with the puts that are to fail given.
+
 ghost use Rattle.std.specs.Prelude.{◌≡◌, [], ◌++◌, if◌then◌else◌, Some, IfOk, OnOk, OnErr, is_ok, not};
 ghost use Rattle.tk_input.specs.Files.{HasRisen, one_more};
 ghost use Rattle.tk_input.specs.Sink.{Grows, GrowsByFront, put_faults};

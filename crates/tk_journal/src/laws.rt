@@ -1,3 +1,5 @@
+//! Laws of legal journals. Each function is there for its clause alone.
+
 ghost use Rattle.std.specs.Prelude.{◌≡◌, ℕ, pos, List, [], ◌∷◌, length, map, true, false, Some};
 ghost use Rattle.std.specs.List.{range_with_len};
 ghost use Rattle.tk_base.specs.Settings.{Setup, IsWithinLimits};

@@ -1,3 +1,5 @@
+//! What a journal is a list of, with the pointers that keep each entry small.
+
 ghost use Rattle.std.specs.Prelude.{◌≡◌, IfOk, IfErr};
 
 use crate::publication::Publication;

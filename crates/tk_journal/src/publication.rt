@@ -1,3 +1,5 @@
+//! Published sets, and the lines that print them.
+
 ghost use Rattle.std.specs.Prelude.{◌≡◌, ◌≤◌, ◌++◌, if◌then◌else◌, IfOk, OnOk, List, [], All, length, codes, decimal};
 ghost use Rattle.tk_journal.specs.Line.{bounds_text, cut_text, kind_text, line_text, names_text, places_text};
 

@@ -1,3 +1,5 @@
+//! The refusals of the coordinator, of frames and of retunes, and how they are printed.
+
 ghost use Rattle.std.specs.Prelude.{◌≡◌};
 ghost use Rattle.tk_journal.specs.declared.refusal.CoordRefusal.TheVariants.{NoMemory};
 

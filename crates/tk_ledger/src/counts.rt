@@ -1,3 +1,5 @@
+//! Frames counted by kind, for one monitor and for each.
+
 ghost use Rattle.std.specs.Prelude.{◌≡◌, ◌<◌, length, Some, slice_get};
 
 use std::marker::Model;

@@ -1,3 +1,5 @@
+//! The ledger of a story: its frames, rounds and bytes, counted.
+
 ghost use Rattle.std.specs.Prelude.{◌≡◌, IfOk};
 ghost use Rattle.tk_ledger.specs.Ledger.{ledger_of};
 

@@ -1,3 +1,5 @@
+//! The text of a story and its shorter forms, written line by line: sets, ticks, ledger and summary.
+
 ghost use Rattle.std.specs.Prelude.{◌≡◌, ◌++◌, [], length, option_map, unwrap_or, IfOk, OnOk, OnErr, IsErrOf};
 ghost use Rattle.std.specs.List.{All};
 ghost use Rattle.std.specs.Option.{option_copied};

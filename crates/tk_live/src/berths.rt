@@ -1,3 +1,5 @@
+//! The ports of a live run before they are served, with the room that their workers will need.
+
 ghost use Rattle.std.specs.Prelude.{◌≡◌, ◌≤◌, [], length, vec_capacity};
 
 use crate::crew::Slot;

@@ -1,3 +1,5 @@
+//! The workers of a live run: how they are started, one for each port, and waited for.
+
 ghost use Rattle.std.specs.Prelude.{◌≡◌, ◌≤◌, [], length, map, vec_capacity};
 ghost use Rattle.tk_live.specs.Crew.{made_in};
 ghost use Rattle.tk_live.specs.Slots.{slot_made};

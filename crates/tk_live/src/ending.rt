@@ -1,3 +1,5 @@
+//! Which end a live run comes to, by what the hub, its workers and their ends show.
+
 ghost use Rattle.std.specs.Prelude.{◌≡◌, true, map};
 ghost use Rattle.tk_live.specs.Odd.{IsSomeOdd};
 ghost use Rattle.tk_live.specs.Ending.{choice_of, by_cause as by_cause_of, where_odd as where_odd_of};

@@ -1,3 +1,5 @@
+//! The hub's part in a live run: it waits on the net, admits connections and takes turns until the run ends.
+
 ghost use Rattle.std.specs.Prelude.{◌≡◌, true, IfErr, IfSome};
 ghost use Rattle.tk_hub.specs.Hub.{IsHub};
 ghost use Rattle.tk_hub.specs.declared.course.Course.TheVariants.{Open};

@@ -1,3 +1,5 @@
+//! What comes of the ends of a live run: its story and ledger, or a difference between two of them.
+
 ghost use Rattle.std.specs.Prelude.{◌≡◌, OnOk, OnErr};
 ghost use Rattle.tk_input.specs.Sink.{Grows, GrowsByFront};
 ghost use Rattle.tk_load.specs.Surroundings.{output_by};

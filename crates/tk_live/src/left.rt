@@ -1,3 +1,5 @@
+//! What a live run is concluded from: how its loop and its workers ended, and their ends.
+
 use crate::parting::Parting;
 use tk_serve::Why;
 use tk_story::Ends;

@@ -1,3 +1,5 @@
+//! The live run of an input, from its set-up over its workers and hub to what came of it.
+
 ghost use Rattle.std.specs.Prelude.{ℕ, ◌≡◌, ◌≤◌, [], false, length, map, vec_capacity};
 ghost use Rattle.tk_frames.specs.Spelling.{IsVersion};
 ghost use Rattle.tk_input.specs.Files.{HasRisen};

@@ -1,3 +1,5 @@
+//! How a live run gets its number, by which its hub knows its own connections.
+
 use std::random::RandomSource;
 
 /// A number for a live run, another one for each: bytes that the system draws. Where it draws none the number is 0, which only

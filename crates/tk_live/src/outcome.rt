@@ -1,3 +1,5 @@
+//! What a live run answers: its status, with a story or with ends that make none.
+
 ghost use Rattle.std.specs.Prelude.{◌≡◌, None, Some};
 
 use tk_load::Status;

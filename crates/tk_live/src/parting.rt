@@ -1,3 +1,5 @@
+//! The causes that end the loop over a hub, and what is to be done after each.
+
 ghost use Rattle.std.specs.Prelude.{◌≡◌};
 ghost use Rattle.tk_live.specs.Parting.{halts_of, is_done_of, of_fault, of_turn};
 

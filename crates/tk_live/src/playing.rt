@@ -1,3 +1,5 @@
+//! The workers and the hub of a live run, side by side until all have ended.
+
 ghost use Rattle.std.specs.Prelude.{◌≡◌, map};
 ghost use Rattle.tk_live.specs.Crew.{made_in};
 ghost use Rattle.tk_live.specs.Hosted.{HostsFrom};

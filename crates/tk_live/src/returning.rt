@@ -1,3 +1,5 @@
+//! What workers leave: their links go back to the net, their ends are kept, and the gravest cause is found.
+
 ghost use Rattle.std.specs.Prelude.{◌≡◌, ◌≤◌, true, None, All, [], length, map, sum_by, vec_capacity};
 ghost use Rattle.tk_trail.specs.Readings.{is_stopped};
 ghost use Rattle.tk_live.specs.Carried.{HasTaken};

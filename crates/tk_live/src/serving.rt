@@ -1,3 +1,5 @@
+//! The command `live`, from its words to what came of its run.
+
 ghost use Rattle.std.specs.Prelude.{◌≡◌, false, map, string_bytes};
 ghost use Rattle.tk_input.specs.Files.{HasRisen};
 ghost use Rattle.tk_live.specs.Serving.{EndsWords, faults_told};

@@ -1,3 +1,5 @@
+//! The flags that keep the threads of a live run from waiting for one that ended early or never began.
+
 use tk_serve::Alarm;
 
 /// What the threads of a live run tell each other beside the protocol.

@@ -1,3 +1,5 @@
+//! The set-up of a live run: the net is opened, and the hub, the ports and all room are made.
+
 ghost use Rattle.std.specs.Prelude.{◌≡◌, ◌+◌, ◌<◌, ◌≤◌, true, false, All, [], length, map, IfOk, vec_capacity};
 ghost use Rattle.tk_frames.specs.Spelling.{IsVersion};
 ghost use Rattle.tk_hub.specs.declared.course.Course.TheVariants.{Open};

@@ -1,3 +1,5 @@
+//! What a worker of a live run is given, and what it leaves.
+
 ghost use Rattle.std.specs.Prelude.{◌≡◌, []};
 ghost use Rattle.tk_trail.specs.Readings.{taken_by};
 ghost use Rattle.tk_end.specs.Link.{Covers};

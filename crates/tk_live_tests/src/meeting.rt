@@ -1,3 +1,5 @@
+//! A gate that shows whether two feeders of a monitor run at once.
+
 use std::sync::atomic::{AtomicBool, AtomicU64, Ordering};
 use tk_base::{Feeder, Mon};
 use tk_serve::Gate;

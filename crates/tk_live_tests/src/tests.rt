@@ -1,3 +1,5 @@
+//! How live runs end over links in memory: whole, or with a failed call, a turned byte or a failed output.
+
 ghost use Rattle.std.specs.Prelude.{◌≡◌, false, IfSome};
 
 use crate::case::Case;

@@ -1,3 +1,5 @@
+//! The logs of a run, parsed side by side and joined, with the ends of their ticks.
+
 ghost use Rattle.std.specs.Prelude.{◌≡◌, ◌⊎◌, ◌+◌, ◌≤◌, Err, Ok, Result, IfErr, IfOk, All, length};
 ghost use Rattle.tk_input.specs.Judged.{last_monitor};
 ghost use Rattle.tk_input.specs.Logs.{IsObject};

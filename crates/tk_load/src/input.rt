@@ -1,3 +1,5 @@
+//! The whole input of a run: what stands in front of its order, and the order.
+
 ghost use Rattle.std.specs.Prelude.{◌≡◌, IfOk, Ok};
 ghost use Rattle.tk_input.specs.Catalog.{catalog_from};
 ghost use Rattle.tk_load.specs.Reads.{AreKept, Counts, Loads, reads_by};

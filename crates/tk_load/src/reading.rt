@@ -1,3 +1,5 @@
+//! What each file of an input gives once it is read and parsed, or the status that refuses it.
+
 ghost use Rattle.std.specs.Prelude.{◌≡◌, ◌≤◌, IfOk, All, None, Ok, Some, length};
 ghost use Rattle.tk_input.specs.Catalog.{catalog_from, catalog_of};
 ghost use Rattle.tk_input.specs.Log.{log_of};

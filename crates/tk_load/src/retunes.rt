@@ -1,3 +1,5 @@
+//! The order of a run, refused at the first retune that is past the limits.
+
 ghost use Rattle.std.specs.Prelude.{◌≡◌, Ok};
 ghost use Rattle.tk_load.specs.Input.{order_from, order_in, order_of_bytes, retune_kind, retunes_tested};
 ghost use Rattle.tk_load.specs.Reads.{AreKept, Counts, Meets, Reads, ReadsOrder, name_in, reads_by};

@@ -1,3 +1,5 @@
+//! The numbers among the words, as settings and as the width of a window, or the status that refuses them.
+
 ghost use Rattle.std.specs.Prelude.{◌≡◌, IfOk};
 ghost use Rattle.tk_load.specs.Faults.{setting_kind};
 ghost use Rattle.tk_load.specs.Input.{settings_in, width_in};

@@ -1,3 +1,5 @@
+//! The statuses that commands end with, with their numbers, and what can be wrong with an input.
+
 ghost use Rattle.std.specs.Prelude.{◌≡◌};
 ghost use Rattle.tk_load.specs.Status.{number_of};
 

@@ -1,3 +1,5 @@
+//! The line for standard error that says how a run failed.
+
 ghost use Rattle.std.specs.Prelude.{◌≡◌, ◌++◌, IfOk, OnOk, codes};
 ghost use Rattle.std.specs.Fmt.{decimal};
 ghost use Rattle.tk_load.specs.Status.{differs_text, fault_text, great_text, kind_text, line_text, link_text, place_text};

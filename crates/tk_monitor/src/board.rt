@@ -1,3 +1,5 @@
+//! What a monitor reads to find what is broken: levels by rank, factors and members.
+
 ghost use Rattle.std.specs.Prelude.{◌≡◌, ◌+◌, ◌-◌, ◌^◌, ◌<◌, ◌≤◌, pos, ◌+ℤ◌, unsigned_abs, IsTrue, length, replicate, All, IfOk, nat_lt, []};
 ghost use Rattle.tk_border.specs.Levels.{level_at, least_member as least_member_of, greatest_outside as greatest_outside_of, broken, border as border_of, holds};
 ghost use Rattle.tk_trail.specs.Slack.{difference};

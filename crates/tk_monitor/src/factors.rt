@@ -1,3 +1,5 @@
+//! The factors at one monitor, found in constant time, in little room where most objects were assigned none.
+
 ghost use Rattle.std.specs.Prelude.{◌≡◌, ℕ, ◌+◌, ◌^◌, ◌<◌, ◌≤◌, pos, unsigned_abs, [], ◌∷◌, ◌++◌, length, slice_index, slice_set, All, IfOk, IfErr, OnOk, OnErr};
 ghost use Rattle.tk_monitor.specs.Factors.{AreFactors, factor_in, factors_over, HasFactor, HasGot, IsWithFactor, kept_by};
 

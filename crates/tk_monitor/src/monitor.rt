@@ -1,3 +1,5 @@
+//! The monitor: how it counts a change, and what it shows of its levels, its places and its trail.
+
 ghost use Rattle.std.specs.Prelude.{◌≡◌, ◌<◌, length, IfOk, Some, slice_get};
 ghost use Rattle.tk_trail.specs.Readings.{places_at, at_ends, level_of, is_broken, seq_of, is_stopped, sent_by};
 ghost use Rattle.tk_trail.specs.Legal.{IsLegal};

@@ -1,3 +1,5 @@
+//! What a monitor took and said, as far as its next steps depend on it.
+
 ghost use Rattle.std.specs.Prelude.{◌≡◌, ◌&&◌, nat_lt, not};
 
 /// How far a monitor is in what the coordinator and it tell each other.

@@ -1,3 +1,5 @@
+//! How a monitor keeps its trail: a raise takes no memory, a frame has its room made first.
+
 ghost use Rattle.std.specs.Prelude.{◌≡◌, ◌+◌, ◌-◌, ◌^◌, ◌<◌, [], ◌∷◌, ◌++◌, length, IfOk, OnOk, Some, slice_get};
 ghost use Rattle.tk_trail.specs.Readings.{sent_by};
 

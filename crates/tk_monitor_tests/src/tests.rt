@@ -1,3 +1,5 @@
+//! What a monitor of the objects a and b refuses, answers and says, step by step over one log.
+
 ghost use Rattle.std.specs.Prelude.{◌≡◌, IfSome, length};
 
 use std::alloc::Global;

@@ -1,3 +1,5 @@
+//! What is made for one of several queries before it begins.
+
 use crate::watch::Watch;
 use tk_base::{Cut, Settings};
 use tk_input::{Catalog, Logs};

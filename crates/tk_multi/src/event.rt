@@ -1,3 +1,5 @@
+//! The events of several queries: a raise is one of all, any other of a single one.
+
 use tk_base::{Feeder, Mon};
 
 /// What happens next, as a line of the order file of several queries says. A number is that of a query, from 1.

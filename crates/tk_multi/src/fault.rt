@@ -1,3 +1,5 @@
+//! What keeps several queries from being run, and how that is printed.
+
 ghost use Rattle.std.specs.Prelude.{◌≡◌};
 ghost use Rattle.tk_multi.specs.declared.fault.MultiFault.TheVariants.{NoMemory as OutOfMemory};
 

@@ -1,3 +1,5 @@
+//! How far the common logs of several queries are raised.
+
 ghost use Rattle.std.specs.Prelude.{◌≡◌, ◌<◌, ◌-◌, ◌^◌, IfOk};
 ghost use Rattle.tk_input.specs.Logs.{IsFeeder, IsMonitor, beginnings};
 ghost use Rattle.tk_multi.specs.Front.{HasPlace, place_of, raised};

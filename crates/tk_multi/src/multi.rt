@@ -1,3 +1,5 @@
+//! Several queries at work: a raise moves the world of each that watches its object, any other event moves one.
+
 ghost use Rattle.std.specs.Prelude.{◌≡◌, IfOk, IfSome, OnErr, is_ok, is_some, length, map, option_map, true};
 ghost use Rattle.std.specs.List.{zip};
 ghost use Rattle.tk_input.specs.Changes.{pair_of};

@@ -1,3 +1,5 @@
+//! The order of several queries, and how its lines are read as events.
+
 ghost use Rattle.std.specs.Prelude.{◌≡◌, ◌<◌, IfOk, IfErr, OnOk, Ok, Some, length, slice_get};
 ghost use Rattle.tk_input.specs.Order.{words};
 ghost use Rattle.tk_multi.specs.Order.{AddsLine, IsFault, event_in, event_of_two as event_meant, line_added, multi_order_of, ordered, query_number as query_meant, raise_in};

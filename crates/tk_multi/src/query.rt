@@ -1,3 +1,5 @@
+//! What one record of a file of queries says.
+
 ghost use Rattle.std.specs.Prelude.{◌≡◌, IfOk, bytes_eq};
 
 use std::alloc::Global;

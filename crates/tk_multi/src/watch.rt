@@ -1,3 +1,5 @@
+//! Which objects a query watches, and what it sees of a part.
+
 ghost use Rattle.std.specs.Prelude.{◌≡◌, ◌++◌, IfOk, OnOk, length, map, option_map, option_to_list};
 ghost use Rattle.tk_input.specs.Catalog.{object_of};
 ghost use Rattle.tk_input.specs.Changes.{pair_of};

@@ -1,3 +1,5 @@
+//! What nets do over sockets and in memory: bytes both ways, doors, ends, and calls and bytes that go wrong.
+
 ghost use Rattle.std.specs.Prelude.{◌≡◌, ◌+◌, ◌<◌, false, true, IfSome, length};
 
 use std::alloc::Global;

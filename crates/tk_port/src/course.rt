@@ -1,3 +1,5 @@
+//! How a port stands after each turn, and what it answers once it is closed.
+
 use crate::turn::Turn;
 use tk_frames::BadFrame;
 use tk_trail::MonitorRefusal;

@@ -1,3 +1,5 @@
+//! The port: a monitor's raises, checks and turns with the coordinator over its link, and what it leaves in the end.
+
 ghost use Rattle.std.specs.Prelude.{◌≡◌, ◌<◌, ◌≤◌, ◌↔◌, [], true, false, Some, IfOk, OnOk, OnErr, length};
 ghost use Rattle.tk_frames.specs.Encoding.{Appends};
 ghost use Rattle.tk_frames.specs.Spelling.{IsVersion};

@@ -1,3 +1,5 @@
+//! The monitor as an actor, whose frames the link of a port carries.
+
 use tk_base::Mon;
 use tk_end::{Actor, Declined};
 use tk_frames::Frame;

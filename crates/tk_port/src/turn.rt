@@ -1,3 +1,5 @@
+//! The answers by which the caller of a port knows whether to go on.
+
 use tk_frames::BadFrame;
 use tk_trail::MonitorRefusal;
 

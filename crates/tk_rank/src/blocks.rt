@@ -1,3 +1,5 @@
+//! One side of a rank in a single width: leaves in blocks, under a tree of the greatest of each.
+
 ghost use Rattle.std.specs.Prelude.{◌≡◌, ℕ, ◌<◌, ◌≤◌, ◌+◌, ◌*◌, length, min, IfOk, map, slice_index_or, slice_set, None};
 ghost use Rattle.tk_base.specs.Ascending.{numbers_of};
 ghost use Rattle.tk_rank.specs.Blocks.{AreBlocks, blocks_of};

@@ -1,3 +1,5 @@
+//! The narrow form of a number at a leaf or a node.
+
 ghost use Rattle.std.specs.Prelude.{◌≡◌, ◌^◌, ◌≤◌, IfSome, IsNone, Some, unsigned_abs};
 ghost use Rattle.tk_rank.specs.Node.{narrow_number, wide_number};
 

@@ -1,3 +1,5 @@
+//! The rank of a node: levels that change, and the least member, greatest outsider and borders read from them.
+
 ghost use Rattle.std.specs.Prelude.{◌≡◌, ◌+◌, ◌-◌, ◌^◌, ◌<◌, ◌≤◌, ℤ, pos, ◌+ℤ◌, ◌≤ℤ◌, unsigned_abs, IsTrue, length, IfOk, Some, slice_set};
 ghost use Rattle.tk_base.specs.Objects.{is_in};
 ghost use Rattle.tk_border.specs.Levels.{level_at, least_member, greatest_outside, above, border, own_border, holds, AreMembers, AreObjects, AreSmall};

@@ -1,3 +1,5 @@
+//! One side of a rank, which turns wide at the first number that needs it.
+
 ghost use Rattle.std.specs.Prelude.{◌≡◌, ℕ, ◌^◌, ◌<◌, ◌≤◌, length, IfOk, slice_index_or, slice_set, unsigned_abs, Some, None};
 ghost use Rattle.tk_base.specs.Ascending.{numbers_of};
 ghost use Rattle.tk_rank.specs.Tree.{greatest_leaf, greatest_leaf_outside, objects_over, HasRoom};

@@ -1,3 +1,5 @@
+//! The wide form of a number at a leaf or a node.
+
 ghost use Rattle.std.specs.Prelude.{◌≡◌, ◌^◌, ◌<◌, Some, unsigned_abs};
 ghost use Rattle.tk_rank.specs.Node.{wide_number};
 

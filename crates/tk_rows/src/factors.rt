@@ -1,3 +1,5 @@
+//! One row of the table of factors.
+
 ghost use Rattle.std.specs.Prelude.{◌≡◌, ◌+◌, ◌<◌, ◌∷◌, IfOk, length, pos, replicate, slice_index_or};
 ghost use Rattle.std.specs.List.{All};
 ghost use Rattle.tk_rows.specs.Writing.{named_at, written};

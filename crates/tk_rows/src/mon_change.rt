@@ -1,3 +1,5 @@
+//! What a reallocation changes at one monitor.
+
 use tk_base::{Mon, Pairs};
 
 /// The new factors of some objects at one monitor.

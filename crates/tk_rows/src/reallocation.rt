@@ -1,3 +1,5 @@
+//! What a round decides, for the coordinator to put into its table and to send.
+
 use crate::mon_change::MonChange;
 use tk_base::{ObjSet, Pairs};
 

@@ -1,3 +1,5 @@
+//! The coordinator's table of factors, and how a reallocation changes it.
+
 ghost use Rattle.std.specs.Prelude.{◌≡◌, ℕ, ◌<◌, ◌≤◌, IfOk, length, pos, replicate};
 ghost use Rattle.tk_rows.specs.Factors.{AreBalanced, IsFactor, factor_at};
 ghost use Rattle.tk_rows.specs.Replacing.{IsReplacement, changes_at, factor_in};

@@ -1,3 +1,5 @@
+//! The command `gen`: the run of logs from a seed, and its summary.
+
 ghost use Rattle.std.specs.Prelude.{◌≡◌, IfSome};
 ghost use Rattle.tk_load.specs.declared.status.Status.TheVariants.{Done};
 ghost use Rattle.tk_run.specs.Ends.{EndsGenerated, RunsGenerated};

@@ -1,3 +1,5 @@
+//! The command `multi`: the runs of several queries, and the text of each behind its title.
+
 ghost use Rattle.std.specs.Prelude.{◌≡◌, ◌+◌, All, IfOk, OnErr, OnOk, length};
 ghost use Rattle.std.specs.List.{zip};
 ghost use Rattle.tk_input.specs.Sink.{Grows, GrowsByFront};

@@ -1,3 +1,5 @@
+//! What a command but `live` answers: its status, with the story or stories of what is done.
+
 ghost use Rattle.std.specs.Prelude.{◌≡◌, [], None, Some};
 ghost use Rattle.tk_run.specs.Outcome.{IsWithout};
 ghost use Rattle.tk_load.specs.declared.status.Status.TheVariants.{Done};

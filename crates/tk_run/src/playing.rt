@@ -1,3 +1,5 @@
+//! The run of one input to its story, as `replay`, `window`, `gen` and `trace` ask for it.
+
 ghost use Rattle.std.specs.Prelude.{◌≡◌, IfOk, length};
 ghost use Rattle.tk_load.specs.Whole.{AreAgreed};
 ghost use Rattle.tk_run.specs.Ends.{IsStoryOf};

@@ -1,3 +1,5 @@
+//! The commands `replay` and `window`: the run of an input, and its text.
+
 ghost use Rattle.std.specs.Prelude.{◌≡◌, IfSome, OnErr, OnOk, length};
 ghost use Rattle.tk_input.specs.Sink.{Grows, GrowsByFront};
 ghost use Rattle.tk_ledger.specs.Printing.{print_faults};

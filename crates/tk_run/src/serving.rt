@@ -1,3 +1,5 @@
+//! Which command the words name, and what comes of it, for all commands but `live`.
+
 ghost use Rattle.std.specs.Prelude.{◌≡◌, IfSome, false, map, string_bytes};
 ghost use Rattle.tk_load.specs.Reads.{AreKept, FailsAsTold, reads_by};
 ghost use Rattle.tk_load.specs.declared.status.Status.TheVariants.{Done, Usage};

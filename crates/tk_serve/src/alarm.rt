@@ -1,3 +1,5 @@
+//! A flag between the threads of a live run, which stays raised once it is.
+
 use std::sync::atomic::{AtomicBool, Ordering};
 
 /// A flag that says that some serving ended before Stop. No clause speaks of its value.

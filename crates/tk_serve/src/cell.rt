@@ -1,3 +1,5 @@
+//! Ports under locks, named so that proofs know which port is found behind one.
+
 ghost use Rattle.std.specs.Prelude.{◌≡◌, ◌↔◌, ℕ, true, false, None, IfNone, IfSome};
 ghost use Rattle.tk_base.specs.Settings.{Setup};
 ghost use Rattle.tk_monitor.specs.Monitored.{IsFeederOf, Raises};

@@ -1,3 +1,5 @@
+//! What a feeder does in its thread: raise after raise under the lock, with the bell where something is due.
+
 ghost use Rattle.tk_monitor.specs.Monitored.{IsFeederOf};
 
 use crate::cell::{PortCell, PortName, Shared};

@@ -1,3 +1,5 @@
+//! What feeders pass before their raises, so that tests can hold them there.
+
 use tk_base::{Feeder, Mon};
 
 /// What a feeder passes before each raise. A test holds feeders there; it has no handle, so it may only spin or yield.

@@ -1,3 +1,5 @@
+//! What a port leaves, and why its serving ended.
+
 ghost use Rattle.std.specs.Prelude.{◌≡◌, []};
 ghost use Rattle.tk_trail.specs.Legal.{IsLegal};
 ghost use Rattle.tk_trail.specs.Readings.{taken_by};

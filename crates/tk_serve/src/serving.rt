@@ -1,3 +1,5 @@
+//! How a port is served: its feeders in threads, beside them turns with a rest behind each quiet one.
+
 ghost use Rattle.std.specs.Prelude.{◌≡◌, [], IfOk, length};
 ghost use Rattle.tk_monitor.specs.Monitored.{IsFeederOf};
 ghost use Rattle.tk_trail.specs.Legal.{IsLegal};

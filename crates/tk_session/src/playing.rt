@@ -1,3 +1,5 @@
+//! The run of an order with restarts, to the story of each session.
+
 ghost use Rattle.std.specs.Prelude.{◌≡◌, IfOk, length};
 ghost use Rattle.tk_session.specs.Chain.{IsChainOf};
 ghost use Rattle.tk_session.specs.Order.{lines_of};

@@ -1,3 +1,5 @@
+//! The lines of an order with restarts: events, and the restarts between them.
+
 use tk_input::Event;
 
 /// What a line of an order of sessions is.

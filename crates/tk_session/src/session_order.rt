@@ -1,3 +1,5 @@
+//! The order of a run with restarts, and how its lines are read.
+
 ghost use Rattle.std.specs.Prelude.{◌≡◌, ◌<◌, ◌≤◌, if◌then◌else◌, IfOk, IfErr, OnOk, Ok, length, slice_get, Some};
 ghost use Rattle.tk_input.specs.Order.{IsFault};
 ghost use Rattle.tk_session.specs.Order.{IsReadAs, is_restart, line_added, line_in, line_taken, lines_of, numbers_of, session_order_of, stretches};

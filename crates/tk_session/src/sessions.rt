@@ -1,3 +1,5 @@
+//! The sessions of a run: how events move the present one, a restart begins the next, and all become stories.
+
 ghost use Rattle.std.specs.Prelude.{◌≡◌, ◌+◌, ◌-◌, ◌^◌, [], ◌∷◌, ◌++◌, true, IfOk, OnErr, OnOk, is_ok, is_some, length, min};
 ghost use Rattle.tk_story.specs.Moments.{cut_of};
 ghost use Rattle.tk_story.specs.Story.{IsStory};

@@ -1,3 +1,5 @@
+//! How a leeway is split: to each its weight in whole shares, and what is left over to the first in order.
+
 ghost use Rattle.std.specs.Prelude.{◌≡◌, ◌+◌, ◌-◌, ◌*◌, ◌^◌, ◌<◌, ◌≤◌, length, min, pos, take, ◌+ℤ◌, ◌*ℤ◌, unsigned_abs};
 ghost use Rattle.std.specs.List.{sum};
 ghost use Rattle.tk_share.specs.Shares.{share};

@@ -1,3 +1,5 @@
+//! Laws of shares. Each function is there for its clause alone.
+
 ghost use Rattle.std.specs.Prelude.{◌≡◌, ℕ, ◌<◌, ℤ, pos, ◌≤ℤ◌, List};
 ghost use Rattle.std.specs.List.{sum};
 ghost use Rattle.tk_base.specs.Sum.{int_sum};

@@ -1,3 +1,5 @@
+//! The story of a run, with what it shows: its logs, settings, events, journal and trails.
+
 ghost use Rattle.std.specs.Prelude.{◌≡◌, ◌-◌, ◌<◌, ◌≤◌, Some, slice_get};
 ghost use Rattle.tk_journal.specs.Kinds.{turns_of};
 ghost use Rattle.tk_story.specs.Story.{IsStory, story_over};

@@ -1,3 +1,5 @@
+//! What can keep bytes from being read as a trace, and what a check of the trace calls it.
+
 ghost use Rattle.std.specs.Prelude.{◌≡◌};
 ghost use Rattle.tk_trace.specs.Checked.{as_unread};
 ghost use Rattle.tk_trace.specs.declared.fault.ParseFault.TheVariants.{NoMemory as Memory};

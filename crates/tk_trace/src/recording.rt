@@ -1,3 +1,5 @@
+//! What the reader of a trace gives, before its histories are checked.
+
 use tk_base::Settings;
 use tk_input::{Catalog, Logs};
 use tk_journal::Noted;

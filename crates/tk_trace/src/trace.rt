@@ -1,3 +1,5 @@
+//! What the check of a trace gives where nothing is wrong with it.
+
 use tk_input::Catalog;
 use tk_story::Story;
 

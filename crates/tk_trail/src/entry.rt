@@ -1,3 +1,5 @@
+//! What a trail is a list of: changes counted, frames taken and frames sent.
+
 use tk_base::Feeder;
 use tk_frames::KeptFrame;
 

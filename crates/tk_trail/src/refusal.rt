@@ -1,3 +1,5 @@
+//! The refusals of a monitor, in the order of its tests, and how they are printed.
+
 use std::error::Error;
 use std::fmt;
 use tk_base::Obj;

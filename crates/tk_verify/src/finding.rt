@@ -1,3 +1,5 @@
+//! The findings of a record's check: an illegal part, a link that differs, no final set, or want of memory.
+
 use tk_base::Mon;
 use tk_story::Direction;
 

@@ -1,3 +1,5 @@
+//! What can stop a node that is driven over its record.
+
 ghost use Rattle.std.specs.Prelude.{◌≡◌};
 ghost use Rattle.tk_verify.specs.declared.halt.Halt.TheVariants.{NoMemory as Memory};
 

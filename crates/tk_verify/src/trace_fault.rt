@@ -1,3 +1,5 @@
+//! What the check of a trace can find, in the bytes or in the record that they hold, and how it is printed.
+
 ghost use Rattle.std.specs.Prelude.{◌≡◌};
 ghost use Rattle.tk_verify.specs.Faulty.{as_found};
 

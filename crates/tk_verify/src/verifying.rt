@@ -1,3 +1,5 @@
+//! The check of a record: fresh nodes are driven over its parts, and then joined to its story.
+
 ghost use Rattle.std.specs.Prelude.{◌≡◌, ◌⊎◌, List, [], None, IfOk, IfErr, OnOk, length, map};
 ghost use Rattle.tk_input.specs.Logs.{IsCut};
 ghost use Rattle.tk_journal.specs.declared.noted.Noted.{Noted as Said};

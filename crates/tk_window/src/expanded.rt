@@ -1,3 +1,5 @@
+//! Expanded logs, and which tick ends at a place of one.
+
 ghost use Rattle.std.specs.Prelude.{◌≡◌, ◌≤◌, length};
 ghost use Rattle.std.specs.List.Sorted.{IsNonDecreasing};
 ghost use Rattle.tk_window.specs.Window.{tick_ending};

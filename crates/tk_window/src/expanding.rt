@@ -1,3 +1,5 @@
+//! How a log in ticks is expanded: what enters the window is added, and what leaves it is taken back.
+
 ghost use Rattle.std.specs.Prelude.{◌≡◌, ℕ, ◌<◌, ◌≤◌, ◌^◌, ◌++◌, IfOk, IfErr, OnOk, Ok, All, length, unsigned_abs};
 ghost use Rattle.tk_window.specs.Ticks.{AreOver, IsTick};
 ghost use Rattle.tk_window.specs.Window.{IsExpandFault, SumsToWindow, expanded_of, step_to, up_to, withdrawn};

@@ -1,3 +1,5 @@
+//! What keeps a log in ticks from being expanded, and how that is printed.
+
 ghost use Rattle.std.specs.Prelude.{◌≡◌};
 ghost use Rattle.tk_window.specs.declared.fault.ExpandFault.TheVariants.{NoMemory as OutOfMemory};
 

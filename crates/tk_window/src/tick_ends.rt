@@ -1,3 +1,5 @@
+//! The ends of the ticks of all logs, by which the places of a cut are told as ticks.
+
 ghost use Rattle.std.specs.Prelude.{◌≡◌, IfOk, map};
 ghost use Rattle.tk_window.specs.Expanded.{ends_shown, sources_of};
 ghost use Rattle.tk_window.specs.TickEnds.{ends_by_monitor, ends_of, last_source, ticks_at, ticks_in as ticks_in_row};

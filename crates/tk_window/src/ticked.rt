@@ -1,3 +1,5 @@
+//! Logs in ticks: how a file with marks gives one, and the changes of each tick.
+
 ghost use Rattle.std.specs.Prelude.{◌≡◌, ◌<◌, ◌≤◌, ◌+◌, ◌^◌, ◌++◌, [], ◌∷◌, IfOk, IfErr, IfSome, OnOk, IsTrue, Ok, Err, All, length, slice_get, Some, unsigned_abs};
 ghost use Rattle.csv.specs.Records.{fields_of};
 ghost use Rattle.tk_input.specs.Log.{IsFault};

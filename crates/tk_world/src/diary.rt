@@ -1,3 +1,5 @@
+//! How a world keeps its events: a raise takes no memory, any other event has its room made first.
+
 ghost use Rattle.std.specs.Prelude.{◌≡◌, ◌-◌, ◌^◌, ◌<◌, [], ◌∷◌, ◌++◌, IfOk, OnOk};
 ghost use Rattle.tk_input.specs.declared.event.Event.TheVariants.{Raise};
 

@@ -1,3 +1,5 @@
+//! The nodes of a plain world, which take one another's frames as they are.
+
 ghost use Rattle.std.specs.Prelude.{◌≡◌, ◌<◌, ◌≤◌, None, IfOk, OnErr, OnOk, map};
 ghost use Rattle.tk_journal.specs.Refusal.{refusal_of};
 ghost use Rattle.tk_journal.specs.declared.noted.Noted.TheVariants.{Got};

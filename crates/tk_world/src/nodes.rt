@@ -1,3 +1,5 @@
+//! What a world asks of its nodes, however their frames go.
+
 ghost use Rattle.std.specs.Prelude.{◌≡◌, None, IfOk, OnErr, OnOk, map};
 ghost use Rattle.tk_journal.specs.Refusal.{retune_refusal_of};
 ghost use Rattle.tk_monitor.specs.Monitored.{IsFeederOf};

@@ -1,3 +1,5 @@
+//! A monitor's seat in a plain world, and when a monitor of any world is at rest or quiet.
+
 ghost use Rattle.std.specs.Prelude.{◌≡◌, map, IfOk};
 ghost use Rattle.tk_input.specs.Logs.{IsMonitor as IsMonitorOf};
 ghost use Rattle.tk_journal.specs.Readings.{monitors};

@@ -1,3 +1,5 @@
+//! How events are found that a story runs: its journal is walked, and each trail as far as that asks.
+
 ghost use Rattle.std.specs.Prelude.{◌≡◌, ◌<◌, [], length, replicate, IfOk, IfErr, OnOk};
 ghost use Rattle.tk_journal.specs.Laws.{IsMonitor};
 ghost use Rattle.tk_story.specs.Story.{trail_of};

@@ -1,3 +1,5 @@
+//! The monitors at which a world may have something to do, found in constant time.
+
 ghost use Rattle.std.specs.Prelude.{◌≡◌, ℕ, ◌≤◌, ◌==◌, ◌||◌, ◌&&◌, not, Bool, true, false, IfSome};
 ghost use Rattle.tk_world.specs.Work.{has, is_sent};
 ghost use Rattle.tk_world.specs.World.{IsBefore};

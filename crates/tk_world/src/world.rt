@@ -1,3 +1,5 @@
+//! The world: how events happen to its nodes, one at a time, and what it shows until it becomes a story.
+
 ghost use Rattle.std.specs.Prelude.{◌≡◌, ◌≤◌, ◌↔◌, [], true, false, None, IfOk, IfSome, OnErr, is_ok, is_some};
 ghost use Rattle.tk_input.specs.declared.event.Event.TheVariants.{Raise, Check, Up, Down, Retune};
 ghost use Rattle.tk_journal.specs.Laws.{IsMonitor};

@@ -1,3 +1,5 @@
+//! How wired nodes begin: a hub without connections, which then admits a line of each monitor.
+
 ghost use Rattle.std.specs.Prelude.{◌≡◌, ◌<◌, ◌≤◌, [], IfOk, OnOk, map};
 ghost use Rattle.tk_frames.specs.Spelling.{IsVersion};
 ghost use Rattle.tk_journal.specs.Laws.{IsMonitor};

@@ -1,3 +1,5 @@
+//! How a link hears: it pulls pieces off its wire, and an actor takes their frames.
+
 ghost use Rattle.std.specs.Prelude.{◌≡◌, false, IfNone, IfSome, OnSome, unwrap_or};
 ghost use Rattle.tk_frames.specs.Answer.{Answers};
 ghost use Rattle.tk_frames.specs.declared.answer.Next.TheVariants as n;

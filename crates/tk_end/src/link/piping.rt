@@ -1,3 +1,5 @@
+//! Bytes moved between pipes and a link's wire in memory.
+
 ghost use Rattle.tk_end.specs.Piping.{Drains, Fills};
 
 use crate::link::Link;

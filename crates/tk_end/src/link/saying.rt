@@ -1,3 +1,5 @@
+//! How a link says: it writes an actor's frames, and gives them to its wire.
+
 ghost use Rattle.std.specs.Prelude.{◌≡◌, ◌<◌, ◌≤◌, ◌+◌, ◌^◌, ◌↔◌, [], length, IfOk, OnErr, OnOk};
 ghost use Rattle.tk_frames.specs.Encoding.{Appends};
 ghost use Rattle.tk_wire.specs.Buffered.{Loses, counts_pushed};

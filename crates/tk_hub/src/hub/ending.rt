@@ -1,3 +1,5 @@
+//! What a hub leaves once it is done with.
+
 ghost use Rattle.std.specs.Prelude.{◌≡◌, true};
 ghost use Rattle.tk_hub.specs.End.{AreCounted, AreShut, EachCovers, IsLeft, is_some_lost, wires_of};
 ghost use Rattle.tk_hub.specs.Hub.{IsHub};

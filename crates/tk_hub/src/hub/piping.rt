@@ -1,3 +1,5 @@
+//! The hub's wires: bytes that pipes bring to one or take from it, and a look at one.
+
 ghost use Rattle.std.specs.Prelude.{◌≡◌};
 ghost use Rattle.tk_journal.specs.Laws.{IsMonitor};
 ghost use Rattle.tk_hub.specs.End.{SeatDrains, SeatFills, TellsWire};

@@ -1,3 +1,5 @@
+//! A retune that is asked of a hub.
+
 ghost use Rattle.std.specs.Prelude.{◌≡◌, None, IfErr, OnOk};
 ghost use Rattle.tk_coord.specs.Coordinator.{IsRefusal};
 ghost use Rattle.tk_journal.specs.declared.refusal.RetuneRefusal.TheVariants.{NoMemory as NoRoomToTune};

@@ -1,3 +1,5 @@
+//! What all seats of a hub leave once it is done with.
+
 ghost use Rattle.std.specs.Prelude.{◌≡◌, ◌≤◌, [], vec_capacity};
 ghost use Rattle.tk_hub.specs.End.{AreCounted, AreShut, LeavesOdd, wires_of};
 ghost use Rattle.tk_hub.specs.Leaving.{IsLeftOn};

@@ -1,3 +1,5 @@
+//! The wire at one seat: bytes that pipes bring to it or take from it, and a look at it.
+
 ghost use Rattle.std.specs.Prelude.{◌≡◌};
 ghost use Rattle.tk_journal.specs.Laws.{IsMonitor};
 ghost use Rattle.tk_hub.specs.End.{SeatDrains, SeatFills, TellsWire};

@@ -1,3 +1,5 @@
+//! The check: whether a monitor has to report or to tell its end, and how it does.
+
 ghost use Rattle.std.specs.Prelude.{◌≡◌, ◌∷◌, ◌++◌, [], true, false, Ok, IfOk, OnOk, OnErr};
 ghost use Rattle.tk_trail.specs.Readings.{at_ends};
 ghost use Rattle.tk_trail.specs.Frames.{report_at, settled_at, report_is_due, end_is_due};

@@ -1,3 +1,5 @@
+//! How a monitor begins, at some places of its parts.
+
 ghost use Rattle.std.specs.Prelude.{◌≡◌, IfOk};
 ghost use Rattle.tk_input.specs.Logs.{AreParts, ArePlaces};
 ghost use Rattle.tk_trail.specs.Legal.{IsLegal};

@@ -1,3 +1,5 @@
+//! How a monitor takes a frame of the coordinator: it refuses it, or notes it, with the answer where one is due.
+
 ghost use Rattle.std.specs.Prelude.{◌≡◌, None, IfErr, OnOk, OnErr};
 ghost use Rattle.tk_frames.specs.declared.frame.Frame.TheVariants as f;
 ghost use Rattle.tk_trail.specs.Refusal.{refusal_of as refusal_at};

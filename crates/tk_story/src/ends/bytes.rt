@@ -1,3 +1,5 @@
+//! Bytes that are kept where they are no frame.
+
 ghost use Rattle.std.specs.Prelude.{◌≡◌, ◌↔◌, IsTrue, IfOk};
 
 use std::marker::Model;

@@ -1,3 +1,5 @@
+//! Where two ends of a link do not agree.
+
 use crate::ends::received::Received;
 use tk_base::Mon;
 use tk_frames::Frame;

@@ -1,3 +1,5 @@
+//! What keeps ends from being joined.
+
 ghost use Rattle.std.specs.Prelude.{◌≡◌};
 ghost use Rattle.tk_story.specs.declared.ends.join_fault.JoinFault.TheVariants.{NoMemory as Memory};
 

@@ -1,3 +1,5 @@
+//! What a monitor brings to the joining of a run's ends.
+
 ghost use Rattle.std.specs.Prelude.{◌≡◌};
 ghost use Rattle.std.specs.Option.{ForSome};
 ghost use Rattle.tk_story.specs.Odd.{IsOddDown};

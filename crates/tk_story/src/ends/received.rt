@@ -1,3 +1,5 @@
+//! What can come over a link: a frame, or bytes that are none.
+
 ghost use Rattle.std.specs.Prelude.{◌≡◌, IfOk};
 
 use crate::ends::bytes::Bytes;

@@ -1,3 +1,5 @@
+//! How the ends of a run become its story, where no link differs.
+
 ghost use Rattle.std.specs.Prelude.{◌≡◌, ◌≤◌, [], length, map, IfOk, IfErr, IsErr, OnOk, vec_capacity};
 ghost use Rattle.tk_story.specs.Comparing.{AreTrailsLegal};
 ghost use Rattle.tk_story.specs.Ends.{AreOfOneRun, AreOrdered, HaveNothingOdd, TellsDifference, joined, kept_by};

@@ -1,3 +1,5 @@
+//! What buffers make of frames that come or go in pieces, in both versions, and over wires that fail.
+
 ghost use Rattle.std.specs.Prelude.{◌≤◌};
 
 use std::alloc::Global;

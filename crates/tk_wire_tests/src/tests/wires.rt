@@ -1,3 +1,5 @@
+//! What the calls of wires and pipes in memory answer, and which bytes they move.
+
 ghost use Rattle.std.specs.Prelude.{◌≡◌, [], ◌∷◌, IfOk};
 
 use std::alloc::Global;
