@@ -1,3 +1,4 @@
+mod AddressLemmas
 mod DigitsLemmas
 mod FoundLemmas
 mod LogsLemmas
