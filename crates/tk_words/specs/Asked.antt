@@ -1,17 +1,19 @@
 -- What the values of the code ask for.
-use Rattle.std.specs.Prelude.{ℕ, ◌≡◌, ◌⊎◌, ◌≤◌, All, List, map, Option, option_map}
+use Rattle.std.specs.Prelude.{ℕ, ◌≡◌, ◌⊎◌, ◌≤◌, All, IfSome, List, length, map, Option, option_map}
 use Rattle.std.specs.Borrow.{Bor}
 use Rattle.tk_base.specs.declared.ids.Mon.{Mon}
-use Rattle.tk_words.specs.Words.{Asked, CarriageWords, GenerateWords, LiveWords, MultiWords, ReplayWords, SourceWords}
-use Rattle.tk_words.specs.Words.Asked.{Replays, Generates, Lives, Queries, Restarts, Traces, Checks}
+use Rattle.tk_words.specs.Words.{Asked, CarriageWords, CoordinateWords, GenerateWords, LiveWords, MonitorWords, MultiWords, ReplayWords, SourceWords}
+use Rattle.tk_words.specs.Words.Asked.{Replays, Generates, Lives, Queries, Restarts, Traces, Checks, Coordinates, Monitors, Helps, Versions}
 use Rattle.tk_words.specs.declared.command.Command.{Command}
-use Rattle.tk_words.specs.declared.command.Command.TheVariants.{Replay as Replayed, Generate as Generated, Live as Lived, Multi as Queried, Sessions as Restarted, Trace as Traced, Check as Checked}
+use Rattle.tk_words.specs.declared.command.Command.TheVariants.{Replay as Replayed, Generate as Generated, Live as Lived, Multi as Queried, Sessions as Restarted, Trace as Traced, Check as Checked, Coordinate as Coordinated, Monitor as Monitored, Help as Helped, Version as Versioned}
 use Rattle.tk_words.specs.declared.sources.Sources.{Sources}
 use Rattle.tk_words.specs.declared.carriage.Carriage.{Carriage}
+use Rattle.tk_words.specs.declared.coordinate.Coordinate.{Coordinate}
 use Rattle.tk_words.specs.declared.replay.Replay.{Replay}
 use Rattle.tk_words.specs.declared.generate.Generate.{Generate}
 use Rattle.tk_words.specs.declared.live.Live.{Live}
 use Rattle.tk_words.specs.declared.multi.Multi.{Multi}
+use Rattle.tk_words.specs.declared.watched.Watched.{Watched}
 
 -- logs as numbers and bytes
 abbrev pub asked_logs : List (Mon × Bor (List ℕ)) → List (ℕ × List ℕ)
@@ -65,6 +67,33 @@ asked_multi m = record {
   logs = asked_logs m.logs.items;
 }
 
+-- what a coordinator asks for that runs as a process of its own
+abbrev pub asked_coordinate : Coordinate → CoordinateWords
+asked_coordinate c = record {
+  monitors = c.monitors;
+  k = c.k;
+  epsilon = c.epsilon;
+  own_weight = c.own_weight;
+  objects = c.objects.now;
+  run = c.run;
+  listen = c.listen.now;
+  silence = c.silence;
+  sessions = c.sessions;
+}
+
+-- what a monitor asks for that does
+abbrev pub asked_monitor : Watched → MonitorWords
+asked_monitor w = record {
+  number = w.number.0;
+  objects = w.objects.now;
+  run = w.run;
+  connect = w.connect.now;
+  frames = w.frames;
+  pause = w.pause;
+  tries = w.tries;
+  sources = map (λ s. s.now) w.sources.items;
+}
+
 -- what a command asks for
 abbrev pub asked_by : Command → Asked
 asked_by (Replayed r) = Replays (asked_replay r)
@@ -74,6 +103,10 @@ asked_by (Queried m) = Queries (asked_multi m)
 asked_by (Restarted r) = Restarts (asked_sources r)
 asked_by (Traced r) = Traces (asked_replay r)
 asked_by (Checked file) = Checks file.now
+asked_by (Coordinated c) = Coordinates (asked_coordinate c)
+asked_by (Monitored w) = Monitors (asked_monitor w)
+asked_by (Helped command) = Helps command
+asked_by Versioned = Versions
 
 -- each log is that of a monitor from 1 to 64
 abbrev pub AreOfMonitors : List (Mon × Bor (List ℕ)) → Type 0
@@ -88,6 +121,10 @@ HasMonitors (Queried m) = AreOfMonitors m.logs.items
 HasMonitors (Restarted r) = AreOfMonitors r.logs.items
 HasMonitors (Traced r) = AreOfMonitors r.sources.logs.items
 HasMonitors (Checked file) = Unit
+HasMonitors (Coordinated c) = Unit
+HasMonitors (Monitored w) = Unit
+HasMonitors (Helped command) = Unit
+HasMonitors Versioned = Unit
 
 -- a piece of 1 to 65,536 bytes, and a version that there is
 pub record IsCarriage (c : Carriage) : Type 0 where
@@ -104,3 +141,34 @@ HasCarriage (Queried m) = Unit
 HasCarriage (Restarted r) = Unit
 HasCarriage (Traced r) = IsCarriage r.carriage
 HasCarriage (Checked file) = Unit
+HasCarriage (Coordinated c) = Unit
+HasCarriage (Monitored w) = (w.frames ≡ 1) ⊎ (w.frames ≡ 2)
+HasCarriage (Helped command) = Unit
+HasCarriage Versioned = Unit
+
+-- the times of a coordinator are in their ranges
+pub record IsCoordinate (c : Coordinate) : Type 0 where
+  pub silence : (1 ≤ c.silence) × (c.silence ≤ 3600)
+  pub sessions : IfSome c.sessions (λ n. 1 ≤ n)
+
+-- the number, the version, the times and the sources of a monitor are in their ranges
+pub record IsWatched (w : Watched) : Type 0 where
+  pub number : (1 ≤ w.number.0) × (w.number.0 ≤ 64)
+  pub frames : (w.frames ≡ 1) ⊎ (w.frames ≡ 2)
+  pub pause : (1 ≤ w.pause) × (w.pause ≤ 60000)
+  pub tries : IfSome w.tries (λ n. 1 ≤ n)
+  pub sources : (1 ≤ length w.sources.items) × (length w.sources.items ≤ 8)
+
+-- so are those of a command that runs as a process of its own
+abbrev pub IsRanged : Command → Type 0
+IsRanged (Replayed r) = Unit
+IsRanged (Generated g) = Unit
+IsRanged (Lived l) = Unit
+IsRanged (Queried m) = Unit
+IsRanged (Restarted r) = Unit
+IsRanged (Traced r) = Unit
+IsRanged (Checked file) = Unit
+IsRanged (Coordinated c) = IsCoordinate c
+IsRanged (Monitored w) = IsWatched w
+IsRanged (Helped command) = Unit
+IsRanged Versioned = Unit

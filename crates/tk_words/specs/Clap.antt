@@ -3,7 +3,7 @@ use Rattle.std.specs.Prelude.{ℕ, Bool, true, false, List, [], ◌∷◌, Optio
 use Rattle.clap.specs.Words.{App, Row, Rule, fault_of, matches_of, new_app, new_rule, with_rule}
 use Rattle.clap.specs.declared.builder.action.ArgAction.TheVariants.{Append, Set}
 use Rattle.tk_words.specs.declared.verb.Verb.{Verb}
-use Rattle.tk_words.specs.declared.verb.Verb.TheVariants.{Replay, Generate, Live, Window, Multi, Sessions, Trace, Check}
+use Rattle.tk_words.specs.declared.verb.Verb.TheVariants.{Replay, Generate, Live, Window, Multi, Sessions, Trace, Check, Coordinate, Monitor, Help, Version}
 
 -- an option that takes one value
 abbrev pub option_rule : List ℕ → Bool → Rule
@@ -73,6 +73,45 @@ gen_app =
     (option_rule (codes "k") true))
     (option_rule (codes "epsilon") true)
 
+-- `coordinate`
+abbrev pub coordinate_app : App
+coordinate_app =
+    with_rule (with_rule (with_rule (with_rule (with_rule (with_source_rules (new_app (codes "coordinate")))
+    (option_rule (codes "monitors") true))
+    (option_rule (codes "run") true))
+    (option_rule (codes "listen") true))
+    (option_rule (codes "silence") false))
+    (option_rule (codes "sessions") false)
+
+-- the sources of a monitor, at least one
+abbrev pub sources_rule : Rule
+sources_rule = record (new_rule (codes "source")) { required = true; action = Some Append }
+
+-- `monitor`
+abbrev pub monitor_app : App
+monitor_app =
+    with_rule (with_rule (with_rule (with_rule (with_rule (with_rule (with_rule (with_rule (new_app (codes "monitor"))
+    (option_rule (codes "number") true))
+    (option_rule (codes "objects") true))
+    (option_rule (codes "run") true))
+    (option_rule (codes "connect") true))
+    (option_rule (codes "frames") false))
+    (option_rule (codes "pause") false))
+    (option_rule (codes "tries") false))
+    sources_rule
+
+-- the command of which help is wished, where one is named
+abbrev pub command_rule : Rule
+command_rule = record (new_rule (codes "command")) { action = Some Set }
+
+-- `help`
+abbrev pub help_app : App
+help_app = with_rule (new_app (codes "help")) command_rule
+
+-- `version`
+abbrev pub version_app : App
+version_app = new_app (codes "version")
+
 -- the command that a verb names
 abbrev pub app_named : Verb → App
 app_named Replay = replay_app (codes "replay")
@@ -83,6 +122,10 @@ app_named Multi = multi_app
 app_named Sessions = sessions_app
 app_named Trace = replay_app (codes "trace")
 app_named Check = check_app
+app_named Coordinate = coordinate_app
+app_named Monitor = monitor_app
+app_named Help = help_app
+app_named Version = version_app
 
 -- what was found, where there is no fault
 abbrev pub unless_any : {A X : Type 0} → List X → A → Option A

@@ -4,9 +4,9 @@ use Rattle.std.specs.Option.{option_map_or}
 use Rattle.clap.specs.Words.{Row, all_of, first_of}
 use Rattle.tk_base.specs.Digits.{digits_in, short_in}
 use Rattle.tk_words.specs.declared.verb.Verb.{Verb}
-use Rattle.tk_words.specs.declared.verb.Verb.TheVariants.{Replay, Generate, Live, Window, Multi, Sessions, Trace, Check}
+use Rattle.tk_words.specs.declared.verb.Verb.TheVariants.{Replay, Generate, Live, Window, Multi, Sessions, Trace, Check, Coordinate, Monitor, Help, Version}
 use Rattle.tk_words.specs.Clap.{app_named, found_in}
-use Rattle.tk_words.specs.Forms.{file_in, logs_in, piece_in, version_in}
+use Rattle.tk_words.specs.Forms.{connect_in, file_in, listen_in, logs_in, milliseconds_in, monitor_in, piece_in, seconds_in, sources_in, times_in, version_in}
 
 -- where a run finds its input: the numbers of the settings, the files with their logs' monitors, and the width of the
 -- window over them, where there is one
@@ -50,8 +50,34 @@ pub record MultiWords : Type 0 where
   pub order : Option (List ℕ)
   pub logs : List (ℕ × List ℕ)
 
+-- what a coordinator asks for that runs as a process of its own: the numbers of its settings, the file of its objects, its run,
+-- where it listens, how many seconds a link may be silent, and after how many sessions it ends, where it does
+pub record CoordinateWords : Type 0 where
+  pub monitors : ℕ
+  pub k : ℕ
+  pub epsilon : ℕ
+  pub own_weight : ℕ
+  pub objects : List ℕ
+  pub run : ℕ
+  pub listen : List ℕ
+  pub silence : ℕ
+  pub sessions : Option ℕ
+
+-- what a monitor asks for that does: its number, the file of its objects, its run, where it connects, the version of its frames,
+-- the milliseconds of a pause, after how many tries it gives up, where it does, and its sources
+pub record MonitorWords : Type 0 where
+  pub number : ℕ
+  pub objects : List ℕ
+  pub run : ℕ
+  pub connect : List ℕ
+  pub frames : ℕ
+  pub pause : ℕ
+  pub tries : Option ℕ
+  pub sources : List (List ℕ)
+
 -- what words ask for: a replay, a generated run, a live run, a replay of several queries, a replay with restarts, the
--- trace of a replay, and whether a file is a trace
+-- trace of a replay, whether a file is a trace, a coordinator or a monitor as a process of its own, help, of one command where
+-- it is named, and the version
 pub data Asked : Type 0 where
   Replays : ReplayWords → Asked
   Generates : GenerateWords → Asked
@@ -60,6 +86,10 @@ pub data Asked : Type 0 where
   Restarts : SourceWords → Asked
   Traces : ReplayWords → Asked
   Checks : List ℕ → Asked
+  Coordinates : CoordinateWords → Asked
+  Monitors : MonitorWords → Asked
+  Helps : Option Verb → Asked
+  Versions : Asked
 
 -- the value of a required option, in its form
 abbrev pub required : {A : Type 0} → (List ℕ → Option A) → List ℕ → List Row → Option A
@@ -146,6 +176,77 @@ generate_of rows =
     (required short_in (codes "monitors") rows))
     (required short_in (codes "seed") rows)
 
+-- a number of times, where it is written
+abbrev pub times_of : List ℕ → List Row → Option (Option ℕ)
+times_of name rows = optional (λ text. option_map Some (times_in text)) name None rows
+
+-- the values of a coordinator
+abbrev pub coordinate_of : List Row → Option CoordinateWords
+coordinate_of rows =
+    option_and_then (λ monitors. option_and_then (λ k. option_and_then (λ epsilon. option_and_then (λ own_weight. option_and_then (λ objects.
+    option_and_then (λ run. option_and_then (λ listen. option_and_then (λ silence. option_map (λ sessions. record {
+      monitors = monitors;
+      k = k;
+      epsilon = epsilon;
+      own_weight = own_weight;
+      objects = objects;
+      run = run;
+      listen = listen;
+      silence = silence;
+      sessions = sessions;
+    })
+    (times_of (codes "sessions") rows))
+    (optional seconds_in (codes "silence") 20 rows))
+    (required listen_in (codes "listen") rows))
+    (required short_in (codes "run") rows))
+    (required file_in (codes "objects") rows))
+    (optional short_in (codes "own-weight") 1 rows))
+    (required digits_in (codes "epsilon") rows))
+    (required short_in (codes "k") rows))
+    (required short_in (codes "monitors") rows)
+
+-- the sources of a monitor that are named
+abbrev pub sources_of : List Row → Option (List (List ℕ))
+sources_of rows = option_and_then sources_in (all_of (codes "source") rows)
+
+-- the values of a monitor
+abbrev pub monitor_of : List Row → Option MonitorWords
+monitor_of rows =
+    option_and_then (λ sources. option_and_then (λ number. option_and_then (λ objects. option_and_then (λ run. option_and_then (λ connect.
+    option_and_then (λ frames. option_and_then (λ pause. option_map (λ tries. record {
+      number = number;
+      objects = objects;
+      run = run;
+      connect = connect;
+      frames = frames;
+      pause = pause;
+      tries = tries;
+      sources = sources;
+    })
+    (times_of (codes "tries") rows))
+    (optional milliseconds_in (codes "pause") 500 rows))
+    (optional version_in (codes "frames") 1 rows))
+    (required connect_in (codes "connect") rows))
+    (required short_in (codes "run") rows))
+    (required file_in (codes "objects") rows))
+    (required monitor_in (codes "number") rows))
+    (sources_of rows)
+
+-- the command that a word names
+abbrev pub verb_named : List ℕ → Option Verb
+verb_named word =
+    if bytes_eq word (codes "replay") then Some Replay
+    else (if bytes_eq word (codes "gen") then Some Generate else (if bytes_eq word (codes "live") then Some Live
+    else (if bytes_eq word (codes "window") then Some Window else (if bytes_eq word (codes "multi") then Some Multi
+    else (if bytes_eq word (codes "sessions") then Some Sessions else (if bytes_eq word (codes "trace") then Some Trace
+    else (if bytes_eq word (codes "check") then Some Check else (if bytes_eq word (codes "coordinate") then Some Coordinate
+    else (if bytes_eq word (codes "monitor") then Some Monitor else (if bytes_eq word (codes "help") then Some Help
+    else (if bytes_eq word (codes "version") then Some Version else None)))))))))))
+
+-- the command of which help is wished, where one is named
+abbrev pub help_of : List Row → Option (Option Verb)
+help_of rows = optional (λ word. option_map Some (verb_named word)) (codes "command") None rows
+
 -- what a command asks for by what clap found: a window is a replay of its logs, expanded
 abbrev pub asked_with : Verb → List Row → Option Asked
 asked_with Replay rows = option_map Replays (replay_of rows)
@@ -156,20 +257,21 @@ asked_with Multi rows = option_map Queries (multi_of rows)
 asked_with Sessions rows = option_map Restarts (sessions_of rows)
 asked_with Trace rows = option_map Traces (replay_of rows)
 asked_with Check rows = option_map Checks (check_of rows)
+asked_with Coordinate rows = option_map Coordinates (coordinate_of rows)
+asked_with Monitor rows = option_map Monitors (monitor_of rows)
+asked_with Help rows = option_map Helps (help_of rows)
+asked_with Version rows = Some Versions
 
--- the command that a word names
-abbrev pub verb_named : List ℕ → Option Verb
-verb_named word =
-    if bytes_eq word (codes "replay") then Some Replay
-    else (if bytes_eq word (codes "gen") then Some Generate else (if bytes_eq word (codes "live") then Some Live
-    else (if bytes_eq word (codes "window") then Some Window else (if bytes_eq word (codes "multi") then Some Multi
-    else (if bytes_eq word (codes "sessions") then Some Sessions else (if bytes_eq word (codes "trace") then Some Trace
-    else (if bytes_eq word (codes "check") then Some Check else None)))))))
+-- the command that the first word names, which help and version have other names for
+abbrev pub verb_called : List ℕ → Option Verb
+verb_called word =
+    if bytes_eq word (codes "--help") then Some Help else (if bytes_eq word (codes "-h") then Some Help
+    else (if bytes_eq word (codes "--version") then Some Version else (if bytes_eq word (codes "-V") then Some Version else verb_named word)))
 
 -- the command of some words, which the first of them names
 abbrev pub verb_of : List (List ℕ) → Option Verb
 verb_of [] = None
-verb_of (word ∷ rest) = verb_named word
+verb_of (word ∷ rest) = verb_called word
 
 -- what the words of a command ask for, where clap takes them and each value is in its form
 abbrev pub asked_under : Verb → List (List ℕ) → Option Asked

@@ -1,8 +1,9 @@
 ghost use Rattle.std.specs.Prelude.{◌≡◌, Some, None, Err, IfOk, IsErrOf, map, string_bytes};
 ghost use Rattle.clap.specs.Words.{found_of, rows_of};
-ghost use Rattle.tk_words.specs.Asked.{HasCarriage, HasMonitors, asked_by};
+ghost use Rattle.tk_words.specs.Asked.{HasCarriage, HasMonitors, IsRanged, asked_by};
 ghost use Rattle.tk_words.specs.Words.{asked_with, verb_of as verb_named_by, words_of};
 
+use crate::coordinate::Coordinate;
 use crate::fault::WordsFault;
 use crate::generate::Generate;
 use crate::live::Live;
@@ -12,7 +13,8 @@ use crate::replay::{Replay, replay_with};
 use crate::rules::rules;
 use crate::sources::Sources;
 use crate::verb::{Verb, verb_of};
-use crate::{generate, live, multi, sessions, window};
+use crate::watched::Watched;
+use crate::{coordinate, generate, help, live, multi, sessions, watched, window};
 use clap::ArgMatches;
 use std::alloc::Global;
 
@@ -33,6 +35,14 @@ pub enum Command<'a> {
     Trace(Replay<'a>),
     /// Whether a file is the trace of a legal run.
     Check(&'a str),
+    /// A coordinator as a process of its own.
+    Coordinate(Coordinate<'a>),
+    /// A monitor as a process of its own.
+    Monitor(Watched<'a>),
+    /// Help, of one command where it is named.
+    Help(Option<Verb>),
+    /// Which version of the program this is.
+    Version,
 }
 
 /// What a command asks for by what clap found.
@@ -41,6 +51,7 @@ fn asked<'a>(alloc: Global, verb: Verb, matches: &ArgMatches<'a>) -> Result<Comm
     ensures usage { IsErrOf result WordsFault.Usage → asked_with verb (rows_of (found_of matches.now)) ≡ None }
     ensures monitors { IfOk result HasMonitors }
     ensures carriage { IfOk result HasCarriage }
+    ensures ranged { IfOk result IsRanged }
 {
     match verb {
         Verb::Replay => Ok(Command::Replay(replay_with(alloc, matches, None)?)),
@@ -57,6 +68,16 @@ fn asked<'a>(alloc: Global, verb: Verb, matches: &ArgMatches<'a>) -> Result<Comm
             Some(file) => Ok(Command::Check(file)),
             None => Err(WordsFault::Usage),
         },
+        Verb::Coordinate => match coordinate::values(matches) {
+            Some(values) => Ok(Command::Coordinate(values)),
+            None => Err(WordsFault::Usage),
+        },
+        Verb::Monitor => Ok(Command::Monitor(watched::values(alloc, matches)?)),
+        Verb::Help => match help::wished(matches) {
+            Some(command) => Ok(Command::Help(command)),
+            None => Err(WordsFault::Usage),
+        },
+        Verb::Version => Ok(Command::Version),
     }
 }
 
@@ -69,6 +90,7 @@ pub fn read<'a>(alloc: Global, words: &'a [String]) -> Result<Command<'a>, Words
     ensures usage { IsErrOf result WordsFault.Usage → words_of (map string_bytes words.entry.now) ≡ None }
     ensures monitors { IfOk result HasMonitors }
     ensures carriage { IfOk result HasCarriage }
+    ensures ranged { IfOk result IsRanged }
 {
     let Some(verb) = verb_of(words) else {
         return Err(WordsFault::Usage);

@@ -1,5 +1,6 @@
-ghost use Rattle.std.specs.Prelude.{◌≡◌, ◌⊎◌, ◌≤◌, IfSome, option_map};
-ghost use Rattle.tk_words.specs.Forms.{file_in, log_in, monitor_in, piece_in, version_in};
+ghost use Rattle.std.specs.Prelude.{◌≡◌, ◌⊎◌, ◌≤◌, IfSome, is_some, length, map, nat_lt, option_map, true};
+ghost use Rattle.std.specs.List.{list_all};
+ghost use Rattle.tk_words.specs.Forms.{connect_in, file_in, from_one_to, inputs_in, listen_in, log_in, milliseconds_in, monitor_in, piece_in, port_in, port_of as port_of_address, seconds_in, sources_in, times_in, version_in};
 ghost use Rattle.tk_base.specs.Digits.{digits_in, short_in};
 
 use tk_base::{Mon, digits_of, short_of};
@@ -7,6 +8,19 @@ use tk_base::{Mon, digits_of, short_of};
 const MAX_MONITOR: u128 = 64;
 
 const MAX_PIECE: u64 = 65_536;
+
+const MAX_SECONDS: u64 = 3_600;
+
+const MAX_MILLISECONDS: u64 = 60_000;
+
+const PORT_DIGITS: usize = 5;
+
+const MAX_PORT: u128 = 65_535;
+
+const MAX_SOURCES: usize = 8;
+
+/// The source that is the standard input.
+const INPUT: &str = "-";
 
 /// A number of 1 to 38 decimal digits.
 pub fn long_number(text: &str) -> Option<u128>
@@ -23,7 +37,7 @@ pub fn short_number(text: &str) -> Option<u64>
 }
 
 /// The number of a monitor: 1 to 64, without a leading zero.
-fn monitor(text: &[u8]) -> Option<Mon>
+pub fn monitor(text: &[u8]) -> Option<Mon>
     ensures value { option_map (λ m. m.0) result ≡ monitor_in text.now }
     ensures range { IfSome result (λ m. (1 ≤ m.0) × (m.0 ≤ 64)) }
 {
@@ -43,17 +57,50 @@ fn monitor(text: &[u8]) -> Option<Mon>
     }
 }
 
+/// A number from 1 to a limit.
+fn from_one(text: &str, most: u64) -> Option<u64>
+    ensures value { result ≡ from_one_to most (short_in text.now) }
+    ensures range { IfSome result (λ n. (1 ≤ n) × (n ≤ most)) }
+{
+    let number = short_number(text)?;
+    if 0 < number && number <= most {
+        Some(number)
+    } else {
+        None
+    }
+}
+
 /// The length of a piece: 1 to 65,536.
 pub fn piece_length(text: &str) -> Option<u64>
     ensures value { result ≡ piece_in text.now }
     ensures range { IfSome result (λ n. (1 ≤ n) × (n ≤ 65536)) }
 {
-    let length = short_number(text)?;
-    if 0 < length && length <= MAX_PIECE {
-        Some(length)
-    } else {
-        None
-    }
+    from_one(text, MAX_PIECE)
+}
+
+/// A time in seconds: 1 to 3,600.
+pub fn seconds(text: &str) -> Option<u64>
+    ensures value { result ≡ seconds_in text.now }
+    ensures range { IfSome result (λ n. (1 ≤ n) × (n ≤ 3600)) }
+{
+    from_one(text, MAX_SECONDS)
+}
+
+/// A time in milliseconds: 1 to 60,000.
+pub fn milliseconds(text: &str) -> Option<u64>
+    ensures value { result ≡ milliseconds_in text.now }
+    ensures range { IfSome result (λ n. (1 ≤ n) × (n ≤ 60000)) }
+{
+    from_one(text, MAX_MILLISECONDS)
+}
+
+/// How many times: 1 or more.
+pub fn times(text: &str) -> Option<u64>
+    ensures value { result ≡ times_in text.now }
+    ensures range { IfSome result (λ n. 1 ≤ n) }
+{
+    let number = short_number(text)?;
+    if 0 < number { Some(number) } else { None }
 }
 
 /// The version of frames: 1 or 2.
@@ -85,4 +132,72 @@ pub fn log_word(word: &str) -> Option<(Mon, &str)>
     let (before, after) = word.split_once('=')?;
     let mon = monitor(before.as_bytes())?;
     Some((mon, file(after)?))
+}
+
+/// The port that 1 to 5 digits write.
+fn port(text: &str) -> Option<u128>
+    ensures { result ≡ port_in text.now }
+{
+    if text.len() > PORT_DIGITS {
+        return None;
+    }
+    let port = digits_of(text.as_bytes())?;
+    if port <= MAX_PORT { Some(port) } else { None }
+}
+
+/// The port behind the last colon of an address, in front of which stands one byte or more.
+fn port_of(address: &str) -> Option<u128>
+    ensures { result ≡ port_of_address address.now }
+{
+    let (host, text) = address.rsplit_once(':')?;
+    if host.is_empty() {
+        return None;
+    }
+    port(text)
+}
+
+/// An address at which one listens, where port 0 stands for one that the system chooses.
+pub fn listened(address: &str) -> Option<&str>
+    ensures { option_map (λ s. s.now) result ≡ listen_in address.now }
+{
+    port_of(address)?;
+    Some(address)
+}
+
+/// An address to which one connects.
+pub fn connected(address: &str) -> Option<&str>
+    ensures { option_map (λ s. s.now) result ≡ connect_in address.now }
+{
+    if port_of(address)? == 0 {
+        return None;
+    }
+    Some(address)
+}
+
+/// Whether each of some words has a byte or more.
+fn are_named(words: &[&str]) -> bool
+    ensures { result ≡ list_all (λ word. nat_lt 0 (length word.now)) words.now }
+{
+    words.iter().all(|word| !word.is_empty())
+}
+
+/// How many of some words are the standard input.
+fn inputs(words: &[&str]) -> usize
+    ensures { result ≡ inputs_in (map (λ s. s.now) words.now) }
+{
+    words.iter().filter(|word| **word == INPUT).count()
+}
+
+/// Whether these are the sources of a monitor: 1 to 8 files, of which the standard input is one at most once.
+pub fn are_sources(words: &[&str]) -> bool
+    ensures value { result ≡ is_some (sources_in (map (λ s. s.now) words.now)) }
+    ensures count { result ≡ true → (1 ≤ length words.now) × (length words.now ≤ 8) }
+{
+    if words.is_empty() || words.len() > MAX_SOURCES {
+        return false;
+    }
+    if !are_named(words) {
+        return false;
+    }
+    inputs(words) <= 1
 }

@@ -1,6 +1,6 @@
 ghost use Rattle.std.specs.Prelude.{◌≡◌, false, IfOk};
 ghost use Rattle.clap.specs.Words.{app_of, rule_of};
-ghost use Rattle.tk_words.specs.Clap.{file_rule, logs_rule, option_rule, with_carriage_rules, with_order_rule, with_source_rules};
+ghost use Rattle.tk_words.specs.Clap.{command_rule, file_rule, logs_rule, option_rule, sources_rule, with_carriage_rules, with_order_rule, with_source_rules};
 
 use clap::{Arg, ArgAction, Command};
 use std::alloc::{AllocError, Global};
@@ -24,6 +24,24 @@ pub fn log_words<'a>(alloc: Global) -> Arg<'a>
     Arg::new(alloc, "log")
         .required(true)
         .action(ArgAction::Append)
+}
+
+/// The sources of a monitor, at least one.
+pub fn source_words<'a>(alloc: Global) -> Arg<'a>
+    ensures rule { rule_of result ≡ sources_rule }
+    ensures local { result.global ≡ false }
+{
+    Arg::new(alloc, "source")
+        .required(true)
+        .action(ArgAction::Append)
+}
+
+/// The word of a command, where there is one.
+pub fn command_word<'a>(alloc: Global) -> Arg<'a>
+    ensures rule { rule_of result ≡ command_rule }
+    ensures local { result.global ≡ false }
+{
+    Arg::new(alloc, "command").action(ArgAction::Set)
 }
 
 /// The word of a file.

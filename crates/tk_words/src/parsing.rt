@@ -1,12 +1,12 @@
-ghost use Rattle.std.specs.Prelude.{◌≡◌, ◌≢◌, true, Some, None, IfOk, IsErrOf, map, codes, string_bytes, option_map};
+ghost use Rattle.std.specs.Prelude.{◌≡◌, ◌≢◌, ◌≤◌, true, Some, None, IfOk, IfSome, IsErrOf, map, codes, string_bytes, option_map};
 ghost use Rattle.clap.specs.Words.{all_of, app_of, first_of, found_of, is_simple_and_free, kind_of, rows_of};
 ghost use Rattle.tk_words.specs.Clap.{found_in};
-ghost use Rattle.tk_words.specs.Forms.{file_in};
+ghost use Rattle.tk_words.specs.Forms.{file_in, listen_in};
 ghost use Rattle.tk_base.specs.Digits.{digits_in, short_in};
-ghost use Rattle.tk_words.specs.Words.{required};
+ghost use Rattle.tk_words.specs.Words.{required, times_of};
 
 use crate::fault::WordsFault;
-use crate::forms::{file, long_number, short_number};
+use crate::forms::{file, listened, long_number, short_number, times as times_written};
 use clap::error::ErrorKind;
 use clap::{ArgMatches, Command, Error};
 
@@ -39,11 +39,11 @@ pub fn value<'a>(matches: &ArgMatches<'a>, name: &str) -> Option<&'a str>
     matches.get_str(name)
 }
 
-/// The further words.
-pub fn further<'m, 'a>(matches: &'m ArgMatches<'a>) -> Option<&'m [&'a str]>
-    ensures { option_map (λ words. map (λ s. s.now) words.now) result ≡ all_of (codes "log") (rows_of (found_of matches.now)) }
+/// The further words, under their name.
+pub fn further<'m, 'a>(matches: &'m ArgMatches<'a>, name: &str) -> Option<&'m [&'a str]>
+    ensures { option_map (λ words. map (λ s. s.now) words.now) result ≡ all_of name.now (rows_of (found_of matches.now)) }
 {
-    matches.get_strs("log")
+    matches.get_strs(name)
 }
 
 /// The value of a required option, a number of at most 18 digits.
@@ -65,4 +65,22 @@ pub fn named_file<'a>(matches: &ArgMatches<'a>, name: &str) -> Option<&'a str>
     ensures { option_map (λ s. s.now) result ≡ required file_in name.now (rows_of (found_of matches.now)) }
 {
     file(value(matches, name)?)
+}
+
+/// The value of an option, a number of times, where it is written.
+pub fn times(matches: &ArgMatches<'_>, name: &str) -> Option<Option<u64>>
+    ensures value { result ≡ times_of name.now (rows_of (found_of matches.now)) }
+    ensures range { IfSome result (λ written. IfSome written (λ n. 1 ≤ n)) }
+{
+    match value(matches, name) {
+        None => Some(None),
+        Some(text) => Some(Some(times_written(text)?)),
+    }
+}
+
+/// The address at which one listens.
+pub fn listen_address<'a>(matches: &ArgMatches<'a>) -> Option<&'a str>
+    ensures { option_map (λ s. s.now) result ≡ required listen_in (codes "listen") (rows_of (found_of matches.now)) }
+{
+    listened(value(matches, "listen")?)
 }

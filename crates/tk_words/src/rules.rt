@@ -3,7 +3,7 @@ ghost use Rattle.clap.specs.Words.{app_of};
 ghost use Rattle.tk_words.specs.Clap.{app_named};
 
 use crate::verb::Verb;
-use crate::{check, generate, live, multi, replay, sessions, window};
+use crate::{check, coordinate, generate, help, live, multi, replay, sessions, watched, window};
 use clap::Command;
 use std::alloc::{AllocError, Global};
 
@@ -20,5 +20,9 @@ pub fn rules<'a>(alloc: Global, verb: Verb) -> Result<Command<'a>, AllocError>
         Verb::Sessions => sessions::command(alloc),
         Verb::Trace => replay::command(alloc, "trace"),
         Verb::Check => check::command(alloc),
+        Verb::Coordinate => coordinate::command(alloc),
+        Verb::Monitor => watched::command(alloc),
+        Verb::Help => help::command(alloc),
+        Verb::Version => Ok(Command::new(alloc, "version")),
     }
 }

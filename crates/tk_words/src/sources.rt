@@ -28,7 +28,7 @@ pub struct Sources<'a> {
 }
 
 /// The optional own weight, 1 where there is none.
-fn own_weight(matches: &ArgMatches<'_>) -> Option<u64>
+pub fn own_weight(matches: &ArgMatches<'_>) -> Option<u64>
     ensures { result ≡ optional short_in (codes "own-weight") 1 (rows_of (found_of matches.now)) }
 {
     match value(matches, "own-weight") {
@@ -58,7 +58,7 @@ pub fn logs<'a>(alloc: Global, matches: &ArgMatches<'a>) -> Result<Vec<(Mon, &'a
     ensures usage { IsErrOf result WordsFault.Usage → logs_of (rows_of (found_of matches.now)) ≡ None }
     ensures monitors { IfOk result (λ logs. AreOfMonitors logs.items) }
 {
-    match further(matches) {
+    match further(matches, "log") {
         None => Err(WordsFault::Usage),
         Some(words) => logs_from(alloc, words),
     }

@@ -1,5 +1,5 @@
 ghost use Rattle.std.specs.Prelude.{◌≡◌, map, string_bytes};
-ghost use Rattle.tk_words.specs.Words.{verb_named, verb_of as verb_of_words};
+ghost use Rattle.tk_words.specs.Words.{verb_called, verb_named as verb_named_by, verb_of as verb_of_words};
 
 /// The command that the first word names.
 #[derive(Clone, Copy, Debug, PartialEq, Eq)]
@@ -12,10 +12,15 @@ pub enum Verb {
     Sessions,
     Trace,
     Check,
+    Coordinate,
+    Monitor,
+    Help,
+    Version,
 }
 
-fn verb_in(word: &str) -> Option<Verb>
-    ensures { result ≡ verb_named word.now }
+/// The command of this name.
+pub fn verb_named(word: &str) -> Option<Verb>
+    ensures { result ≡ verb_named_by word.now }
 {
     if word == "replay" {
         Some(Verb::Replay)
@@ -33,8 +38,29 @@ fn verb_in(word: &str) -> Option<Verb>
         Some(Verb::Trace)
     } else if word == "check" {
         Some(Verb::Check)
+    } else if word == "coordinate" {
+        Some(Verb::Coordinate)
+    } else if word == "monitor" {
+        Some(Verb::Monitor)
+    } else if word == "help" {
+        Some(Verb::Help)
+    } else if word == "version" {
+        Some(Verb::Version)
     } else {
         None
+    }
+}
+
+/// The command that the first word names, which may be another name of help or of version.
+fn verb_in(word: &str) -> Option<Verb>
+    ensures { result ≡ verb_called word.now }
+{
+    if word == "--help" || word == "-h" {
+        Some(Verb::Help)
+    } else if word == "--version" || word == "-V" {
+        Some(Verb::Version)
+    } else {
+        verb_named(word)
     }
 }
 

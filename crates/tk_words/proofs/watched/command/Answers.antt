@@ -1,0 +1,15 @@
+use Rattle.std.proofs.Common.{ap₂, ◌∙◌}
+use Rattle.std.proofs.lemmas.Result.{IfOk-weaker}
+use Rattle.clap.specs.Words.{with_rule}
+use Rattle.tk_words.proofs.watched.command.Goals as goal
+
+pub returns : goal.returns
+returns c =
+    let number = c.in_ok-arg.ensures.shape c.option.ensures.local ∙ ap₂ with_rule c.new.ensures.app c.option.ensures.rule in
+    let objects = c.in_ok-arg-2.ensures.shape c.option-2.ensures.local ∙ ap₂ with_rule number c.option-2.ensures.rule in
+    let run = c.in_ok-arg-3.ensures.shape c.option-3.ensures.local ∙ ap₂ with_rule objects c.option-3.ensures.rule in
+    let connect = c.in_ok-arg-4.ensures.shape c.option-4.ensures.local ∙ ap₂ with_rule run c.option-4.ensures.rule in
+    let frames = c.in_ok-arg-5.ensures.shape c.option-5.ensures.local ∙ ap₂ with_rule connect c.option-5.ensures.rule in
+    let pause = c.in_ok-arg-6.ensures.shape c.option-6.ensures.local ∙ ap₂ with_rule frames c.option-6.ensures.rule in
+    let tries = c.in_ok-arg-7.ensures.shape c.option-7.ensures.local ∙ ap₂ with_rule pause c.option-7.ensures.rule in
+    IfOk-weaker c.arg-8.result _ _ (λ r added. added.shape c.source_words.ensures.local ∙ ap₂ with_rule tries c.source_words.ensures.rule) c.arg-8.ensures
