@@ -10,12 +10,12 @@ abbrev pub no_counts : Counts
 no_counts = record { faults = 0; ends = 0; taken = 0 }
 
 -- a link over a socket: its counts, and whether it was shut
-pub record SocketLink : Type 0 where
+pub record SocketView : Type 0 where
   pub counts : Counts
   pub shut : Bool
 
 -- a link over a socket, before any byte
-abbrev pub new_socket_link : SocketLink
+abbrev pub new_socket_link : SocketView
 new_socket_link = record { counts = no_counts; shut = false }
 
 -- a net that was just made

@@ -1,3 +1,4 @@
 pub mod Counting
+pub mod Hosting
 pub mod Memory
 pub mod Rings

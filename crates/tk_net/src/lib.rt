@@ -1,28 +1,46 @@
 //! Nets: over the loopback sockets of this machine, and in memory.
 //!
-//! Both are proved against `tk_wire::Net` and its links, rests and bells, and tell nothing of the bytes that pass. A net in
+//! Both are proved against `tk_wire::Net`, `Host` and `Dialer`, and tell nothing of the bytes that pass. A net or a host in
 //! memory is for tests: it fails the calls that it is told to fail and no other, and may turn one byte.
 //! It stands on tk_base, tk_wire, mio and rtrb. No other crate names sockets, or rings between threads.
 #![tactic(auto)]
 
+mod attach;
+mod caller;
+mod dialed_link;
+mod door;
+mod host_faults;
 mod link_counts;
-mod loop_bell;
-mod loop_link;
+mod lobby;
 mod loop_net;
-mod loop_rest;
 mod mem_bell;
+mod mem_dialer;
+mod mem_host;
 mod mem_link;
 mod mem_net;
 mod mem_rest;
+mod mem_source;
 mod net_counts;
 mod plan;
 mod ring;
+mod socket;
+mod socket_bell;
+mod socket_dialer;
+mod socket_host;
+mod socket_link;
+mod socket_rest;
+mod source;
 
-pub use loop_bell::LoopBell;
-pub use loop_link::LoopLink;
+pub use dialed_link::DialedLink;
 pub use loop_net::LoopNet;
-pub use loop_rest::LoopRest;
 pub use mem_bell::MemBell;
+pub use mem_dialer::MemDialer;
+pub use mem_host::MemHost;
 pub use mem_link::MemLink;
 pub use mem_net::MemNet;
 pub use mem_rest::MemRest;
+pub use socket_bell::SocketBell;
+pub use socket_dialer::SocketDialer;
+pub use socket_host::SocketHost;
+pub use socket_link::SocketLink;
+pub use socket_rest::SocketRest;

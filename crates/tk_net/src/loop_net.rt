@@ -1,40 +1,19 @@
-ghost use Rattle.std.specs.Prelude.{◌≡◌, ◌<◌, false, true, IfOk, IfSome};
+ghost use Rattle.std.specs.Prelude.{◌≡◌, false, IfOk};
 ghost use Rattle.tk_net.specs.Counting.{new_socket_link, new_net};
 
-use crate::loop_bell::LoopBell;
-use crate::loop_link::LoopLink;
-use crate::loop_rest::LoopRest;
+use crate::attach::attach;
+use crate::door::{Door, fault_of};
 use crate::net_counts::NetCounts;
-use mio::net::{TcpListener, TcpStream};
-use mio::{Events, Interest, Poll, Token, Waker};
+use crate::socket_bell::SocketBell;
+use crate::socket_link::SocketLink;
+use crate::socket_rest::SocketRest;
+use mio::net::TcpStream;
 use std::alloc::Global;
 use std::io;
-use std::io::ErrorKind;
 use std::marker::Model;
 use std::net::{Ipv4Addr, SocketAddr};
-use std::time::Duration;
 use tk_base::NoMemory;
 use tk_wire::{Net, NetFault, Rest};
-
-/// The longest time that a wait or a rest takes. What comes ends it, so it is only how late a lost edge is made up for.
-pub(crate) fn most_wait() -> Duration {
-    Duration::from_millis(50)
-}
-
-/// How many waits in a row pass without a descriptor for the next connection, before that is a fault.
-const PAUSES: u32 = 100;
-
-/// How many connections that failed one accept drops at most.
-const DROPS: u32 = 64;
-
-/// What the system answers where it has no descriptor, no room or no memory for one more: ENOMEM, ENFILE, EMFILE, ENOBUFS.
-const SHORT: [i32; 4] = [12, 23, 24, 105];
-
-/// How many events one wait is told. Nobody looks at them.
-const EVENTS: usize = 64;
-
-/// Under which every source is registered.
-const TOKEN: Token = Token(0);
 
 /// A net over sockets of this machine, at a port that the system picks.
 #[derive(Drop)]
@@ -44,32 +23,6 @@ pub struct LoopNet<'a, H: std::net::Net> {
     // None until it listens.
     door: Option<Door>,
     counts: NetCounts,
-}
-
-// What listens, and what waits for it and for the links that were accepted.
-#[derive(Drop)]
-struct Door {
-    listener: TcpListener,
-    address: SocketAddr,
-    poll: Poll,
-    events: Events,
-    // Told of nothing, so a wait on it lasts its time.
-    pause: Poll,
-    // How many times in a row there was no descriptor for the next connection.
-    pauses: u32,
-}
-
-// What an accept of the system came to.
-#[derive(Drop)]
-enum Knock {
-    Stream(TcpStream),
-    // Nobody waits.
-    Nobody,
-    // A connection failed while it waited.
-    Gone,
-    // There is no descriptor for it now.
-    Short(io::Error),
-    Failed(io::Error),
 }
 
 impl<'a, H: std::net::Net> Model for LoopNet<'a, H> {
@@ -83,127 +36,23 @@ impl<'a, H: std::net::Net> Model for LoopNet<'a, H> {
     ghost invariant = { λ n. n.counts.listens ≡ is_some n.door };
 }
 
-// What an error of the system is to a net.
-fn fault_of(error: io::Error) -> NetFault {
-    match error.kind() {
-        ErrorKind::OutOfMemory => NetFault::NoMemory,
-        _ => NetFault::Failed,
-    }
-}
-
-// What an error of an accept is. Those of a connection that waited say nothing of the door.
-fn knock_of(error: io::Error) -> Knock {
-    if let Some(code) = error.raw_os_error() {
-        if SHORT.contains(&code) {
-            return Knock::Short(error);
-        }
-    }
-    match error.kind() {
-        ErrorKind::WouldBlock => Knock::Nobody,
-        ErrorKind::ConnectionAborted
-        | ErrorKind::ConnectionReset
-        | ErrorKind::NetworkDown
-        | ErrorKind::NetworkUnreachable
-        | ErrorKind::HostUnreachable
-        | ErrorKind::Interrupted => Knock::Gone,
-        _ => Knock::Failed(error),
-    }
-}
-
-impl Door {
-    // A listener on a port of the system's choice.
-    fn open<H: std::net::Net>(handle: &H, alloc: Global) -> io::Result<Door> {
-        let events = Events::with_capacity(alloc, EVENTS)?;
-        let any = SocketAddr::from((Ipv4Addr::LOCALHOST, 0));
-        let mut listener = TcpListener::bind(handle, any)?;
-        let address = listener.local_addr()?;
-        let poll = Poll::new(handle)?;
-        poll.registry()
-            .register(&mut listener, TOKEN, Interest::READABLE)?;
-        Ok(Door {
-            listener,
-            address,
-            poll,
-            events,
-            pause: Poll::new(handle)?,
-            pauses: 0,
-        })
-    }
-
-    // A link to the door, with the rest and the bell of its owner.
-    fn connect<H: std::net::Net>(
-        &self,
-        handle: &H,
-        alloc: Global,
-    ) -> io::Result<(LoopLink, LoopRest, LoopBell)>
-        ensures link { IfOk result (λ made. made.0 ≡ new_socket_link) }
-        ensures rest { IfOk result (λ made. made.1 ≡ 0) }
-    {
-        let events = Events::with_capacity(alloc, EVENTS)?;
-        let poll = Poll::new(handle)?;
-        let mut stream = TcpStream::connect(handle, self.address)?;
-        watch(&poll, &mut stream)?;
-        let waker = Waker::new(poll.registry(), TOKEN)?;
-        let link = LoopLink::new(stream);
-        Ok((link, LoopRest::new(poll, events), LoopBell { waker }))
-    }
-
-    // What stands at the front of the queue.
-    fn knock(&self) -> Knock {
-        match self.listener.accept() {
-            Ok((stream, _)) => Knock::Stream(stream),
-            Err(error) => knock_of(error),
-        }
-    }
-
-    // The link to a connection that waits, if one does. One that fails is dropped, as a stranger's may at any time. Where
-    // there is no descriptor for it none is answered, and the next wait is a pause, until that was so too often.
-    fn accept(&mut self) -> io::Result<Option<LoopLink>>
-        ensures { IfOk result (λ got. IfSome got (λ link. link ≡ new_socket_link)) }
-    {
-        for _ in 0..DROPS {
-            match self.knock() {
-                Knock::Stream(mut stream) => {
-                    self.pauses = 0;
-                    if watch(&self.poll, &mut stream).is_ok() {
-                        return Ok(Some(LoopLink::new(stream)));
-                    }
-                }
-                Knock::Gone => {}
-                Knock::Nobody => {
-                    self.pauses = 0;
-                    return Ok(None);
-                }
-                Knock::Short(_) if self.pauses < PAUSES => {
-                    self.pauses += 1;
-                    return Ok(None);
-                }
-                Knock::Short(error) | Knock::Failed(error) => return Err(error),
-            }
-        }
-        Ok(None)
-    }
-
-    // Waits for what may come, or lets a pause pass where descriptors are short.
-    fn wait(&mut self) -> io::Result<()> {
-        if self.pauses > 0 {
-            return self.pause.poll(&mut self.events, Some(most_wait()));
-        }
-        self.poll.poll(&mut self.events, Some(most_wait()))
-    }
-}
-
-// Has a poll tell when the stream is ready. Frames are small, and go out at once.
-fn watch(poll: &Poll, stream: &mut TcpStream) -> io::Result<()> {
-    stream.set_nodelay(true)?;
-    let both = Interest::READABLE | Interest::WRITABLE;
-    poll.registry().register(stream, TOKEN, both)
+// A link to an address, with the rest and the bell of its owner.
+fn connect<H: std::net::Net>(
+    handle: &H,
+    alloc: Global,
+    to: SocketAddr,
+) -> io::Result<(SocketLink, SocketRest, SocketBell)>
+    ensures link { IfOk result (λ made. made.0 ≡ new_socket_link) }
+    ensures rest { IfOk result (λ made. made.1 ≡ 0) }
+{
+    let stream = TcpStream::connect(handle, to)?;
+    attach(handle, alloc, stream)
 }
 
 impl<'a, H: std::net::Net> LoopNet<'a, H> {
     /// Where it listens, for tests: an address of this machine's loopback alone.
     pub fn address(&self) -> Option<SocketAddr> {
-        Some(self.door.as_ref()?.address)
+        Some(self.door.as_ref()?.address())
     }
 
     /// A net that has opened nothing yet.
@@ -220,11 +69,11 @@ impl<'a, H: std::net::Net> LoopNet<'a, H> {
 }
 
 impl<'a, H: std::net::Net> Net for LoopNet<'a, H> {
-    type Link = LoopLink;
+    type Link = SocketLink;
 
-    type Rest = LoopRest;
+    type Rest = SocketRest;
 
-    type Bell = LoopBell;
+    type Bell = SocketBell;
 
     ghost state = { λ state. state };
 
@@ -241,7 +90,8 @@ impl<'a, H: std::net::Net> Net for LoopNet<'a, H> {
     }
 
     fn listen(&mut self) -> Result<(), NetFault> {
-        match Door::open(self.handle, self.alloc) {
+        let any = SocketAddr::from((Ipv4Addr::LOCALHOST, 0));
+        match Door::open(self.handle, self.alloc, any) {
             Ok(door) => {
                 self.door = Some(door);
                 self.counts.note_door();
@@ -251,11 +101,11 @@ impl<'a, H: std::net::Net> Net for LoopNet<'a, H> {
         }
     }
 
-    fn connect(&mut self) -> Result<(LoopLink, LoopRest, LoopBell), NetFault> {
+    fn connect(&mut self) -> Result<(SocketLink, SocketRest, SocketBell), NetFault> {
         let Some(door) = &self.door else {
             unreachable!();
         };
-        match door.connect(self.handle, self.alloc) {
+        match connect(self.handle, self.alloc, door.address()) {
             Ok(made) => {
                 self.counts.note_link();
                 Ok(made)
@@ -264,12 +114,13 @@ impl<'a, H: std::net::Net> Net for LoopNet<'a, H> {
         }
     }
 
-    fn accept(&mut self) -> Result<Option<LoopLink>, NetFault> {
+    fn accept(&mut self) -> Result<Option<SocketLink>, NetFault> {
         let Some(door) = &mut self.door else {
             unreachable!();
         };
         match door.accept() {
-            Ok(got) => Ok(got),
+            Ok(None) => Ok(None),
+            Ok(Some(socket)) => Ok(Some(SocketLink::new(socket))),
             Err(error) => Err(self.counts.fault(fault_of(error))),
         }
     }
@@ -290,11 +141,11 @@ impl<'a, H: std::net::Net> Net for LoopNet<'a, H> {
         self.counts.note_closed();
     }
 
-    fn back(&mut self, link: LoopLink) {
+    fn back(&mut self, link: SocketLink) {
         self.counts.note_back(link.counts());
     }
 
-    fn back_rest(&mut self, rest: LoopRest) {
+    fn back_rest(&mut self, rest: SocketRest) {
         self.counts.note_rest(rest.faults());
     }
 }

@@ -1,4 +1,6 @@
+mod Examples
 pub mod BufferLemmas
+pub mod GreetingLemmas
 pub mod JointLemmas
 pub mod ParseLemmas
 pub mod QueueLemmas

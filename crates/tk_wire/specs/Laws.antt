@@ -4,6 +4,8 @@ use Rattle.tk_frames.specs.Answer.{Answers}
 use Rattle.tk_frames.specs.Encoding.{Appends}
 use Rattle.tk_frames.specs.declared.answer.Next.TheVariants.{Whole}
 use Rattle.tk_frames.specs.declared.frame.Frame.{Frame}
+use Rattle.tk_wire.specs.declared.greeting.Greeting.{Greeting}
+use Rattle.tk_wire.specs.Greeting.{GreetingIn, IsGreeting, SaysTheSame, greeting_bytes}
 use Rattle.tk_wire.specs.Parse.{HasNoFrame, IsEncoding, IsParse}
 
 -- what is pulled is appended to what came and to what is left
@@ -44,3 +46,11 @@ abbrev pub PieceLeavesTheEncoding : Type 0
 PieceLeavesTheEncoding =
     (version : ℕ) (frames : List Frame) (given piece left : List ℕ)
     → IsEncoding version frames given (piece ++ left) → IsEncoding version frames (given ++ piece) left
+
+-- greetings with the same bytes say the same
+abbrev pub BytesAreOfOneGreeting : Type 0
+BytesAreOfOneGreeting = (bytes : List ℕ) (g h : Greeting) → GreetingIn bytes g → GreetingIn bytes h → SaysTheSame g h
+
+-- a greeting has 113 bytes
+abbrev pub GreetingsHaveOneSize : Type 0
+GreetingsHaveOneSize = (g : Greeting) → IsGreeting g → length (greeting_bytes g) ≡ 113

@@ -1,4 +1,7 @@
 pub mod Buffered
+pub mod Greeting
+pub mod GreetingReading
+pub mod Host
 pub mod Joint
 pub mod Meanings
 pub mod Net

@@ -4,7 +4,7 @@ ghost use Rattle.std.specs.Prelude.{◌≤◌, ◌<◌, ◌^◌, ◌++◌, ℕ, 
 ghost use Rattle.tk_wire.specs.Meanings.{Traffic, Arrives, Departs, HasRisen, raised_by};
 ghost use Rattle.tk_wire.specs.PipeWire.{drained, filled};
 ghost use Rattle.tk_wire.specs.Joint.{Joins, BeginsWith};
-ghost use Rattle.tk_wire.specs.Laws.{AllParsesAreFrontsOfOne, EachStreamHasOneParse, FrameExtendsTheEncoding, FrameExtendsTheParse, PieceLeavesTheEncoding, PieceLeavesTheParse};
+ghost use Rattle.tk_wire.specs.Laws.{AllParsesAreFrontsOfOne, BytesAreOfOneGreeting, GreetingsHaveOneSize, EachStreamHasOneParse, FrameExtendsTheEncoding, FrameExtendsTheParse, PieceLeavesTheEncoding, PieceLeavesTheParse};
 
 /// What is pulled is appended to what came and to what is left, so the frames that were read stay a front.
 pub fn a_piece_leaves_the_parse()
@@ -54,4 +54,14 @@ pub fn pieces_keep_their_order()
 pub fn counts_rise()
     ensures rises { (n count : ℕ) → 0 < n → HasRisen count (raised_by n count) }
     ensures stays { (n count : ℕ) → count < 2 ^ 64 → count ≤ raised_by n count }
+{}
+
+/// Bytes are those of one greeting at most, so a greeting that was put is read as it was.
+pub fn bytes_are_of_one_greeting()
+    ensures { BytesAreOfOneGreeting }
+{}
+
+/// A greeting has 113 bytes.
+pub fn greetings_have_one_size()
+    ensures { GreetingsHaveOneSize }
 {}

@@ -2,10 +2,15 @@
 //!
 //! It promises, by what a wire tells of its bytes, that what was pulled and not read is left behind the frames that
 //! were read, and that what was given is a front of the frames that were added, in whatever pieces bytes go.
+//! What a monitor says first on a connection between hosts, its greeting, is read exactly as it was put.
 //! `laws` has what follows for every stream. Nothing here waits, and no word of the protocol stands here.
-//! It stands on tk_base, tk_frames and rtrb. The nets that `Net` speaks of are made elsewhere.
+//! It stands on tk_base, tk_frames, byteorder and rtrb. Nets, hosts and dialers are made elsewhere.
 #![tactic(auto)]
 
+mod beginning;
+mod dialer;
+mod greeting;
+mod host;
 mod in_buffer;
 mod laws;
 mod net;
@@ -17,11 +22,15 @@ mod store;
 mod sure_wire;
 mod wire;
 
+pub use beginning::Beginning;
+pub use dialer::{Dialed, Dialer};
+pub use greeting::{GREETING_SIZE, Greeting};
+pub use host::Host;
 pub use in_buffer::{InBuffer, Pulled};
 pub use laws::{
     a_frame_extends_the_encoding, a_frame_extends_the_parse, a_piece_leaves_the_encoding,
-    a_piece_leaves_the_parse, all_parses_are_fronts_of_one, counts_rise, each_stream_has_one_parse,
-    pieces_keep_their_order,
+    a_piece_leaves_the_parse, all_parses_are_fronts_of_one, bytes_are_of_one_greeting, counts_rise,
+    each_stream_has_one_parse, greetings_have_one_size, pieces_keep_their_order,
 };
 pub use net::{Bell, Net, NetFault, Rest};
 pub use out_buffer::{OutBuffer, Pushed};

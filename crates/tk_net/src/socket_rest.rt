@@ -1,19 +1,19 @@
 ghost use Rattle.std.specs.Prelude.{◌≡◌};
 
-use crate::loop_net::most_wait;
+use crate::door::most_wait;
 use mio::{Events, Poll};
 use std::marker::Model;
 use tk_wire::{NetFault, Rest};
 
 /// How one who reads a link over a socket waits.
 #[derive(Drop)]
-pub struct LoopRest {
+pub struct SocketRest {
     poll: Poll,
     events: Events,
     faults: u64,
 }
 
-impl Model for LoopRest {
+impl Model for SocketRest {
     ghost use Rattle.std.specs.Prelude.{ℕ};
 
     ghost Value = { ℕ };
@@ -21,12 +21,12 @@ impl Model for LoopRest {
     ghost view = { λ r. r.faults };
 }
 
-impl LoopRest {
+impl SocketRest {
     /// A rest that ends at what is registered with the poll.
-    pub(crate) fn new(poll: Poll, events: Events) -> LoopRest
+    pub(crate) fn new(poll: Poll, events: Events) -> SocketRest
         ensures { result ≡ 0 }
     {
-        LoopRest {
+        SocketRest {
             poll,
             events,
             faults: 0,
@@ -34,7 +34,7 @@ impl LoopRest {
     }
 }
 
-impl Rest for LoopRest {
+impl Rest for SocketRest {
     ghost fault_count = { λ faults. faults };
 
     fn faults(&self) -> u64 {

@@ -3,11 +3,11 @@ use tk_wire::Bell;
 
 /// Ends the wait of the rest that it was made with.
 #[derive(Drop)]
-pub struct LoopBell {
+pub struct SocketBell {
     pub(crate) waker: Waker,
 }
 
-impl Bell for LoopBell {
+impl Bell for SocketBell {
     fn ring(&self) {
         // A wake that fails is made up for by the rest's own limit of time.
         let _ = self.waker.wake();

@@ -1,0 +1,8 @@
+use Rattle.tk_net.specs.Hosting.{TurnsAway}
+use Rattle.tk_net.proofs.mem_host.let_in.Given as goal
+
+abbrev pub invariant-loop : goal.invariant-loop
+invariant-loop l = TurnsAway l.fn.lobby l.lobby
+
+abbrev pub invariant-loop-door : goal.invariant-loop-door
+invariant-loop-door l = TurnsAway l.fn.lobby l.lobby
