@@ -2,7 +2,6 @@
 use Rattle.std.specs.Prelude.{ℕ, Bool, count_by, bytes_eq, codes, ◌&&◌, ◌==◌, nat_lt, nat_le, if◌then◌else◌, List, [], ◌∷◌, length, Option, Some, None, option_map, option_and_then}
 use Rattle.std.specs.List.{after_first, before_first, list_all, position_or_len}
 use Rattle.std.specs.Path.{rsplit_once}
-use Rattle.std.specs.Str.{all_ascii_digits}
 use Rattle.tk_base.specs.Digits.{digits_in, short_in}
 
 -- a number as that of a monitor: 1 to 64
