@@ -5,7 +5,7 @@
 
 Names that a text binds or gives itself count for nothing, so a copy is found under another name. A name that is imported counts with
 the module that it comes from. Statements of up to 30 characters, those that only name a goal, and bodies of fewer than four lines pass;
-so do bodies in crates of tests, and bodies that name different types or variants. What may stand twice is listed below, with its reason.
+so do definitions and bodies in crates of tests, and bodies that name different types or variants. What may stand twice is listed below, with its reason.
 """
 import collections
 import glob
@@ -17,7 +17,7 @@ TOP = os.path.dirname(os.path.dirname(os.path.abspath(__file__)))
 
 # What may stand in two crates: the names that one such group has, and why.
 EXCEPTIONS = {
-    "at_both of_both": "tables of two crates of tests",
+    "number number_bytes": "a number of a trace, and one of a greeting, into which no proof of theirs looks",
     "factor_of kept_at level_at node_at": "a factor and a level, what is kept and a node of a tree: each looked up in a list",
     "lent_name name_in text_in": "bytes that are lent: a name, the name of a file, a word",
     "HasRisen": "a count of the faults of files, and one of what a wire took",
@@ -112,6 +112,8 @@ def statements():
 
 def definitions():
     for path, text in texts("specs/*.antt"):
+        if crate(path).endswith("_tests"):
+            continue
         names = known(path, text)
         for name, line, lines in items(text, DEFINITION):
             fields = {field: field for field in FIELD.findall("\n".join(lines))} if "record " in lines[0] else {}
