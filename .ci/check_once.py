@@ -25,7 +25,7 @@ EXCEPTIONS = {
     "ok": "a name for one constructor",
     "len": "lists of pairs and of changes, each with forms of its own",
     "row_of": "parts of one monitor, and logs with ticks of one monitor",
-    "IsSteady front_size halted no_input": "tk_hub had its own before they stood below it or in tk_port",
+    "IsSteady halted": "a hub and a port, neither below the other",
     "faults_told into_status ledger_behind ledger_lines no_fault opened_running opened_unstopped": "tk_live and tk_run, neither below the other",
 }
 

@@ -14,6 +14,7 @@ use Rattle.tk_frames.specs.Encoding.{IsBadHello}
 use Rattle.tk_frames.specs.Size.{IsShort}
 use Rattle.tk_frames.specs.declared.frame.Frame.{Frame}
 use Rattle.tk_frames.specs.declared.frame.Frame.TheVariants as f
+use Rattle.tk_journal.proofs.HeardLemmas.{no_input}
 use Rattle.tk_journal.proofs.Appends.{frames_from-append, frames_to-append}
 use Rattle.tk_journal.proofs.SentLemmas.{is_other, only_three_kinds}
 use Rattle.tk_journal.proofs.SoundLemmas.{legal_firm}
@@ -38,13 +39,6 @@ pub opened_inputs : (o : Opening) → inputs_of (opened o) ≡ []
 opened_inputs o = sent_only o.members (enumerate_from 1 o.factors)
 
 -- ---- what was got and what was sent, once a frame is taken
-
-pub no_input : (mon : ℕ) (xs : List Noted) → inputs_of xs ≡ [] → frames_from mon xs ≡ []
-no_input mon [] none = refl
-no_input mon (n.Got from frame ∷ xs) none = absurd (cc)
-no_input mon (n.Sent to frame ∷ xs) none = no_input mon xs none
-no_input mon (n.Published p ∷ xs) none = no_input mon xs none
-no_input mon (n.Tuned k epsilon ∷ xs) none = absurd (cc)
 
 got_first : (mon : ℕ) (frame : Frame) (rest : List Noted) → frames_from mon rest ≡ [] → frames_from mon (n.Got (record { 0 = mon }) frame ∷ rest) ≡ frame ∷ []
 got_first mon frame rest none = rw (eq-eqb mon mon refl, none) refl

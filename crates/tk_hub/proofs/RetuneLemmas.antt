@@ -14,7 +14,8 @@ use Rattle.tk_journal.specs.Refusal.{retune_refusal_of}
 use Rattle.tk_journal.specs.declared.noted.Noted.{Noted}
 use Rattle.tk_journal.specs.declared.noted.Noted.TheVariants as n
 use Rattle.tk_journal.specs.declared.refusal.RetuneRefusal.{RetuneRefusal}
-use Rattle.tk_hub.proofs.DeskLemmas.{no_input, said_after}
+use Rattle.tk_hub.proofs.DeskLemmas.{said_after}
+use Rattle.tk_journal.proofs.HeardLemmas.{no_input}
 use Rattle.tk_hub.proofs.SeatsLemmas.{seat_other}
 use Rattle.tk_hub.proofs.TurnLemmas.{at_grown}
 use Rattle.tk_hub.specs.Hub.{HubView, IsHub, IsOnCourse, seats_of}

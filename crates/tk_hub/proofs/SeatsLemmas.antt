@@ -1,7 +1,7 @@
 -- What the seats keep, over each of their calls.
 use Rattle.std.proofs.Common.{◌≡◌, ◌<◌, ◌≤◌, ◌+◌, ◌-◌, ℕ, suc, zero, List, [], ◌∷◌, ◌++◌, length, take, get_or, set, replicate, Option, Some, None, Result, refl, sym, ap, ◌∙◌, subst, arith, inl, inr}
 use Rattle.std.proofs.lemmas.Bool.{cases_eq}
-use Rattle.std.proofs.lemmas.List.{get_or_default, get_or-set_other, get_or-set_same, length-replicate, length-set, length-take}
+use Rattle.std.proofs.lemmas.List.{get_or_default, get_or-set_other, get_or-set_same, length-replicate, length-set}
 use Rattle.tk_base.specs.History.{IsFront}
 use Rattle.tk_base.specs.declared.ids.Mon.{Mon}
 use Rattle.tk_coord.specs.Coordinator.{CoordinatorView, IsJournal}
@@ -18,7 +18,8 @@ use Rattle.tk_journal.specs.Legal.{IsAccepted, IsLegal, inputs_of, turn_of}
 use Rattle.tk_journal.specs.Links.{frames_from, frames_to}
 use Rattle.tk_journal.specs.declared.noted.Noted.{Noted}
 use Rattle.tk_journal.specs.declared.noted.Noted.TheVariants as n
-use Rattle.tk_hub.proofs.DeskLemmas.{no_input}
+use Rattle.tk_base.proofs.HistoryLemmas.{front_size}
+use Rattle.tk_journal.proofs.HeardLemmas.{no_input}
 use Rattle.tk_hub.proofs.TakenLemmas.{others_heard, others_said, reaches_settings, reaches_taken}
 use Rattle.tk_hub.specs.Desk.{getting, heard_from, refuses, said_to, takes}
 use Rattle.tk_wire.specs.declared.out_buffer.Pushed.{Pushed}
@@ -37,9 +38,6 @@ reaches_journal a b (Takes from to mon frame is none p) h =
     let accepted : IsAccepted h.opening.settings a.journal input = subst (λ q. IsAccepted q a.journal input) (sym h.settings) (is.from_one, is.within, none) in
     let legal : IsLegal h.opening (a.journal ++ turn_of a.settings a.journal input) = subst (λ q. IsLegal h.opening (a.journal ++ turn_of q a.journal input)) h.settings (goes_on h.opening a.journal input h.legal accepted) in
     reaches_journal (getting a mon frame) b p (record { opening = h.opening; settings = h.settings; set_up = h.set_up; legal = legal })
-
-pub front_size : {X : Type 0} (xs ys : List X) → IsFront xs ys → length xs ≤ length ys
-front_size xs ys front = omega (arith, ap length front.is, length-take (length xs) ys)
 
 -- a seat of which nothing was taken since
 pub seat_other : {W : Type 0} (run mon : ℕ) (i j : List Noted) (seat : Option (LinkView W)) → frames_from mon j ≡ frames_from mon i → IsFront (frames_to mon i) (frames_to mon j) → IsSeat run i mon seat → IsSeat run j mon seat

@@ -18,7 +18,8 @@ use Rattle.tk_journal.specs.Refusal.{refusal_of}
 use Rattle.tk_journal.specs.declared.noted.Noted.{Noted}
 use Rattle.tk_journal.specs.declared.noted.Noted.TheVariants as n
 use Rattle.tk_journal.specs.declared.refusal.CoordRefusal.{CoordRefusal}
-use Rattle.tk_hub.proofs.DeskLemmas.{no_input, said_after}
+use Rattle.tk_hub.proofs.DeskLemmas.{said_after}
+use Rattle.tk_journal.proofs.HeardLemmas.{no_input}
 use Rattle.tk_hub.specs.Desk.{getting, refuses, takes}
 use Rattle.tk_hub.specs.Turn.{Reaches, Stays, Takes}
 use Rattle.tk_hub.specs.declared.desk.Desk.{Desk}

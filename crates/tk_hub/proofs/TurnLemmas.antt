@@ -13,7 +13,7 @@ use Rattle.tk_journal.specs.declared.noted.Noted.{Noted}
 use Rattle.tk_journal.specs.declared.noted.Noted.TheVariants as n
 use Rattle.tk_hub.proofs.HearLemmas.{passes_same, steady_same}
 use Rattle.tk_hub.proofs.SayLemmas.{counts_from, steady_from}
-use Rattle.tk_hub.proofs.SeatsLemmas.{front_size}
+use Rattle.tk_base.proofs.HistoryLemmas.{front_size}
 use Rattle.tk_hub.specs.Desk.{getting}
 use Rattle.tk_wire.specs.Meanings.{Counts}
 use Rattle.tk_hub.specs.Door.{GreetsHeld, LobbyView}
