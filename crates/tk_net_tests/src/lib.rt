@@ -2,4 +2,6 @@
 #![tactic(auto)]
 
 #[cfg(test)]
+mod hosts;
+#[cfg(test)]
 mod tests;
