@@ -1,4 +1,5 @@
 pub mod Buffered
+pub mod Host
 pub mod Joint
 pub mod Meanings
 pub mod Net

@@ -6,6 +6,9 @@
 //! It stands on tk_base, tk_frames and rtrb. The nets that `Net` speaks of are made elsewhere.
 #![tactic(auto)]
 
+mod beginning;
+mod greeting;
+mod host;
 mod in_buffer;
 mod laws;
 mod net;
@@ -17,6 +20,9 @@ mod store;
 mod sure_wire;
 mod wire;
 
+pub use beginning::Beginning;
+pub use greeting::Greeting;
+pub use host::Host;
 pub use in_buffer::{InBuffer, Pulled};
 pub use laws::{
     a_frame_extends_the_encoding, a_frame_extends_the_parse, a_piece_leaves_the_encoding,
