@@ -10,6 +10,7 @@ use Rattle.tk_input.specs.Logs.{ArePlaces, IsValid, sum_for, total, value_of}
 use Rattle.tk_input.proofs.SumLemmas.{int_sum-cons}
 use Rattle.tk_trail.proofs.ValuesLemmas.{sum_for-cons}
 use Rattle.tk_apart.specs.Compacting.{StandForLogs, StandsFor, all_behind, behind, cut_moved, ends_of, moved}
+use Rattle.tk_window.proofs.SumLemmas.{sum_for-append}
 
 -- so many changes further
 abbrev further : List ℕ → List ℕ → List ℕ
@@ -22,10 +23,6 @@ record ArePlacesBehind (base more : List (List (ℕ × ℤ))) (places : List ℕ
   behind_base : (i : ℕ) → get_or (ends_of base) i 0 ≤ get_or places i 0
 
 -- ---- sums
-
-sum_for-append : (o : ℕ) (xs ys : List (ℕ × ℤ)) → sum_for o (xs ++ ys) ≡ sum_for o xs +ℤ sum_for o ys
-sum_for-append o [] ys = omega (arith, ints)
-sum_for-append o (x ∷ xs) ys = omega (arith, ints, sum_for-cons o x (xs ++ ys), sum_for-cons o x xs, sum_for-append o xs ys)
 
 -- the sums of one part, at a place of it
 abbrev at_place : ℕ → List (ℕ × ℤ) × ℕ → ℤ
