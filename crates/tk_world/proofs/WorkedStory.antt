@@ -179,7 +179,6 @@ are_logs = record {
   some_monitor = omega arith;
   monitors = omega arith;
   each = two_parts (AreParts 2) (((1, pos 5) ∷ []) ∷ []) (((2, pos 3) ∷ []) ∷ []) (part_fine 1 (pos 5) (omega arith) (omega arith) (omega (arith, ints))) (part_fine 2 (pos 3) (omega arith) (omega arith) (omega (arith, ints)));
-  updates = omega arith;
 }
 
 none_below : (part : List (ℕ × ℤ)) (i : ℕ) → get_or (0 ∷ []) i 0 ≤ length (get_or (part ∷ []) i [])
