@@ -7,7 +7,7 @@ use Rattle.std.proofs.lemmas.List.{length-map}
 use Rattle.std.proofs.lemmas.Slice.Zip.{length-zip}
 use Rattle.std.proofs.Math.Seq.{take-append-add, take-length}
 use Rattle.tk_input.specs.Logs.{ArePlaces, IsValid, sum_for, total, value_of}
-use Rattle.tk_input.proofs.SumLemmas.{int_sum-cons}
+use Rattle.tk_base.proofs.SumLemmas.{int_sum-cons}
 use Rattle.tk_apart.specs.Compacting.{StandForLogs, StandsFor, all_behind, behind, cut_moved, ends_of, moved}
 use Rattle.tk_window.proofs.SumLemmas.{sum_for-append}
 
