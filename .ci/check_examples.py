@@ -304,9 +304,10 @@ def writes_of(folder):
 
 
 def written_by_lines(folders):
-    """Each line is written by one call, and a set of a window together with its ticks, so that no reader meets half a line."""
+    """Each line is written by one call, and a set of a window together with its ticks, so that no reader meets half a line. Help is
+    written by one call as a whole."""
     for folder in folders:
-        writes = [] if is_refused(folder) else writes_of(folder)
+        writes = [] if is_refused(folder) or command_of(folder) == "help" else writes_of(folder)
         if writes != re.findall(rb"[^\n]*\n(?:ticks[^\n]*\n)?", b"".join(writes)):
             yield f"{folder.name}: not each line is written by one call"
 

@@ -2,7 +2,7 @@
 use Rattle.std.specs.Prelude.{ℕ, ◌≡◌, List, Option, Some, None, Ok, Err}
 use Rattle.tk_input.specs.Files.{one_more}
 use Rattle.tk_words.specs.Words.{Asked, LiveWords, words_of}
-use Rattle.tk_words.specs.Words.Asked.{Checks, Generates, Lives, Queries, Replays, Restarts, Traces}
+use Rattle.tk_words.specs.Words.Asked.{Checks, Coordinates, Generates, Helps, Lives, Monitors, Queries, Replays, Restarts, Traces, Versions}
 use Rattle.tk_load.specs.Reads.{Loads}
 use Rattle.tk_load.specs.declared.input.Input.{Input}
 use Rattle.tk_load.specs.declared.status.Status.{Status}
@@ -22,6 +22,10 @@ served (Some (Queries words)) = None
 served (Some (Restarts words)) = None
 served (Some (Traces words)) = None
 served (Some (Checks file)) = None
+served (Some (Coordinates words)) = None
+served (Some (Monitors words)) = None
+served (Some (Helps command)) = None
+served (Some Versions) = None
 
 -- how many puts of the output have failed after a live run: one more exactly where its status tells so
 abbrev pub faults_told : Status → ℕ → ℕ

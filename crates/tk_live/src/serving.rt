@@ -50,6 +50,10 @@ pub fn live<R: Threads + Wait + Sync, F: Files, N: Net, G: Gate + Sync, O: Sink>
         Ok(Command::Sessions(_)) => return Outcome::unstarted(Status::Usage),
         Ok(Command::Trace(_)) => return Outcome::unstarted(Status::Usage),
         Ok(Command::Check(_)) => return Outcome::unstarted(Status::Usage),
+        Ok(Command::Coordinate(_)) => return Outcome::unstarted(Status::Usage),
+        Ok(Command::Monitor(_)) => return Outcome::unstarted(Status::Usage),
+        Ok(Command::Help(_)) => return Outcome::unstarted(Status::Usage),
+        Ok(Command::Version) => return Outcome::unstarted(Status::Usage),
         Err(WordsFault::Usage) => return Outcome::unstarted(Status::Usage),
         Err(WordsFault::NoMemory) => return Outcome::unstarted(Status::NoMemory),
     };

@@ -1,7 +1,8 @@
 -- An input that the files tell is run.
 use Rattle.std.proofs.Common.{◌≡◌, ℕ, true, false, List, Some, Result, Err, is_ok, refl, sym, ap, subst, inl, inr}
+use Rattle.tk_words.specs.Manual.{manual_text, version_text}
 use Rattle.tk_words.specs.Words.{Asked, words_of}
-use Rattle.tk_words.specs.Words.Asked.{Checks, Generates, Lives, Queries, Replays, Restarts, Traces}
+use Rattle.tk_words.specs.Words.Asked.{Checks, Coordinates, Generates, Helps, Lives, Monitors, Queries, Replays, Restarts, Traces, Versions}
 use Rattle.tk_load.specs.Faults.{Fault}
 use Rattle.tk_commands.specs.Generated.{generated_of}
 use Rattle.tk_load.specs.Input.{input_of}
@@ -16,6 +17,7 @@ use Rattle.tk_commands.specs.Traced.{LoadsTrace}
 use Rattle.tk_load.specs.declared.input.Input.{Input}
 use Rattle.tk_load.specs.declared.status.Status.{Status}
 use Rattle.tk_load.specs.declared.status.Status.TheVariants as s
+use Rattle.tk_run.specs.Constant.{EndsTold}
 use Rattle.tk_run.specs.Ends.{Ends, EndsAsked, EndsWords, IsDone, IsStoryOf, IsToldBy, check_text, replay_text, served, summary_text, trace_text}
 use Rattle.tk_run.specs.Laws.{GivesInput}
 use Rattle.tk_run.specs.Multi.{AreAnswersOf, multi_text}
@@ -53,6 +55,19 @@ ended gives IsOf text output given s.WriteFault written ends = absurd (written r
 ended gives IsOf text output given s.LinkFault written ends = absurd ends
 ended gives IsOf text output given (s.LinkDiffers difference) written ends = absurd ends
 
+-- a text that was written
+told_is_done : (text : List ℕ) (output : Output) (status : Status) → (status ≡ s.WriteFault → ⊥) → EndsTold text output status → IsDone status
+told_is_done text output s.Done written ends = tt
+told_is_done text output s.WriteFault written ends = absurd (written refl)
+told_is_done text output s.Usage written ends = absurd ends
+told_is_done text output (s.ReadFault file) written ends = absurd ends
+told_is_done text output (s.BadInput file line kind) written ends = absurd ends
+told_is_done text output (s.TooGreat mon obj) written ends = absurd ends
+told_is_done text output s.NoMemory written ends = absurd ends
+told_is_done text output s.LinkFault written ends = absurd ends
+told_is_done text output (s.LinkDiffers mon direction place sent received) written ends = absurd ends
+told_is_done text output (s.BadTrace file fault) written ends = absurd ends
+
 memory_is_free : (status : Status) → status ≡ s.NoMemory → IsDone status
 memory_is_free status is = subst IsDone (sym is) tt
 
@@ -71,6 +86,10 @@ module _ (replay : WhatIsToldIsMeant input_of) (sessions : WhatIsToldIsMeant ses
   asked_is_run met contents (Checks file) given = ended (LoadsTrace met.reads file) IsToldBy check_text met.output
       (λ other loads. memory_is_free other (trace met.reads file (contents file) other given.0 given.1 loads))
   asked_is_run met contents (Lives words) given = absurd given
+  asked_is_run met contents (Coordinates words) given = absurd given
+  asked_is_run met contents (Monitors words) given = absurd given
+  asked_is_run met contents (Helps command) given = told_is_done (manual_text command) met.output
+  asked_is_run met contents Versions given = told_is_done version_text met.output
 
   -- words that are understood and no wish for a live run are served
   is_served : (reads : Surroundings) (contents : List ℕ → List ℕ) (asked : Asked) → GivesInput reads.reads contents asked → served (Some asked) ≡ Some asked
@@ -81,6 +100,10 @@ module _ (replay : WhatIsToldIsMeant input_of) (sessions : WhatIsToldIsMeant ses
   is_served met contents (Generates words) given = refl
   is_served met contents (Checks file) given = refl
   is_served met contents (Lives words) given = absurd given
+  is_served met contents (Coordinates words) given = absurd given
+  is_served met contents (Monitors words) given = absurd given
+  is_served met contents (Helps command) given = refl
+  is_served met contents Versions given = refl
 
   pub input_is_run : (words : List (List ℕ)) (asked : Asked) (met : Surroundings) (contents : List ℕ → List ℕ) (status : Status) → words_of words ≡ Some asked → GivesInput met.reads contents asked
       → (status ≡ s.WriteFault → ⊥) → EndsWords words met status → IsDone status

@@ -2,8 +2,9 @@
 use Rattle.std.specs.Prelude.{ℕ, ◌≡◌, ◌⊎◌, ◌++◌, Bool, true, false, List, [], codes, Option, Some, None, Result, Ok, Err}
 use Rattle.tk_input.specs.Logs.{beginnings}
 use Rattle.tk_input.specs.Sink.{Grows, GrowsByFront}
+use Rattle.tk_words.specs.Manual.{manual_text, version_text}
 use Rattle.tk_words.specs.Words.{Asked, GenerateWords, words_of}
-use Rattle.tk_words.specs.Words.Asked.{Checks, Generates, Lives, Queries, Replays, Restarts, Traces}
+use Rattle.tk_words.specs.Words.Asked.{Checks, Coordinates, Generates, Helps, Lives, Monitors, Queries, Replays, Restarts, Traces, Versions}
 use Rattle.tk_words.specs.declared.verb.Verb.{Verb}
 use Rattle.tk_words.specs.declared.verb.Verb.TheVariants as v
 use Rattle.tk_commands.specs.Generated.{generated_of}
@@ -24,6 +25,7 @@ use Rattle.tk_ledger.specs.Text.{sets_text, summary_of, text_of, ticked_text_of}
 use Rattle.tk_trace.specs.Recorded.{recorded_of}
 use Rattle.tk_trace.specs.Spelling.{IsRecorded, trace_of}
 use Rattle.tk_trace.specs.declared.trace.Trace.{Trace}
+use Rattle.tk_run.specs.Constant.{EndsTold, HasTold}
 use Rattle.tk_run.specs.Multi.{AreAnswersOf, multi_text}
 use Rattle.tk_run.specs.Sessions.{AreStoriesOf, sessions_text}
 use Rattle.tk_load.specs.Surroundings.{IsUnwritten, Output, Surroundings}
@@ -113,7 +115,7 @@ Ends gives IsOf text output (s.BadTrace file fault) = gives (Err (s.BadTrace fil
 
 -- ---- of the words of a command
 
--- what words ask of `run`, which serves all but live runs
+-- what words ask of `run`, which serves all but live runs, and coordinators and monitors as processes of their own
 abbrev pub served : Option Asked → Option Asked
 served None = None
 served (Some (Replays words)) = Some (Replays words)
@@ -123,6 +125,10 @@ served (Some (Queries words)) = Some (Queries words)
 served (Some (Restarts words)) = Some (Restarts words)
 served (Some (Traces words)) = Some (Traces words)
 served (Some (Checks file)) = Some (Checks file)
+served (Some (Coordinates words)) = None
+served (Some (Monitors words)) = None
+served (Some (Helps command)) = Some (Helps command)
+served (Some Versions) = Some Versions
 
 -- whether a command is served
 abbrev pub serves : Option Verb → Bool
@@ -135,6 +141,10 @@ serves (Some v.Multi) = true
 serves (Some v.Sessions) = true
 serves (Some v.Trace) = true
 serves (Some v.Check) = true
+serves (Some v.Coordinate) = false
+serves (Some v.Monitor) = false
+serves (Some v.Help) = true
+serves (Some v.Version) = true
 
 -- one story was made, of which this holds
 pub record IsOne (Holds : KeptStory → Type 0) (outcome : Outcome) : Type 0 where
@@ -156,7 +166,7 @@ RunsGenerated words output = IsOne (HasRun (Meets (λ input. input) (generated_o
 abbrev pub EndsGenerated : GenerateWords → Output → Status → Type 0
 EndsGenerated words output = Ends (Meets (λ input. input) (generated_of words)) IsStoryOf summary_text output
 
--- what has run for what words ask; a live run is not served
+-- what has run for what words ask; a live run, a coordinator and a monitor are not served
 abbrev pub RunsAsked : Asked → Surroundings → Outcome → Type 0
 RunsAsked (Replays words) met = IsOne (HasRun (Loads met.reads words.sources) IsStoryOf replay_text met.output)
 RunsAsked (Generates words) met = RunsGenerated words met.output
@@ -165,6 +175,10 @@ RunsAsked (Queries words) met = AreSeveral (HasRun (LoadsMulti met.reads words) 
 RunsAsked (Restarts words) met = AreSeveral (HasRun (LoadsSessions met.reads words) AreStoriesOf sessions_text met.output)
 RunsAsked (Traces words) met = IsOne (HasRun (Loads met.reads words.sources) IsTracedOf trace_text met.output)
 RunsAsked (Checks file) met = IsOne (HasRun (LoadsTrace met.reads file) IsToldBy check_text met.output)
+RunsAsked (Coordinates words) met = λ outcome. ⊥
+RunsAsked (Monitors words) met = λ outcome. ⊥
+RunsAsked (Helps command) met = HasTold (manual_text command) met.output
+RunsAsked Versions met = HasTold version_text met.output
 
 -- how what words ask for has ended; of a trace that was cut short a front of that of the story was written
 abbrev pub EndsAsked : Asked → Surroundings → Status → Type 0
@@ -175,6 +189,10 @@ EndsAsked (Queries words) met = Ends (LoadsMulti met.reads words) AreAnswersOf m
 EndsAsked (Restarts words) met = Ends (LoadsSessions met.reads words) AreStoriesOf sessions_text met.output
 EndsAsked (Traces words) met = Ends (Loads met.reads words.sources) IsStoryOf trace_text met.output
 EndsAsked (Checks file) met = Ends (LoadsTrace met.reads file) IsToldBy check_text met.output
+EndsAsked (Coordinates words) met = λ status. ⊥
+EndsAsked (Monitors words) met = λ status. ⊥
+EndsAsked (Helps command) met = EndsTold (manual_text command) met.output
+EndsAsked Versions met = EndsTold version_text met.output
 
 -- the words are understood, and what they ask for has run
 pub record RunsWords (words : List (List ℕ)) (met : Surroundings) (outcome : Outcome) : Type 0 where

@@ -8,6 +8,7 @@
 #![tactic(auto)]
 
 mod check;
+mod constant;
 mod generated;
 mod headline;
 mod multi;

@@ -10,6 +10,7 @@ ghost use Rattle.tk_run.specs.Outcome.{IfDone, IsWithout, faults_told};
 ghost use Rattle.tk_load.specs.Surroundings.{met_by};
 
 use crate::check::serve_check;
+use crate::constant::serve_text;
 use crate::generated::serve as generate;
 use crate::multi::serve_queries;
 use crate::outcome::Outcome;
@@ -21,7 +22,7 @@ use std::marker::Sync;
 use std::thread::Threads;
 use tk_input::{Files, Sink};
 use tk_load::Status;
-use tk_words::{Command, Verb, WordsFault, read, verb_of};
+use tk_words::{Command, Verb, WordsFault, manual_of, read, verb_of, version_line};
 
 /// Whether `run` serves the command that the first word names.
 fn is_served(words: &[String]) -> bool
@@ -29,12 +30,14 @@ fn is_served(words: &[String]) -> bool
 {
     match verb_of(words) {
         Some(Verb::Live) => false,
+        Some(Verb::Coordinate) => false,
+        Some(Verb::Monitor) => false,
         Some(_) => true,
         None => false,
     }
 }
 
-/// Serves all commands but `live`. The words come without the program's name.
+/// Serves all commands but `live`, `coordinate` and `monitor`. The words come without the program's name.
 pub fn run<R: Threads + Sync, F: Files, O: Sink>(
     rt: &R,
     alloc: Global,
@@ -64,12 +67,16 @@ pub fn run<R: Threads + Sync, F: Files, O: Sink>(
     match read(alloc, words) {
         Ok(Command::Replay(words)) => replay(rt, alloc, &words, files, out),
         Ok(Command::Generate(words)) => generate(alloc, &words, out),
-        // A live run has a call of its own.
+        // A live run has a call of its own, and so has each of the two that run as processes of their own.
         Ok(Command::Live(_)) => Outcome::ended(alloc, Status::Usage),
         Ok(Command::Multi(words)) => serve_queries(rt, alloc, &words, files, out),
         Ok(Command::Sessions(words)) => serve_sessions(rt, alloc, &words, files, out),
         Ok(Command::Trace(words)) => serve_trace(rt, alloc, &words, files, out),
         Ok(Command::Check(file)) => serve_check(alloc, file, files, out),
+        Ok(Command::Coordinate(_)) => Outcome::ended(alloc, Status::Usage),
+        Ok(Command::Monitor(_)) => Outcome::ended(alloc, Status::Usage),
+        Ok(Command::Help(command)) => serve_text(alloc, manual_of(command), out),
+        Ok(Command::Version) => serve_text(alloc, version_line(), out),
         Err(WordsFault::Usage) => Outcome::ended(alloc, Status::Usage),
         Err(WordsFault::NoMemory) => Outcome::ended(alloc, Status::NoMemory),
     }

@@ -1,7 +1,7 @@
 use Rattle.std.proofs.Common.{◌≡◌, ◌∙◌, Option, Some, ap, inl, inr, map, refl, string_bytes, subst, sym}
 use Rattle.tk_words.specs.Asked.{asked_by, asked_generate, asked_multi, asked_replay, asked_sources}
 use Rattle.tk_words.specs.Words.{Asked}
-use Rattle.tk_words.specs.Words.Asked.{Checks, Generates, Queries, Replays, Restarts, Traces}
+use Rattle.tk_words.specs.Words.Asked.{Checks, Generates, Helps, Queries, Replays, Restarts, Traces, Versions}
 use Rattle.tk_words.specs.declared.command.Command.{Command}
 use Rattle.tk_run.specs.Ends.{IsRefused, served}
 use Rattle.tk_run.proofs.ServedLemmas.{unserved}
@@ -70,6 +70,26 @@ pub returns-in-Ok-Check-clause-ends : goal.returns-in-Ok-Check-clause-ends
 returns-in-Ok-Check-clause-ends g c =
     let read = c.in-Ok-Check in
     inr (record { asked = Checks read.file.now; understood = here _ _ _ read.ensures.ok read.field-0-is; ends = c.serve_check.ensures.ends })
+
+pub returns-in-Ok-Help-clause-ran : goal.returns-in-Ok-Help-clause-ran
+returns-in-Ok-Help-clause-ran g c =
+    let read = c.in-Ok-Help in
+    λ done. record { asked = Helps read.command; understood = here _ _ _ read.ensures.ok read.field-0-is; ran = c.serve_text.ensures.ran done }
+
+pub returns-in-Ok-Help-clause-ends : goal.returns-in-Ok-Help-clause-ends
+returns-in-Ok-Help-clause-ends g c =
+    let read = c.in-Ok-Help in
+    inr (record { asked = Helps read.command; understood = here _ _ _ read.ensures.ok read.field-0-is; ends = c.serve_text.ensures.ends })
+
+pub returns-in-Ok-Version-clause-ran : goal.returns-in-Ok-Version-clause-ran
+returns-in-Ok-Version-clause-ran g c =
+    let read = c.in-Ok-Version in
+    λ done. record { asked = Versions; understood = here _ _ _ read.ensures.ok read.field-0-is; ran = c.serve_text.ensures.ran done }
+
+pub returns-in-Ok-Version-clause-ends : goal.returns-in-Ok-Version-clause-ends
+returns-in-Ok-Version-clause-ends g c =
+    let read = c.in-Ok-Version in
+    inr (record { asked = Versions; understood = here _ _ _ read.ensures.ok read.field-0-is; ends = c.serve_text.ensures.ends })
 
 -- words of no command that is served
 pub returns-then-not-is_served-clause-ends : goal.returns-then-not-is_served-clause-ends
