@@ -65,7 +65,7 @@ told_is_done text output (s.BadInput file line kind) written ends = absurd ends
 told_is_done text output (s.TooGreat mon obj) written ends = absurd ends
 told_is_done text output s.NoMemory written ends = absurd ends
 told_is_done text output s.LinkFault written ends = absurd ends
-told_is_done text output (s.LinkDiffers mon direction place sent received) written ends = absurd ends
+told_is_done text output (s.LinkDiffers difference) written ends = absurd ends
 told_is_done text output (s.BadTrace file fault) written ends = absurd ends
 
 memory_is_free : (status : Status) → status ≡ s.NoMemory → IsDone status

@@ -22,5 +22,5 @@ EndsTold text output (s.BadInput file line kind) = ⊥
 EndsTold text output (s.TooGreat mon obj) = ⊥
 EndsTold text output s.NoMemory = ⊥
 EndsTold text output s.LinkFault = ⊥
-EndsTold text output (s.LinkDiffers mon direction place sent received) = ⊥
+EndsTold text output (s.LinkDiffers difference) = ⊥
 EndsTold text output (s.BadTrace file fault) = ⊥
