@@ -12,7 +12,7 @@ use crate::watch::Watch;
 use crate::watched::logs_for;
 use std::alloc::Global;
 use tk_base::{NoMemory, Settings};
-use tk_input::{Catalog, Logs};
+use tk_input::{Catalog, Logs, updates_in};
 
 const MAX_UPDATES: u32 = 4_000_000;
 

@@ -61,7 +61,7 @@ pub fn i128_at(bytes: &[u8]) -> Result<(i128, &[u8]), ParseFault>
 }
 
 /// One byte, 0 or 1.
-#[tactic(auto, unfolding(crate::specs::Reading::flag_at))]
+#[tactic(auto, unfolding(tk_frames::specs::Reading::flag_at))]
 pub fn flag(bytes: &[u8]) -> Result<(bool, &[u8]), ParseFault>
     ensures { Gives (λ x. (x.0, x.1.now)) result (flag_at bytes.now) }
 {
