@@ -1,0 +1,4 @@
+mod BeginningLemmas
+mod CourseLemmas
+mod PassingLemmas
+mod SinkLemmas
