@@ -4,6 +4,7 @@ pub mod End
 pub mod Hub
 pub mod Leaving
 pub mod Lines
+pub mod Lost
 pub mod Seats
 pub mod Slot
 pub mod Turn

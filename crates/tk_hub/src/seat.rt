@@ -2,6 +2,7 @@
 
 ghost use Rattle.std.specs.Prelude.{◌≡◌, ◌↔◌, IfSome, IsTrue, OnSome};
 ghost use Rattle.tk_hub.specs.Desk.{IsDesk};
+ghost use Rattle.tk_hub.specs.Lost.{is_lost_at};
 ghost use Rattle.tk_hub.specs.Seats.{HasGiven, IsWithin, SeatShuts, is_used};
 ghost use Rattle.tk_hub.specs.Slot.{HearsAt, HearsOneAt, SeatHears, SeatHearsOne, SeatSays};
 ghost use Rattle.tk_hub.specs.Turn.{IsStopGiven};
@@ -116,6 +117,16 @@ pub fn has_given<W: Wire>(seat: &Option<Link<W>>, count: usize) -> bool
 {
     match seat {
         Some(link) => link.has_said(count),
+        None => false,
+    }
+}
+
+/// Whether the wire of the seat failed, or has ended.
+pub fn is_lost<W: Wire>(seat: &Option<Link<W>>) -> bool
+    ensures { result ≡ is_lost_at seat.now }
+{
+    match seat {
+        Some(link) => 0 < link.wire().faults() || 0 < link.wire().ends(),
         None => false,
     }
 }

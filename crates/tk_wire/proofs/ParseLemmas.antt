@@ -41,7 +41,7 @@ pub encoding-piece : (version : ℕ) (frames : List Frame) (given piece left : L
 encoding-piece version frames given piece left e = record { each = e.each; parts = append_assoc given piece left ∙ e.parts }
 
 -- the first frames of the same bytes are the same, and so is what stands behind them
-first_alike : (version : ℕ) (f g : Frame) (fs gs : List Frame) (r s : List ℕ) → HaveSpellings version (f ∷ fs) → HaveSpellings version (g ∷ gs) → spellings version (f ∷ fs) ++ r ≡ spellings version (g ∷ gs) ++ s → (f ≡ g) × (spellings version fs ++ r ≡ spellings version gs ++ s)
+pub first_alike : (version : ℕ) (f g : Frame) (fs gs : List Frame) (r s : List ℕ) → HaveSpellings version (f ∷ fs) → HaveSpellings version (g ∷ gs) → spellings version (f ∷ fs) ++ r ≡ spellings version (g ∷ gs) ++ s → (f ≡ g) × (spellings version fs ++ r ≡ spellings version gs ++ s)
 first_alike version f g fs gs r s left right same =
     let whole : spelling version f ++ (spellings version fs ++ r) ≡ spelling version g ++ (spellings version gs ++ s) = sym (append_assoc (spelling version f) (spellings version fs) r) ∙ same ∙ append_assoc (spelling version g) (spellings version gs) s in
     let one = one_spelling version f g (spelling version f) (spelling version g) (spellings version fs ++ r) (spellings version gs ++ s) left.0 right.0 whole in

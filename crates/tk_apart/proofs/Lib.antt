@@ -1,0 +1,3 @@
+pub mod CarriedLemmas
+pub mod CompactingLemmas
+pub mod SoFarLemmas

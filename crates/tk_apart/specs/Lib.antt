@@ -1,0 +1,4 @@
+pub mod Carried
+pub mod Compacting
+pub mod Connected
+pub mod SoFar
