@@ -1,0 +1,228 @@
+-- A session while it goes on, step by step.
+use Rattle.std.proofs.Common.{◌≡◌, ◌≤◌, ◌<◌, ℕ, ◌+◌, suc, zero, List, [], ◌∷◌, ◌++◌, length, map, take, drop, get_or, true, false, Bool, Option, Some, None, Result, Ok, Err, refl, sym, ap, ap₂, subst, ◌∙◌, inl, inr, arith, append_assoc, append-nil, length-append, ℤ}
+use Rattle.std.specs.Prelude.{fold, filter_map, slice_get, unwrap_or, OnOk, IfErr}
+use Rattle.std.specs.List.{All, enumerate_from}
+use Rattle.std.specs.Result.{IsErrAnd}
+use Rattle.std.proofs.lemmas.Bool.{false≢true}
+use Rattle.std.proofs.lemmas.List.{take-append-le, take_more}
+use Rattle.std.proofs.lemmas.List.Elements.{filter_map-append}
+use Rattle.std.proofs.lemmas.List.Sums.{fold-append}
+use Rattle.std.proofs.lemmas.Option.{get_or_from_slice_get}
+use Rattle.tk_base.specs.History.{IsFront}
+use Rattle.tk_coord.specs.Coordinator.{CoordinatorView}
+use Rattle.tk_end.proofs.HearingLemmas.{front_trans}
+use Rattle.tk_frames.specs.declared.frame.Frame.TheVariants as f
+use Rattle.tk_hub.specs.Hub.{HubView, IsHub}
+use Rattle.tk_hub.specs.Lines.{AreNamed}
+use Rattle.tk_hub.specs.declared.course.Course.TheVariants as cs
+use Rattle.tk_input.specs.Files.{one_more}
+use Rattle.tk_input.specs.Sink.{Grows, GrowsByFront}
+use Rattle.tk_journal.specs.Legal.{Opening, opened, start}
+use Rattle.tk_journal.specs.Publishing.{publications, published_in}
+use Rattle.tk_journal.specs.declared.noted.Noted.{Noted}
+use Rattle.tk_journal.specs.declared.noted.Noted.TheVariants as n
+use Rattle.tk_journal.specs.declared.publication.Publication.{Publication}
+use Rattle.tk_ledger.proofs.SinkLemmas.{front_more, grows_more, grows_none}
+use Rattle.tk_story.proofs.JoinLemmas.{rest_of}
+use Rattle.tk_wire.specs.Host.{HostState}
+use Rattle.tk_wire.specs.Meanings.{raised_by}
+use Rattle.tk_wire.specs.declared.greeting.Greeting.{Greeting}
+use Rattle.tk_host.specs.Going.{IsGoing, IsOfSession, IsOfTurn, IsStanding, IsTold, IsUntold, Leaves, Serves, Steps, TellsAll, Turns, WritesLeft, WritesStep, calls_failed, faults_left, going, left, published_by}
+use Rattle.tk_host.specs.Session.{Joined, Published, Told, joined_by, joined_in, set_in, sets_in}
+use Rattle.tk_host.specs.Text.{joined_text, line_of, set_text, told_text}
+use Rattle.tk_host.specs.declared.cause.Cause.TheVariants as c
+use Rattle.tk_host.specs.declared.over.Over.{Over}
+use Rattle.tk_host.specs.declared.over.Over.TheVariants as o
+use Rattle.tk_host.specs.Sitting.{SessionView}
+
+-- ---- text
+
+-- one thing more is told
+pub told_text-push : (names : List (List ℕ)) (joined : List Greeting) (told : List Told) (t : Told)
+    → told_text names joined (told ++ t ∷ []) ≡ told_text names joined told ++ line_of names (fold joined_by joined told) t
+told_text-push names joined [] t = append-nil (line_of names joined t)
+told_text-push names joined (x ∷ told) t =
+    ap (λ (l : List ℕ). line_of names joined x ++ l) (told_text-push names (joined_by joined x) told t)
+    ∙ sym (append_assoc (line_of names joined x) (told_text names (joined_by joined x) told) (line_of names (fold joined_by (joined_by joined x) told) t))
+
+pub writes_more : {A : Type 0} (result : Result A Over) (a b c : Option (List ℕ)) (x y : List ℕ) → Grows a b x → WritesStep result b c y → WritesStep result a c (x ++ y)
+writes_more (Ok done) a b c x y first then = grows_more a b c x y first then
+writes_more (Err o.Finished) a b c x y first then = grows_more a b c x y first then
+writes_more (Err (o.Ended cause)) a b c x y first then = grows_more a b c x y first then
+writes_more (Err o.HostFailed) a b c x y first then = grows_more a b c x y first then
+writes_more (Err o.WriteFailed) a b c x y first then = front_more a b c x y first then
+
+-- what is left by something else than a failed write is written whole
+pub writes_left : (over : Over) (a b : Option (List ℕ)) (x : List ℕ) → (over ≡ o.WriteFailed → ⊥) → Grows a b x → WritesLeft over a b x
+writes_left o.Finished a b x fine grown = grown
+writes_left (o.Ended cause) a b x fine grown = grown
+writes_left o.HostFailed a b x fine grown = grown
+writes_left o.WriteFailed a b x fine grown = absurd (fine refl)
+
+-- ---- the sets of a journal
+
+published_grow : (a b : List Noted) → IsFront a b → (k : ℕ) → k ≤ length (publications a) → (take k (publications b) ≡ take k (publications a)) × (length (publications a) ≤ length (publications b))
+published_grow a b front k within =
+    let r = rest_of a b front in
+    let whole : publications b ≡ publications a ++ publications r.rest = ap publications r.is ∙ filter_map-append published_in a r.rest in
+    (ap (take k) whole ∙ take-append-le k (publications a) (publications r.rest) within, (let l = ap (λ (ps : List Publication). length ps) whole in omega (arith, l, length-append (publications a) (publications r.rest))))
+
+-- the members of a publication have names
+pub named_set : (names : ℕ) (journal : List Noted) → All (AreNamed names) journal → (i : ℕ) (p : Publication) → slice_get (publications journal) i ≡ Some p → All (λ t. t ≤ names) p.members
+named_set names [] all i p at = absurd (cc)
+named_set names (n.Got from frame ∷ journal) all i p at = named_set names journal (λ k d within. all (suc k) d (omega (arith, within))) i p at
+named_set names (n.Sent to frame ∷ journal) all i p at = named_set names journal (λ k d within. all (suc k) d (omega (arith, within))) i p at
+named_set names (n.Tuned k epsilon ∷ journal) all i p at = named_set names journal (λ k d within. all (suc k) d (omega (arith, within))) i p at
+named_set names (n.Published q ∷ journal) all zero p at =
+    subst (λ (x : Publication). All (λ t. t ≤ names) x.members) (ap (λ (x : Option Publication). unwrap_or x q) at) (all 0 (n.Published q) (omega arith))
+named_set names (n.Published q ∷ journal) all (suc i) p at = named_set names journal (λ k d within. all (suc k) d (omega (arith, within))) i p at
+
+no_publications : (members : List ℕ) (rows : List (ℕ × List (ℕ × ℤ))) → publications (map (λ p. n.Sent (record { 0 = p.0 }) (f.Assign 1 members p.1)) rows) ≡ []
+no_publications members [] = refl
+no_publications members (p ∷ rows) = no_publications members rows
+
+-- a new journal has published nothing
+pub opened_unpublished : (start_ : Opening) → publications (opened start_) ≡ []
+opened_unpublished start_ = no_publications start_.members (enumerate_from 1 start_.factors)
+
+-- ---- what is told
+
+-- nothing is told of a session that begins
+pub told_none : {W : Type 0} (names : List (List ℕ)) (s : SessionView W) (now : Option (List ℕ)) → s.roster ≡ [] → s.told ≡ 0 → IsTold going names s now now
+told_none names s now nobody none = record {
+  told = [];
+  joined = sym nobody;
+  sets = sym (ap (λ (k : ℕ). take k (published_by s)) none);
+  within = omega (arith, none);
+  written = grows_none now;
+}
+
+module _ {W : Type 0} (names : List (List ℕ)) (s s' : SessionView W) (before now : Option (List ℕ)) (h : IsTold going names s before now) where
+  -- nothing more is told, and the journal may grow
+  pub told_grown : IsFront s.hub.coordinator.journal s'.hub.coordinator.journal → s'.roster ≡ s.roster → s'.told ≡ s.told → IsTold going names s' before now
+  told_grown front roster count =
+      let more = published_grow s.hub.coordinator.journal s'.hub.coordinator.journal front s.told h.within in
+      record {
+        told = h.told;
+        joined = h.joined ∙ sym roster;
+        sets = h.sets ∙ sym more.0 ∙ ap (λ (k : ℕ). take k (published_by s')) (sym count);
+        within = omega (arith, count, h.within, more.1);
+        written = h.written;
+      }
+
+  -- nothing more is told over the same journal
+  pub told_same : s'.hub.coordinator ≡ s.hub.coordinator → s'.roster ≡ s.roster → s'.told ≡ s.told → IsTold going names s' before now
+  told_same same roster count =
+      let sets = ap (λ (k : CoordinatorView). publications k.journal) same in
+      record {
+        told = h.told;
+        joined = h.joined ∙ sym roster;
+        sets = h.sets ∙ ap₂ take (sym count) (sym sets);
+        within = (let l = ap (λ (ps : List Publication). length ps) sets in omega (arith, count, h.within, l));
+        written = h.written;
+      }
+
+  -- a monitor that joins is told
+  pub told_joined : {A : Type 0} (result : Result A Over) (g : Greeting) (next : Option (List ℕ)) → s'.hub.coordinator ≡ s.hub.coordinator → s'.roster ≡ s.roster ++ g ∷ [] → s'.told ≡ s.told
+      → WritesStep result now next (joined_text g) → IsTold result names s' before next
+  told_joined result g next same roster count put =
+      let sets = ap (λ (k : CoordinatorView). publications k.journal) same in
+      record {
+        told = h.told ++ Joined g ∷ [];
+        joined = fold-append joined_by [] h.told (Joined g ∷ []) ∙ ap (λ (js : List Greeting). js ++ g ∷ []) h.joined ∙ sym roster;
+        sets = filter_map-append set_in h.told (Joined g ∷ []) ∙ append-nil (sets_in h.told) ∙ h.sets ∙ ap₂ take (sym count) (sym sets);
+        within = (let l = ap (λ (ps : List Publication). length ps) sets in omega (arith, count, h.within, l));
+        written = subst (WritesStep result before next) (sym (told_text-push names [] h.told (Joined g))) (writes_more result before now next (told_text names [] h.told) (joined_text g) h.written put);
+      }
+
+  -- a set is told
+  pub told_published : {A : Type 0} (result : Result A Over) (p : Publication) (next : Option (List ℕ)) → s'.hub.coordinator ≡ s.hub.coordinator → s'.roster ≡ s.roster → s'.told ≡ s.told + 1
+      → slice_get (published_by s) s.told ≡ Some p → s.told < length (published_by s) → WritesStep result now next (set_text names s.roster p) → IsTold result names s' before next
+  told_published result p next same roster count at more put =
+      let sets = ap (λ (k : CoordinatorView). publications k.journal) same in
+      let here : get_or (published_by s) s.told p ≡ p = get_or_from_slice_get (published_by s) s.told p p at in
+      let shown : WritesStep result now next (line_of names (joined_in h.told) (Published p)) = subst (λ (js : List Greeting). WritesStep result now next (set_text names js p)) (sym h.joined) put in
+      record {
+        told = h.told ++ Published p ∷ [];
+        joined = fold-append joined_by [] h.told (Published p ∷ []) ∙ h.joined ∙ sym roster;
+        sets =
+            filter_map-append set_in h.told (Published p ∷ [])
+            ∙ ap (λ (ps : List Publication). ps ++ p ∷ []) h.sets
+            ∙ ap (λ (x : Publication). take s.told (published_by s) ++ x ∷ []) (sym here)
+            ∙ sym (take_more (published_by s) s.told p more)
+            ∙ ap₂ take (sym count) (sym sets);
+        within = (let l = ap (λ (ps : List Publication). length ps) sets in omega (arith, count, more, l));
+        written = subst (WritesStep result before next) (sym (told_text-push names [] h.told (Published p))) (writes_more result before now next (told_text names [] h.told) (line_of names (joined_in h.told) (Published p)) h.written shown);
+      }
+
+  -- the session is left by something else than a failed write
+  pub told_left : {A : Type 0} (over : Over) → (over ≡ o.WriteFailed → ⊥) → IsTold {A = A} (Err over) names s before now
+  told_left over fine = record { told = h.told; joined = h.joined; sets = h.sets; within = h.within; written = writes_left over before now (told_text names [] h.told) fine h.written }
+
+-- ---- how a session is left
+
+pub untold_leaves : {W : Type 0} (s : SessionView W) (over : Over) → IsUntold over → Leaves s over
+untold_leaves s o.Finished is = absurd is
+untold_leaves s (o.Ended (c.Link mon)) is = absurd is
+untold_leaves s (o.Ended (c.Refused mon)) is = absurd is
+untold_leaves s (o.Ended (c.Bad mon)) is = absurd is
+untold_leaves s (o.Ended (c.Again mon)) is = absurd is
+untold_leaves s (o.Ended c.Memory) is = tt
+untold_leaves s o.HostFailed is = absurd is
+untold_leaves s o.WriteFailed is = tt
+
+pub untold_inside : (over : Over) → IsUntold over → IsOfSession over
+untold_inside o.Finished is = tt
+untold_inside (o.Ended cause) is = tt
+untold_inside o.HostFailed is = is
+untold_inside o.WriteFailed is = tt
+
+pub turned_inside : (over : Over) → IsOfTurn over → IsOfSession over
+turned_inside o.Finished is = tt
+turned_inside (o.Ended cause) is = tt
+turned_inside o.HostFailed is = is
+turned_inside o.WriteFailed is = tt
+
+pub turned_written : (over : Over) → IsOfTurn over → over ≡ o.WriteFailed → ⊥
+turned_written over is wrote = subst IsOfTurn wrote is
+
+pub turned_faults : (over : Over) (faults : ℕ) → IsOfTurn over → faults_left over faults ≡ faults
+turned_faults o.Finished faults is = refl
+turned_faults (o.Ended cause) faults is = refl
+turned_faults o.HostFailed faults is = absurd is
+turned_faults o.WriteFailed faults is = absurd is
+
+-- connections are held at the hub, and nothing else changed
+pub going_held : {W : Type 0} (s s' : SessionView W) → IsGoing s → s'.hub ≡ record s.hub { held = s'.hub.held } → s'.told ≡ s.told → IsHub s'.hub → IsGoing s'
+going_held s s' h rest count kept =
+    let same = ap (λ (x : HubView _). x.coordinator) rest in
+    record {
+      standing = record { kept = kept; begins = subst (λ (k : CoordinatorView). IsFront (opened (start k.settings)) k.journal) (sym same) h.standing.begins };
+      course = ap (λ (x : HubView _). x.course) rest ∙ h.course;
+      all = count ∙ h.all ∙ ap (λ (k : CoordinatorView). length (publications k.journal)) (sym same);
+    }
+
+-- ---- the host
+
+pub serves_none : (host : HostState) → Serves going host host
+serves_none host = record { listens = refl; on = refl; off = tt }
+
+pub serves_on : {A B : Type 0} (x : A) (result : Result B Over) (a b c : HostState) → Serves {A = A} (Ok x) a b → Serves result b c → Serves result a c
+serves_on x (Ok y) a b c first then = record { listens = then.listens ∙ first.listens; on = then.on ∙ first.on; off = tt }
+serves_on x (Err over) a b c first then = record { listens = then.listens ∙ first.listens; on = tt; off = then.off ∙ ap (calls_failed over) first.on }
+
+inside_calls : (over : Over) (faults : ℕ) → IsOfSession over → faults ≡ calls_failed over faults
+inside_calls o.Finished faults is = refl
+inside_calls (o.Ended cause) faults is = refl
+inside_calls o.HostFailed faults is = absurd is
+inside_calls o.WriteFailed faults is = refl
+
+-- a session that is left by itself leaves the host as it was
+pub serves_inside : {A B : Type 0} (x : A) (over : Over) (a b : HostState) → IsOfSession over → Serves {A = A} (Ok x) a b → Serves {A = B} (Err over) a b
+serves_inside x over a b is h = record { listens = h.listens; on = tt; off = h.on ∙ inside_calls over a.faults is }
+
+-- ---- errors that a failed put turns into
+
+pub unwritten : {A : Type 0} (result : Result A Over) (a b : Option (List ℕ)) (x : List ℕ) → IsErrAnd result (λ over. over ≡ o.WriteFailed) → GrowsByFront a b x → WritesStep result a b x
+unwritten (Ok done) a b x is front = absurd is
+unwritten (Err over) a b x is front = subst (λ (v : Over). WritesLeft v a b x) (sym is) front

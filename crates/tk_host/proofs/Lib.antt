@@ -1,0 +1,4 @@
+pub mod GoingLemmas
+pub mod HoldingLemmas
+pub mod LineLemmas
+pub mod TextExamples

@@ -1,0 +1,62 @@
+-- What one more count, place or monitor adds to the text of a line.
+use Rattle.std.proofs.Common.{◌≡◌, ℕ, suc, ◌+◌, ◌-◌, ◌<◌, ℤ, Bool, true, cond, Some, List, [], ◌∷◌, ◌++◌, length, take, get_or, sym, ap, ◌∙◌, arith, append_assoc, append-nil, length-take, rules}
+use Rattle.std.specs.Prelude.{codes, decimal, flat_map, nat_lt, slice_get}
+use Rattle.std.specs.Fmt.{signed_decimal}
+use Rattle.std.specs.List.{join_by, range_with_len}
+use Rattle.std.proofs.lemmas.List.Concat.{flat_map-append}
+use Rattle.std.proofs.lemmas.List.FromFn.{length-range_with_len}
+use Rattle.std.proofs.lemmas.List.{take_more}
+use Rattle.std.proofs.lemmas.Option.{get_or_from_slice_get}
+use Rattle.tk_border.proofs.RisingLemmas.{range-append}
+use Rattle.tk_wire.specs.declared.beginning.Beginning.{Beginning}
+use Rattle.tk_wire.specs.declared.greeting.Greeting.{Greeting}
+use Rattle.tk_host.specs.Origins.{absolute, beginnings_of, none}
+use Rattle.tk_host.specs.Text.{absolute_text, counts_text, monitor_text}
+
+flat_map-push : {X : Type 0} (f : X → List ℕ) (xs : List X) (y : X) → flat_map f (xs ++ y ∷ []) ≡ flat_map f xs ++ f y
+flat_map-push f xs y = flat_map-append f xs (y ∷ []) ∙ ap (λ (l : List ℕ). flat_map f xs ++ l) (append-nil (f y))
+
+join_by-push : {X : Type 0} (f : X → List ℕ) (sep : List ℕ) (xs : List X) (y : X) → join_by f sep (xs ++ y ∷ []) ≡ join_by f sep xs ++ (cond (nat_lt 0 (length xs)) sep [] ++ f y)
+join_by-push f sep [] y = append-nil (f y)
+join_by-push f sep (x ∷ xs) y =
+    let more : nat_lt 0 (suc (length xs)) ≡ true = search rules in
+    ap (λ (l : List ℕ). f x ++ l) (flat_map-push (λ z. sep ++ f z) xs y)
+    ∙ sym (append_assoc (f x) (flat_map (λ z. sep ++ f z) xs) (sep ++ f y))
+    ∙ ap (λ (b : Bool). (f x ++ flat_map (λ z. sep ++ f z) xs) ++ (cond b sep [] ++ f y)) (sym more)
+
+pub counts_more : (bs : List Beginning) (i : ℕ) → i < length bs
+    → counts_text (take i bs) ++ (cond (nat_lt 0 i) (codes ",") [] ++ decimal (get_or bs i none).count) ≡ counts_text (take (i + 1) bs)
+counts_more bs i within =
+    let long : length (take i bs) ≡ i = grind (arith, length-take) in
+    ap (λ (n : ℕ). counts_text (take i bs) ++ (cond (nat_lt 0 n) (codes ",") [] ++ decimal (get_or bs i none).count)) (sym long)
+    ∙ sym (join_by-push (λ (b : Beginning). decimal b.count) (codes ",") (take i bs) (get_or bs i none))
+    ∙ ap counts_text (sym (take_more bs i none within))
+
+-- the first absolute places
+abbrev pub places_to : List Beginning → List ℕ → ℕ → List ℕ
+places_to bs places n = join_by (λ i. signed_decimal (absolute bs places i)) (codes ",") (range_with_len 0 n)
+
+pub places_more : (bs : List Beginning) (places : List ℕ) (i : ℕ) (z : ℤ) → z ≡ absolute bs places i
+    → places_to bs places i ++ (cond (nat_lt 0 i) (codes ",") [] ++ signed_decimal z) ≡ places_to bs places (i + 1)
+places_more bs places i z is =
+    let text = λ (j : ℕ). signed_decimal (absolute bs places j) in
+    let long = length-range_with_len 0 i in
+    let next : i ≡ 0 + i = omega arith in
+    ap (λ (y : ℤ). places_to bs places i ++ (cond (nat_lt 0 i) (codes ",") [] ++ signed_decimal y)) is
+    ∙ ap (λ (n : ℕ). places_to bs places i ++ (cond (nat_lt 0 n) (codes ",") [] ++ text i)) (sym long)
+    ∙ sym (join_by-push text (codes ",") (range_with_len 0 i) i)
+    ∙ ap (λ (k : ℕ). join_by text (codes ",") (range_with_len 0 i ++ k ∷ [])) next
+    ∙ ap (join_by text (codes ",")) (sym (range-append 0 i 1))
+
+pub monitors_more : (joined : List Greeting) (cut : List (List ℕ)) (i : ℕ) (places : List ℕ) → slice_get cut i ≡ Some places
+    → flat_map (monitor_text joined cut) (range_with_len 1 i) ++ (codes " " ++ decimal (i + 1) ++ codes ":" ++ absolute_text (beginnings_of joined (i + 1)) places)
+    ≡ flat_map (monitor_text joined cut) (range_with_len 1 (i + 1))
+monitors_more joined cut i places here =
+    let front = flat_map (monitor_text joined cut) (range_with_len 1 i) in
+    let next : i + 1 ≡ 1 + i = omega arith in
+    let place : i ≡ 1 + i - 1 = omega arith in
+    ap (λ (p : List ℕ). front ++ (codes " " ++ decimal (i + 1) ++ codes ":" ++ absolute_text (beginnings_of joined (i + 1)) p)) (sym (get_or_from_slice_get cut i places [] here))
+    ∙ ap (λ (m : ℕ). front ++ (codes " " ++ decimal m ++ codes ":" ++ absolute_text (beginnings_of joined m) (get_or cut i []))) next
+    ∙ ap (λ (j : ℕ). front ++ (codes " " ++ decimal (1 + i) ++ codes ":" ++ absolute_text (beginnings_of joined (1 + i)) (get_or cut j []))) place
+    ∙ sym (flat_map-push (monitor_text joined cut) (range_with_len 1 i) (1 + i))
+    ∙ ap (flat_map (monitor_text joined cut)) (sym (range-append 1 i 1))

@@ -1,0 +1,183 @@
+ghost use Rattle.std.specs.Prelude.{◌≡◌, ◌≤◌, true, IfErr, length};
+ghost use Rattle.tk_host.specs.Going.{IsGoing, IsOfHost, IsOfSession, Serves, Steps, TellsMore, TellsOf, faults_left, left, step_faults};
+
+use crate::knock::Knock;
+use crate::over::Over;
+use crate::session::Session;
+use std::alloc::Global;
+use std::sync::Wait;
+use tk_hub::HubTurn;
+use tk_input::{Catalog, Sink};
+use tk_wire::{Host, Wire};
+
+/// How many connections are accepted between two turns at most.
+const KNOCKS: u32 = 64;
+
+/// Waits until something may have come, where nothing is left to do.
+fn pause<H: Host>(host: &mut H, idle: bool) -> Result<(), Over>
+    requires { (H.state host.old).listens ≡ true }
+    ensures serves { Serves result (H.state host.old) (H.state host.new) }
+    ensures over { IfErr result IsOfHost }
+{
+    if idle {
+        host.wait()?;
+    }
+    Ok(())
+}
+
+/// A connection that waits, if one does.
+fn accept<H: Host>(host: &mut H) -> Result<Option<Knock<H::Link>>, Over>
+    requires { (H.state host.old).listens ≡ true }
+    ensures serves { Serves result (H.state host.old) (H.state host.new) }
+    ensures over { IfErr result IsOfHost }
+{
+    let Some((link, greeting)) = host.accept()? else {
+        return Ok(None);
+    };
+    Ok(Some(Knock { link, greeting }))
+}
+
+/// Lets those join that wait. Says whether there may be more.
+fn admit<H: Host, O: Sink>(
+    alloc: Global,
+    host: &mut H,
+    session: &mut Session<H::Link>,
+    out: &mut O,
+) -> Result<bool, Over>
+    requires listens { (H.state host.old).listens ≡ true }
+    requires going { IsGoing session.old }
+    ensures steps { Steps result session.old session.new }
+    ensures tells { TellsMore result session.old session.new (O.written out.old) (O.written out.new) }
+    ensures serves { Serves result (H.state host.old) (H.state host.new) }
+    ensures counted { O.fault_count out.new ≡ step_faults result (O.fault_count out.old) }
+{
+    for _ in 0..KNOCKS {
+        match accept(host)? {
+            Some(knock) => session.join(alloc, knock, out)?,
+            None => return Ok(false),
+        }
+    }
+    Ok(true)
+}
+
+/// Whether nothing is left to do before something comes: what waits is told of once, so after a turn or a door that may
+/// have more there is no wait.
+fn is_idle(more: bool, turn: HubTurn) -> bool {
+    match turn {
+        HubTurn::More => false,
+        _ => !more,
+    }
+}
+
+/// A turn of the hub, and the sets that it published. Says whether nothing is left to do.
+fn play<W: Wire + Drop, O: Sink>(
+    alloc: Global,
+    session: &mut Session<W>,
+    names: &Catalog,
+    more: bool,
+    out: &mut O,
+) -> Result<bool, Over>
+    requires going { IsGoing session.old }
+    requires named { session.old.hub.coordinator.settings.objects ≤ length names.now }
+    ensures steps { Steps result session.old session.new }
+    ensures inside { IfErr result IsOfSession }
+    ensures tells { TellsOf names.now result session.old session.new (O.written out.old) (O.written out.new) }
+    ensures counted { O.fault_count out.new ≡ step_faults result (O.fault_count out.old) }
+{
+    let turn = session.turn(names);
+    session.tell(alloc, names, out)?;
+    session.after(turn)?;
+    Ok(is_idle(more, turn))
+}
+
+/// Waits, lets monitors join, and plays a turn. Says whether nothing is left to do.
+fn step<H: Host, O: Sink>(
+    alloc: Global,
+    host: &mut H,
+    session: &mut Session<H::Link>,
+    names: &Catalog,
+    idle: bool,
+    out: &mut O,
+) -> Result<bool, Over>
+    requires listens { (H.state host.old).listens ≡ true }
+    requires going { IsGoing session.old }
+    requires named { session.old.hub.coordinator.settings.objects ≤ length names.now }
+    ensures steps { Steps result session.old session.new }
+    ensures tells { TellsOf names.now result session.old session.new (O.written out.old) (O.written out.new) }
+    ensures serves { Serves result (H.state host.old) (H.state host.new) }
+    ensures counted { O.fault_count out.new ≡ step_faults result (O.fault_count out.old) }
+{
+    pause(host, idle)?;
+    let more = admit(alloc, host, session, out)?;
+    play(alloc, session, names, more, out)
+}
+
+/// Plays a session over a door that listens, until it is left.
+fn play_on<R: Wait, H: Host, O: Sink>(
+    rt: &R,
+    alloc: Global,
+    host: &mut H,
+    session: &mut Session<H::Link>,
+    names: &Catalog,
+    out: &mut O,
+) -> Over
+    requires listens { (H.state host.old).listens ≡ true }
+    requires going { IsGoing session.old }
+    requires named { session.old.hub.coordinator.settings.objects ≤ length names.now }
+    ensures steps { Steps (left result) session.old session.new }
+    ensures tells { TellsOf names.now (left result) session.old session.new (O.written out.old) (O.written out.new) }
+    ensures serves { Serves (left result) (H.state host.old) (H.state host.new) }
+    ensures counted { O.fault_count out.new ≡ faults_left result (O.fault_count out.old) }
+{
+    let mut idle = true;
+    for _ in rt.forever() {
+        match step(alloc, host, session, names, idle, out) {
+            Ok(next) => idle = next,
+            Err(over) => return over,
+        }
+    }
+    unreachable!()
+}
+
+/// Lets the first join, where there is one.
+fn welcome<W: Wire + Drop, O: Sink>(
+    alloc: Global,
+    session: &mut Session<W>,
+    first: Option<Knock<W>>,
+    out: &mut O,
+) -> Result<(), Over>
+    requires { IsGoing session.old }
+    ensures steps { Steps result session.old session.new }
+    ensures inside { IfErr result IsOfSession }
+    ensures tells { TellsMore result session.old session.new (O.written out.old) (O.written out.new) }
+    ensures counted { O.fault_count out.new ≡ step_faults result (O.fault_count out.old) }
+{
+    match first {
+        Some(knock) => session.join(alloc, knock, out),
+        None => Ok(()),
+    }
+}
+
+/// Runs a session over a door that listens, until it is left. A connection with which it begins joins first.
+pub fn attend<R: Wait, H: Host, O: Sink>(
+    rt: &R,
+    alloc: Global,
+    host: &mut H,
+    session: &mut Session<H::Link>,
+    first: Option<Knock<H::Link>>,
+    names: &Catalog,
+    out: &mut O,
+) -> Over
+    requires listens { (H.state host.old).listens ≡ true }
+    requires going { IsGoing session.old }
+    requires named { session.old.hub.coordinator.settings.objects ≤ length names.now }
+    ensures steps { Steps (left result) session.old session.new }
+    ensures tells { TellsOf names.now (left result) session.old session.new (O.written out.old) (O.written out.new) }
+    ensures serves { Serves (left result) (H.state host.old) (H.state host.new) }
+    ensures counted { O.fault_count out.new ≡ faults_left result (O.fault_count out.old) }
+{
+    match welcome(alloc, session, first, out) {
+        Ok(()) => play_on(rt, alloc, host, session, names, out),
+        Err(over) => over,
+    }
+}
