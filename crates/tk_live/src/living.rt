@@ -17,8 +17,8 @@ ghost use Rattle.tk_load.specs.Surroundings.{output_by};
 ghost use Rattle.tk_load.specs.declared.status.Status.TheVariants.{LinkFault as Unlinked};
 
 use crate::ending::{Choice, choose, is_odd};
-use crate::joining::join_ends;
 use crate::faults::{of_link, of_net};
+use crate::joining::join_ends;
 use crate::left::Left;
 use crate::outcome::Outcome;
 use crate::playing::play;

@@ -13,13 +13,12 @@ ghost use Rattle.tk_words.specs.Words.Asked.{Checks};
 
 use crate::outcome::Outcome;
 use std::alloc::Global;
+use tk_commands::load_trace;
 use tk_input::{Catalog, Files, Sink};
 use tk_ledger::{PrintFault, print_sets};
-use tk_commands::load_trace;
 use tk_load::Status;
-use tk_story::Story;
+use tk_story::{Story, a_finished_run_is_sound};
 use tk_trace::Trace;
-use tk_story::a_finished_run_is_sound;
 
 /// Writes the sets that a run published, and that all of it is legal.
 fn print_yes<O: Sink>(

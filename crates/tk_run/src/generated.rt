@@ -11,9 +11,9 @@ ghost use Rattle.tk_words.specs.Asked.{asked_generate};
 use crate::outcome::Outcome;
 use crate::playing::{Played, story_of};
 use std::alloc::Global;
+use tk_commands::make;
 use tk_input::Sink;
 use tk_ledger::{PrintFault, print_summary};
-use tk_commands::make;
 use tk_load::Status;
 use tk_words::{Carriage, Generate};
 

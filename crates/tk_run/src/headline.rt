@@ -18,8 +18,8 @@ use tk_load::{
 };
 use tk_multi::a_query_counts_what_the_logs_count;
 use tk_session::each_session_is_legal;
-use tk_trace::nothing_is_wrong_with_a_finished_run;
 use tk_story::{a_finished_run_is_sound, a_story_is_sound_so_far};
+use tk_trace::nothing_is_wrong_with_a_finished_run;
 
 /// Each session of an order is sound as far as it went, and the last one is finished.
 pub fn sessions_are_sound()

@@ -19,13 +19,12 @@ use std::alloc::Global;
 use std::marker::Sync;
 use std::thread::Threads;
 use tk_base::NoMemory;
+use tk_commands::{MultiInput, load_multi};
 use tk_input::{Catalog, Files, Sink};
 use tk_ledger::PrintFault;
-use tk_commands::{MultiInput, load_multi};
 use tk_load::Status;
 use tk_multi::{Queries, Told, tell};
-use tk_story::Story;
-use tk_story::a_finished_run_is_sound;
+use tk_story::{Story, a_finished_run_is_sound};
 use tk_words::Multi;
 
 /// The line above the text of a query.

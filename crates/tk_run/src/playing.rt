@@ -12,8 +12,7 @@ use tk_bytes::byte_story;
 use tk_drain::{a_drive_is_reached, what_is_reached_runs};
 use tk_input::Catalog;
 use tk_load::Input;
-use tk_story::Story;
-use tk_story::a_finished_run_is_sound;
+use tk_story::{Story, a_finished_run_is_sound};
 use tk_window::TickEnds;
 use tk_words::Carriage;
 
