@@ -244,7 +244,7 @@ pub memory_alone : (watch : List (Option ℕ)) (count : ℕ) (all : LogSet) (par
 memory_alone watch count all parts e logs numbers are refused =
     only_memory e (record { logs = seen_logs watch all.logs; objects = count })
     (subst (λ (r : Result LogSet LogsFault). Refuses e r)
-    (ap (λ (ls : List (List (List (ℕ × ℤ)))). judged (record { logs = ls; objects = count })) (ap logs_by_monitor are ∙ seen_made watch count all logs) ∙ judged_ok watch count all logs numbers) refused)
+    (ap (λ (ls : List (List (List (ℕ × ℤ)))). judged (record { logs = ls; objects = count })) (ap logs_by_monitor are ∙ seen_made watch count all logs.limits) ∙ judged_ok watch count all logs numbers) refused)
 
 -- what the parts are within
 seen_each : (watch : List (Option ℕ)) (P : List (ℕ × ℤ) → Type 0) (parts : List (List (ℕ × ℤ))) → ((cs : List (ℕ × ℤ)) (k : ℕ) → k < length parts → P (watched_in watch (get_or parts k cs))) → All P (map (watched_in watch) parts)
