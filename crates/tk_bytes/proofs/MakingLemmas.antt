@@ -12,8 +12,8 @@ use Rattle.tk_trail.specs.Readings.{taken_by}
 use Rattle.tk_trail.specs.declared.entry.Entry.{Entry}
 use Rattle.tk_wire.specs.SureWire.{SureView}
 use Rattle.tk_end.specs.Link.{LinkView}
-use Rattle.tk_hub.proofs.DeskLemmas.{no_input}
 use Rattle.tk_hub.specs.Hub.{HubView, IsHub}
+use Rattle.tk_journal.proofs.HeardLemmas.{no_input}
 use Rattle.tk_hub.specs.Seats.{link_at}
 use Rattle.tk_hub.specs.Visitor.{VisitorView}
 use Rattle.tk_hub.specs.declared.course.Course.TheVariants as cs

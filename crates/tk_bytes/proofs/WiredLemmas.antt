@@ -22,7 +22,8 @@ use Rattle.tk_wire.specs.SureWire.{SureView}
 use Rattle.tk_end.specs.Link.{LinkView}
 use Rattle.tk_port.specs.Port.{IsPort, PortView}
 use Rattle.tk_port.proofs.SideLemmas.{taken_after}
-use Rattle.tk_hub.proofs.DeskLemmas.{heard_after, no_input}
+use Rattle.tk_hub.proofs.DeskLemmas.{heard_after}
+use Rattle.tk_journal.proofs.HeardLemmas.{no_input}
 use Rattle.tk_journal.proofs.Appends.{frames_from-append}
 use Rattle.tk_journal.proofs.WholeLemmas.{turn_is}
 use Rattle.tk_monitor.specs.declared.outcome.Raised.{Raised}

@@ -3,6 +3,7 @@
 ghost use Rattle.std.specs.Prelude.{◌≡◌, ◌++◌, ◌≤◌, length, All, OnOk};
 ghost use Rattle.std.specs.List.{flat_map};
 ghost use Rattle.tk_input.specs.Changes.{pair_of};
+ghost use Rattle.tk_input.specs.Logs.{AreGathered};
 ghost use Rattle.tk_trace.specs.Spelling.{change as change_of, part as part_of, row as row_of};
 
 use super::fields::{count, number_u8, number_u32, signed_i128};
@@ -56,7 +57,8 @@ fn row(out: &mut Vec<u8>, row: &[Part]) -> Result<(), NoMemory>
 
 /// Appends the logs.
 pub fn put_logs(alloc: Global, out: &mut Vec<u8>, logs: &Logs) -> Result<(), NoMemory>
-    ensures { OnOk result (out.new.items ≡ out.old.items ++ flat_map row_of logs.now.logs) }
+    ensures bytes { OnOk result (out.new.items ≡ out.old.items ++ flat_map row_of logs.now.logs) }
+    ensures gathered { OnOk result (AreGathered logs.now) }
 {
     for i in 0..logs.monitors() {
         row(out, logs.parts(alloc, Mon(i + 1))?.as_slice())?;

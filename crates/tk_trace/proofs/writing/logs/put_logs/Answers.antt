@@ -13,13 +13,13 @@ row-requires-clause-few c = subst (λ ps. length ps ≤ 8) (sym (c.as_slice.ensu
 pub row-requires-clause-lengths : goal.row-requires-clause-lengths
 row-requires-clause-lengths c = subst (All (λ part. length part ≤ 1000000)) (sym (c.as_slice.ensures.value ∙ c.in_ok-parts.ensures.parts)) c.parts.ensures.limits.lengths
 
-pub returns-in_err-parts : goal.returns-in_err-parts
-returns-in_err-parts c =
+pub returns-in_err-parts-clause-bytes : goal.returns-in_err-parts-clause-bytes
+returns-in_err-parts-clause-bytes c =
     let p = err_from_is_err_and c.from_residual.result c.from_residual.ensures.1 in
     not_ok c.from_residual.result p.0 _ p.1
 
-pub returns-in_err-row : goal.returns-in_err-row
-returns-in_err-row c =
+pub returns-in_err-row-clause-bytes : goal.returns-in_err-row-clause-bytes
+returns-in_err-row-clause-bytes c =
     let p = err_from_is_err_and c.from_residual-in_err-row.result c.from_residual-in_err-row.ensures.1 in
     not_ok c.from_residual-in_err-row.result p.0 _ p.1
 
@@ -33,5 +33,5 @@ loop-i-preserved c =
     let here : x ≡ get_or logs i [] = c.as_slice.ensures.value ∙ c.in_ok-parts.ensures.parts ∙ ap (λ (k : ℕ). get_or logs k []) place in
     more row logs i x c.args.out.now.items c.loop-i.out.items c.row.new.out.items within (at_place logs i [] x within here) c.loop-i.invariant c.in_ok-row.ensures
 
-pub returns : goal.returns
-returns c = all_out row c.args.logs.now.logs c.loop-i.i c.args.out.now.items c.loop-i.out.items (omega (arith, c.loop-i-test.false, c.monitors-i-end.ensures.value)) c.loop-i.invariant
+pub returns-clause-bytes : goal.returns-clause-bytes
+returns-clause-bytes c = all_out row c.args.logs.now.logs c.loop-i.i c.args.out.now.items c.loop-i.out.items (omega (arith, c.loop-i-test.false, c.monitors-i-end.ensures.value)) c.loop-i.invariant
