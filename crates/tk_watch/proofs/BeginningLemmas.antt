@@ -1,8 +1,8 @@
 -- What a monitor begins with.
-use Rattle.std.proofs.Common.{◌≡◌, ◌≤◌, ℕ, zero, suc, ℤ, List, [], ◌∷◌, length, replicate, refl, sym, ◌∙◌, arith}
+use Rattle.std.proofs.Common.{◌≡◌, ℕ, zero, suc, ℤ, List, length, replicate, refl, arith}
 use Rattle.std.proofs.lemmas.List.{length-replicate}
 use Rattle.std.specs.Prelude.{slice_index_or}
-use Rattle.tk_input.specs.Logs.{AreParts, ArePlaces}
+use Rattle.tk_input.specs.Logs.{ArePlaces}
 use Rattle.tk_trail.specs.Setup.{IsSetup}
 use Rattle.tk_watch.specs.Watching.{IsWatch, setup_of}
 use Rattle.tk_watch.specs.declared.watch.Watch.{Watch}
