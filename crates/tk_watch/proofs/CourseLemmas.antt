@@ -9,7 +9,8 @@ use Rattle.tk_watch.specs.Passing.{Closes, GoesOn, IsUnreached, PassesOn}
 use Rattle.tk_watch.specs.Watching.{GrowsAs, Left, Nothing, Past, Tells, number_after, pasts_text, said_text}
 use Rattle.tk_watch.specs.declared.verdict.Verdict.{Verdict}
 use Rattle.tk_watch.specs.declared.verdict.Verdict.TheVariants as v
-use Rattle.tk_watch.proofs.SinkLemmas.{grows_as_more, grows_more, grows_none}
+use Rattle.tk_ledger.proofs.SinkLemmas.{grows_more, grows_none}
+use Rattle.tk_watch.proofs.SinkLemmas.{grows_as_more}
 
 abbrev IsPast : MonitorSetup → Past → Type 0
 IsPast setup p = IsLeft setup p.cause p.leaving

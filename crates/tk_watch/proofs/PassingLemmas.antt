@@ -19,7 +19,7 @@ use Rattle.tk_watch.specs.declared.cause.Cause.{Cause}
 use Rattle.tk_watch.specs.declared.verdict.Verdict.{Verdict}
 use Rattle.tk_watch.specs.declared.verdict.Verdict.TheVariants as v
 use Rattle.tk_watch.specs.declared.watch.Watch.{Watch}
-use Rattle.tk_watch.proofs.SinkLemmas.{front_more, grows_more, grows_none}
+use Rattle.tk_ledger.proofs.SinkLemmas.{front_more, grows_more, grows_none}
 
 -- nothing was said of it
 pub says_nothing : (setup : MonitorSetup) (number : ℕ) (a : Option (List ℕ)) → Passes setup number (Some v.NoMemory) a a
