@@ -1,15 +1,16 @@
 -- One connection more that was left, and the last one.
 use Rattle.std.proofs.Common.{◌≡◌, ℕ, zero, suc, List, [], ◌∷◌, ◌++◌, length, Option, refl, ap, sym, subst, ◌∙◌, append_assoc, append-nil}
 use Rattle.std.specs.List.{AllByRecursion}
-use Rattle.tk_input.specs.Sink.{Grows, GrowsByFront}
+use Rattle.tk_input.specs.Sink.{Grows}
 use Rattle.tk_trail.specs.Setup.{MonitorSetup}
 use Rattle.tk_wire.specs.Meanings.{raised_by}
 use Rattle.tk_watch.specs.Leaving.{IsLeft}
 use Rattle.tk_watch.specs.Passing.{Closes, GoesOn, IsUnreached, PassesOn}
-use Rattle.tk_watch.specs.Watching.{FitsLast, GrowsAs, IsSo, Left, Nothing, Past, Said, Tells, number_after, pasts_text, said_text}
+use Rattle.tk_watch.specs.Watching.{GrowsAs, Left, Nothing, Past, Tells, number_after, pasts_text, said_text}
 use Rattle.tk_watch.specs.declared.verdict.Verdict.{Verdict}
 use Rattle.tk_watch.specs.declared.verdict.Verdict.TheVariants as v
-use Rattle.tk_watch.proofs.SinkLemmas.{grows_as_more, grows_more, grows_none}
+use Rattle.tk_ledger.proofs.SinkLemmas.{grows_more, grows_none}
+use Rattle.tk_watch.proofs.SinkLemmas.{grows_as_more}
 
 abbrev IsPast : MonitorSetup → Past → Type 0
 IsPast setup p = IsLeft setup p.cause p.leaving
@@ -38,14 +39,14 @@ pub goes_first : (setup : MonitorSetup) (a : Option (List ℕ)) → GoesOn setup
 goes_first setup a = record { pasts = []; each = tt; numbered = refl; text = grows_none a }
 
 -- one more was left
-pub goes_on : (setup : MonitorSetup) (number : ℕ) (a b c : Option (List ℕ)) → GoesOn setup number a b → PassesOn setup number b c → GoesOn setup (raised_by 1 number) a c
-goes_on setup number a b c goes passes =
+pub goes_on : (setup : MonitorSetup) (number next : ℕ) (a b c : Option (List ℕ)) → next ≡ raised_by 1 number → GoesOn setup number a b → PassesOn setup number b c → GoesOn setup next a c
+goes_on setup number next a b c raised goes passes =
     let p : Past = record { cause = passes.cause; leaving = passes.leaving } in
     let numbered : Grows b c (said_text setup (number_after 1 (length goes.pasts)) (Left p.cause p.leaving)) = subst (λ (n : ℕ). Grows b c (said_text setup n (Left p.cause p.leaving))) goes.numbered passes.text in
     record {
       pasts = goes.pasts ++ p ∷ [];
       each = each_more setup goes.pasts p goes.each passes.is;
-      numbered = ap (raised_by 1) goes.numbered ∙ sym (number_more 1 goes.pasts p);
+      numbered = raised ∙ ap (raised_by 1) goes.numbered ∙ sym (number_more 1 goes.pasts p);
       text = subst (Grows a c) (sym (pasts_more setup 1 goes.pasts p)) (grows_more a b c _ _ goes.text numbered);
     }
 

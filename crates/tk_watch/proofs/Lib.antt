@@ -1,4 +1,3 @@
-mod BeginningLemmas
 mod CourseLemmas
 mod PassingLemmas
 mod SinkLemmas

@@ -1,5 +1,5 @@
 -- The end of a connection, and why it was left.
-use Rattle.std.specs.Prelude.{◌≡◌, ◌⊎◌, ℕ, List, Option, Some, None, true, codes}
+use Rattle.std.specs.Prelude.{◌≡◌, ℕ, List, Option, Some, None, codes}
 use Rattle.tk_serve.specs.Serving.{why_of}
 use Rattle.tk_serve.specs.declared.served.Why.{Why}
 use Rattle.tk_serve.specs.declared.served.Why.TheVariants as w

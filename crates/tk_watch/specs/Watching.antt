@@ -1,5 +1,5 @@
 -- What a monitor is made of, and what its process writes.
-use Rattle.std.specs.Prelude.{◌≡◌, ◌<◌, ◌≤◌, ℕ, zero, suc, List, [], ◌∷◌, ◌++◌, length, replicate, Option, Some, None, true, codes, decimal, ⊤}
+use Rattle.std.specs.Prelude.{◌≡◌, ◌<◌, ◌≤◌, ℕ, zero, suc, List, [], ◌∷◌, ◌++◌, length, replicate, Option, true, codes, decimal, ⊤}
 use Rattle.std.specs.List.{AllByRecursion}
 use Rattle.tk_base.specs.Settings.{IsWithinLimits}
 use Rattle.tk_frames.specs.Spelling.{IsVersion}

@@ -53,8 +53,9 @@ pub fn monitor<R: Threads + Wait + Clock + Sync, D: Dialer, O: Sink>(
 {
     let mut number: u64 = 1;
     for _ in rt.forever() {
-        if let Some(verdict) = step(rt, alloc, watch, number, dialer, out) {
-            return verdict;
+        match step(rt, alloc, watch, number, dialer, out) {
+            Some(verdict) => return verdict,
+            None => {}
         }
         number = number.saturating_add(1);
         pause(rt, watch);

@@ -1,4 +1,4 @@
-ghost use Rattle.std.specs.Prelude.{◌≡◌, false, IfErr, OnOk};
+ghost use Rattle.std.specs.Prelude.{◌≡◌, false, IfErr, OnOk, Some};
 ghost use Rattle.tk_input.specs.Sink.{Grows};
 ghost use Rattle.tk_serve.specs.Serving.{why_of};
 ghost use Rattle.tk_trail.specs.Legal.{IsLegal};
@@ -6,6 +6,7 @@ ghost use Rattle.tk_trail.specs.Readings.{places_at};
 ghost use Rattle.tk_wire.specs.Net.{IsNew};
 ghost use Rattle.tk_watch.specs.Passing.{Passes, PassesBehind, Stops, faults_passed, faults_stopped};
 ghost use Rattle.tk_watch.specs.Watching.{IsWatch, ended_text, joined_text, left_text, setup_of};
+ghost use Rattle.tk_watch.specs.declared.verdict.Verdict.TheVariants.{LinkFault as Unlinked};
 
 use crate::beginning::begin;
 use crate::cause::Cause;
@@ -91,6 +92,7 @@ fn tell<W: Wire, Q: Rest, O: Sink>(
     requires legal { IsLegal (setup_of watch.now) served.now.end.monitor.trail }
     requires why { served.now.why ≡ why_of served.now.end (W.counts served.now.link) (Q.fault_count served.now.rest) }
     ensures passes { PassesBehind (setup_of watch.now) number result (O.written out.old) (O.written out.new) }
+    ensures linked { result ≡ Some Unlinked → ⊥ }
     ensures counted { O.fault_count out.new ≡ faults_passed result (O.fault_count out.old) }
 {
     match Cause::of(served.why, &served.end.odd) {
@@ -124,6 +126,7 @@ pub(crate) fn pass<
     requires new { IsNew L.Wire.tells (L.Wire.traffic made.0) (L.Wire.counts made.0) }
     requires once { L.greeted made.0 ≡ false }
     ensures passes { Passes (setup_of watch.now) number result (O.written out.old) (O.written out.new) }
+    ensures linked { result ≡ Some Unlinked → ⊥ }
     ensures counted { O.fault_count out.new ≡ faults_passed result (O.fault_count out.old) }
 {
     let (link, rest, bell) = made;

@@ -9,7 +9,7 @@ use std::thread;
 use std::thread::Threads;
 use std::time::Clock;
 use tk_base::{Mon, Settings};
-use tk_input::{Catalog, Part, VecSink};
+use tk_input::{Catalog, Logs, Part, VecSink};
 use tk_net::{MemDialer, MemHost, MemLink};
 use tk_watch::{Verdict, Watch, monitor};
 use tk_wire::{Gave, Host, Took, Wire};
@@ -42,25 +42,38 @@ enum Deed {
     Serve,
 }
 
-/// A monitor of run 5 over the one record a,5 of the objects a and b.
+/// Logs of the objects a and b, with the one record a,5.
+fn logs(alloc: Global) -> Option<Logs> {
+    let names = Catalog::read(alloc, b"a\nb\n").ok()?;
+    let part = Part::read(alloc, b"a,5\n", &names);
+    let objects = names.len() as u32;
+    drop(names);
+    let parts = vec![in alloc; (Mon(1), part.ok()?)].ok()?;
+    Logs::new(alloc, parts, objects).ok()
+}
+
+/// A monitor of run 5 over these logs.
 fn watch(alloc: Global, tries: Option<u64>) -> Option<Watch>
     ensures { IfSome result IsWatch }
 {
     let settings = Settings::new(1, 0, 1, 2, 1).ok()?;
-    let names = Catalog::read(alloc, b"a\nb\n").ok()?;
-    let part = Part::read(alloc, b"a,5\n", &names);
-    drop(names);
-    let mut parts = Vec::new(alloc);
-    parts.push(part.ok()?).ok()?;
-    Some(Watch {
-        settings,
-        number: Mon(1),
-        parts,
-        run: 5,
-        version: 1,
-        pause: 1,
-        tries,
-    })
+    let logs = logs(alloc)?;
+    if settings.objects() == 2 && logs.objects() == 2 && logs.monitors() == 1 {
+        let parts = logs.parts(alloc, Mon(1));
+        drop(logs);
+        Some(Watch {
+            settings,
+            number: Mon(1),
+            parts: parts.ok()?,
+            run: 5,
+            version: 1,
+            pause: 1,
+            tries,
+        })
+    } else {
+        drop(logs);
+        None
+    }
 }
 
 /// The next link, once a monitor has greeted.
@@ -119,6 +132,17 @@ fn done(alloc: Global, host: &mut MemHost, deed: Deed) -> Option<()>
     Some(())
 }
 
+/// Does so with one connection after the other.
+fn play(alloc: Global, host: MemHost, deeds: &[Deed])
+    requires { host.state.listens ≡ true }
+{
+    let mut host = host;
+    for deed in deeds {
+        done(alloc, &mut host, *deed);
+    }
+    drop(host);
+}
+
 /// What is written where the host does this with one connection after the other, and how the monitor ended.
 fn told<R: Threads + Wait + Clock + Sync>(
     rt: &R,
@@ -133,13 +157,12 @@ fn told<R: Threads + Wait + Clock + Sync>(
     let mut dialer = dialers.pop()?;
     let (verdict, _) = thread::join(
         rt,
-        || monitor(rt, alloc, &watch, &mut dialer, &mut out),
-        move || {
-            for deed in deeds {
-                done(alloc, &mut host, *deed);
-            }
-            drop(host);
-        },
+        ||
+            requires { IsWatch watch }
+        { monitor(rt, alloc, &watch, &mut dialer, &mut out) },
+        move ||
+            requires { host.state.listens ≡ true }
+        { play(alloc, host, deeds) },
     );
     let is_as_expected = out.written() == expected;
     Some((verdict, is_as_expected))
