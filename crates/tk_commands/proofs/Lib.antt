@@ -2,6 +2,9 @@ mod MakingLemmas
 mod MultiLemmas
 mod NumberedLemmas
 mod OtherLemmas
+mod ProcessLemmas
+mod RunMarkExamples
+mod RunMarkLemmas
 mod SessionLemmas
 mod ToldLemmas
 mod TracedLemmas

@@ -55,7 +55,7 @@ fn read_queries<F: Files>(alloc: Global, files: &mut F, file: &str) -> Result<Qu
 }
 
 /// The logs of all monitors together.
-fn all_logs<R: Threads + Sync, F: Files>(
+pub fn all_logs<R: Threads + Sync, F: Files>(
     rt: &R,
     alloc: Global,
     words: &[(Mon, &str)],
@@ -63,6 +63,7 @@ fn all_logs<R: Threads + Sync, F: Files>(
     files: &mut F,
 ) -> Result<Logs, Status>
     requires monitors { AreOfMonitors words.now }
+    ensures objects { IfOk result (λ logs. logs.objects ≡ length names.now) }
     ensures read { ReadsLogs (reads_by F.Files files.old files.new)
         (asked_logs words.now) (λ logs. logs) (all_logs_in names.now) result }
     ensures kept { AreKept F.Files files.old files.new }
