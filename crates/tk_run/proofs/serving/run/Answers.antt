@@ -3,6 +3,8 @@ use Rattle.tk_words.specs.Asked.{asked_by, asked_generate, asked_multi, asked_re
 use Rattle.tk_words.specs.Words.{Asked}
 use Rattle.tk_words.specs.Words.Asked.{Checks, Generates, Helps, Queries, Replays, Restarts, Traces, Versions}
 use Rattle.tk_words.specs.declared.command.Command.{Command}
+use Rattle.tk_load.specs.Surroundings.{output_by}
+use Rattle.tk_run.specs.Constant.{EndsTold, HasTold}
 use Rattle.tk_run.specs.Ends.{IsRefused, served}
 use Rattle.tk_run.proofs.ServedLemmas.{unserved}
 use Rattle.tk_run.proofs.serving.run.Goals as goal
@@ -71,25 +73,45 @@ returns-in-Ok-Check-clause-ends g c =
     let read = c.in-Ok-Check in
     inr (record { asked = Checks read.file.now; understood = here _ _ _ read.ensures.ok read.field-0-is; ends = c.serve_check.ensures.ends })
 
+-- the text of help
 pub returns-in-Ok-Help-clause-ran : goal.returns-in-Ok-Help-clause-ran
 returns-in-Ok-Help-clause-ran g c =
     let read = c.in-Ok-Help in
-    λ done. record { asked = Helps read.command; understood = here _ _ _ read.ensures.ok read.field-0-is; ran = c.serve_text.ensures.ran done }
+    λ done. record {
+      asked = Helps read.command;
+      understood = here _ _ _ read.ensures.ok read.field-0-is;
+      ran = subst (λ text. HasTold text (output_by g.O.Sink c.args.out.now c.serve_text.new.out) c.serve_text.result) c.manual_of.ensures (c.serve_text.ensures.ran done);
+    }
 
 pub returns-in-Ok-Help-clause-ends : goal.returns-in-Ok-Help-clause-ends
 returns-in-Ok-Help-clause-ends g c =
     let read = c.in-Ok-Help in
-    inr (record { asked = Helps read.command; understood = here _ _ _ read.ensures.ok read.field-0-is; ends = c.serve_text.ensures.ends })
+    inr (record {
+      asked = Helps read.command;
+      understood = here _ _ _ read.ensures.ok read.field-0-is;
+      ends = subst (λ text. EndsTold text (output_by g.O.Sink c.args.out.now c.serve_text.new.out) c.serve_text.result.status) c.manual_of.ensures c.serve_text.ensures.ends;
+    })
 
+-- that of the version
 pub returns-in-Ok-Version-clause-ran : goal.returns-in-Ok-Version-clause-ran
 returns-in-Ok-Version-clause-ran g c =
     let read = c.in-Ok-Version in
-    λ done. record { asked = Versions; understood = here _ _ _ read.ensures.ok read.field-0-is; ran = c.serve_text.ensures.ran done }
+    let told = c.serve_text-in-Ok-Version in
+    λ done. record {
+      asked = Versions;
+      understood = here _ _ _ read.ensures.ok read.field-0-is;
+      ran = subst (λ text. HasTold text (output_by g.O.Sink c.args.out.now told.new.out) told.result) c.version_line.ensures (told.ensures.ran done);
+    }
 
 pub returns-in-Ok-Version-clause-ends : goal.returns-in-Ok-Version-clause-ends
 returns-in-Ok-Version-clause-ends g c =
     let read = c.in-Ok-Version in
-    inr (record { asked = Versions; understood = here _ _ _ read.ensures.ok read.field-0-is; ends = c.serve_text.ensures.ends })
+    let told = c.serve_text-in-Ok-Version in
+    inr (record {
+      asked = Versions;
+      understood = here _ _ _ read.ensures.ok read.field-0-is;
+      ends = subst (λ text. EndsTold text (output_by g.O.Sink c.args.out.now told.new.out) told.result.status) c.version_line.ensures told.ensures.ends;
+    })
 
 -- words of no command that is served
 pub returns-then-not-is_served-clause-ends : goal.returns-then-not-is_served-clause-ends
