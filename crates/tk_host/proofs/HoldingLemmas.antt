@@ -2,6 +2,7 @@
 use Rattle.std.proofs.Common.{◌≡◌, ◌≤◌, ◌<◌, ◌⊎◌, ℕ, ◌+◌, suc, zero, List, [], ◌∷◌, ◌++◌, length, take, get_or, ◌-◌, true, false, Option, Some, None, IfSome, Result, Ok, Err, refl, sym, ap, subst, ◌∙◌, inl, inr, arith, append_assoc, append-nil, length-append}
 use Rattle.std.specs.Prelude.{All, OnOk, IfErr, unwrap_or, ◌^◌}
 use Rattle.std.specs.List.{cons_option}
+use Rattle.std.specs.Result.{IsErrAnd}
 use Rattle.std.proofs.lemmas.List.Elements.{All-append}
 use Rattle.std.proofs.Math.Seq.{take-length}
 use Rattle.std.proofs.lemmas.List.{length-take}
@@ -23,7 +24,7 @@ use Rattle.tk_host.specs.Going.{IsStanding, IsTold, Leaves, Steps, TellsAll, Wri
 use Rattle.tk_host.specs.Holding.{HasEndedBy, Holds, HoldsAll, Opens, Parts, held_text}
 use Rattle.tk_host.specs.Session.{IsCausedBy, IsEnded, IsSession, PastSession, joined_in, leaves_out, sets_in}
 use Rattle.tk_host.specs.Sitting.{SessionView}
-use Rattle.tk_host.specs.Text.{over_text, session_text, sessions_text, text_of, told_text}
+use Rattle.tk_host.specs.Text.{listening_text, over_text, session_text, sessions_text, text_of, told_text}
 use Rattle.tk_host.specs.declared.cause.Cause.TheVariants as c
 use Rattle.tk_host.specs.declared.coordinated.Coordinated.{Coordinated}
 use Rattle.tk_host.specs.declared.coordinated.Coordinated.TheVariants as d
@@ -198,6 +199,21 @@ held_done names settings limit before now h = record {
   last_is = tt;
   written = subst (λ (xs : List PastSession). Grows before now (sessions_text names 1 xs)) (sym (append-nil h.past)) h.written;
   done = λ is. inr h.many;
+}
+
+-- ---- the first line
+
+-- it was put
+pub opened_told : {A : Type 0} (x : A) (address : List ℕ) (a b : Option (List ℕ)) → Grows a b (listening_text address) → Opens {A = A} (Ok x) a b
+opened_told x address a b put = record { address = Some address; written = put; undone = tt }
+
+-- its put failed
+pub opened_untold : {A : Type 0} (result : Result A Coordinated) (address : List ℕ) (a b : Option (List ℕ)) → IsErrAnd result (λ end. end ≡ d.WriteFault) → GrowsByFront a b (listening_text address) → Opens result a b
+opened_untold (Ok x) address a b is put = absurd is
+opened_untold (Err end) address a b is put = record {
+  address = Some address;
+  written = subst (λ (e : Coordinated). WritesEnding e a b (listening_text address)) (sym is) put;
+  undone = λ done. absurd (cc);
 }
 
 -- ---- the process
