@@ -24,7 +24,8 @@ use Rattle.tk_host.specs.Going.{IsStanding, IsTold, Leaves, Steps, TellsAll, Wri
 use Rattle.tk_host.specs.Holding.{HasEndedBy, Holds, HoldsAll, Opens, Parts, held_text}
 use Rattle.tk_host.specs.Session.{IsCausedBy, IsEnded, IsSession, PastSession, joined_in, leaves_out, sets_in}
 use Rattle.tk_host.specs.Sitting.{SessionView}
-use Rattle.tk_host.specs.Text.{listening_text, over_text, session_text, sessions_text, text_of, told_text}
+use Rattle.tk_host.specs.Text.{ended_text, listening_text, over_text, session_text, sessions_text, text_of, told_text}
+use Rattle.tk_host.specs.declared.cause.Cause.{Cause}
 use Rattle.tk_host.specs.declared.cause.Cause.TheVariants as c
 use Rattle.tk_host.specs.declared.coordinated.Coordinated.{Coordinated}
 use Rattle.tk_host.specs.declared.coordinated.Coordinated.TheVariants as d
@@ -132,6 +133,69 @@ held_none names settings number now = record {
   followed = tt;
   final = λ is. absurd (cc);
   written = ([], [], refl, grows_none now);
+}
+
+-- ---- how a session is left
+
+ended_badly : {A : Type 0} (cause : Cause) (end : Coordinated) (number : ℕ) (now next : Option (List ℕ)) → (end ≡ d.Done → ⊥) → (end ≡ d.LinkFault → ⊥) → WritesEnding end now next (ended_text number cause)
+    → Parts {A = A} (o.Ended cause) (Err end) number now next
+ended_badly cause end number now next undone fine text = record {
+  ended = tt;
+  final = λ is. absurd (undone is);
+  failed = λ is. absurd (fine is);
+  unwritten = λ is. absurd (cc);
+  unmade = λ is. absurd (cc);
+  same = λ is. absurd (cc);
+  written = text;
+}
+
+parts_as : {A : Type 0} (result : Result A Coordinated) (v over : Over) (number : ℕ) (now next : Option (List ℕ)) → over ≡ v → Parts v result number now next → Parts over result number now next
+parts_as result v over number now next is = subst (λ (w : Over). Parts w result number now next) (sym is)
+
+-- there was no memory for the line
+pub parts_unmade : {A : Type 0} (over : Over) (cause : Cause) (result : Result A Coordinated) (number : ℕ) (now : Option (List ℕ)) → over ≡ o.Ended cause → IsErrAnd result (λ end. end ≡ d.NoMemory) → Parts over result number now now
+parts_unmade over cause (Ok x) number now is none = absurd none
+parts_unmade over cause (Err end) number now is none =
+    parts_as (Err end) (o.Ended cause) over number now now is
+    (ended_badly cause end number now now (λ done. absurd (cc)) (λ failed. absurd (cc))
+    (subst (λ (e : Coordinated). WritesEnding e now now (ended_text number cause)) (sym none) ([], ended_text number cause, refl, grows_none now)))
+
+-- its put failed
+pub parts_unwritten : {A : Type 0} (over : Over) (cause : Cause) (result : Result A Coordinated) (number : ℕ) (now next : Option (List ℕ)) → over ≡ o.Ended cause → IsErrAnd result (λ end. end ≡ d.WriteFault)
+    → GrowsByFront now next (ended_text number cause) → Parts over result number now next
+parts_unwritten over cause (Ok x) number now next is failed put = absurd failed
+parts_unwritten over cause (Err end) number now next is failed put =
+    parts_as (Err end) (o.Ended cause) over number now next is
+    (ended_badly cause end number now next (λ done. absurd (cc)) (λ broken. absurd (cc))
+    (subst (λ (e : Coordinated). WritesEnding e now next (ended_text number cause)) (sym failed) put))
+
+-- it was put
+pub parts_ended : {A : Type 0} (x : A) (over : Over) (cause : Cause) (number : ℕ) (now next : Option (List ℕ)) → over ≡ o.Ended cause → Grows now next (ended_text number cause) → Parts {A = A} over (Ok x) number now next
+parts_ended x over cause number now next is put =
+    subst (λ (v : Over). Parts v (Ok x) number now next) (sym is)
+    (record { ended = tt; final = tt; failed = tt; unwritten = λ wrote. tt; unmade = λ wrote. absurd (cc); same = λ wrote. absurd (cc); written = put })
+
+-- there is no line
+pub parts_finished : {A : Type 0} (over : Over) (number : ℕ) (now : Option (List ℕ)) → over ≡ o.Finished → Parts {A = A} over (Err d.Done) number now now
+parts_finished over number now is = record {
+  ended = tt;
+  final = λ done. is;
+  failed = λ broken. absurd (cc);
+  unwritten = λ wrote. absurd (cc);
+  unmade = λ wrote. tt;
+  same = λ wrote. refl;
+  written = subst (λ (v : Over). Grows now now (over_text number v)) (sym is) (grows_none now);
+}
+
+pub parts_failed : {A : Type 0} (over : Over) (number : ℕ) (now : Option (List ℕ)) → over ≡ o.HostFailed → Parts {A = A} over (Err d.LinkFault) number now now
+parts_failed over number now is = record {
+  ended = tt;
+  final = λ done. absurd (cc);
+  failed = λ broken. is;
+  unwritten = λ wrote. absurd (cc);
+  unmade = λ wrote. tt;
+  same = λ wrote. refl;
+  written = subst (λ (v : Over). Grows now now (over_text number v)) (sym is) (grows_none now);
 }
 
 -- ---- sessions one behind the other
