@@ -9,16 +9,21 @@ use Rattle.std.proofs.lemmas.List.Elements.{filter_map-append}
 use Rattle.std.proofs.lemmas.List.Sums.{fold-append}
 use Rattle.std.proofs.lemmas.Option.{get_or_from_slice_get}
 use Rattle.tk_base.specs.History.{IsFront}
+use Rattle.tk_base.specs.Settings.{Setup}
 use Rattle.tk_coord.specs.Coordinator.{CoordinatorView}
-use Rattle.tk_end.proofs.HearingLemmas.{front_trans}
+use Rattle.tk_end.proofs.HearingLemmas.{front_refl, front_trans}
 use Rattle.tk_frames.specs.declared.frame.Frame.TheVariants as f
 use Rattle.tk_hub.specs.Hub.{HubView, IsHub}
 use Rattle.tk_hub.specs.Lines.{AreNamed}
+use Rattle.tk_hub.specs.Turn.{course_of}
 use Rattle.tk_hub.specs.declared.course.Course.TheVariants as cs
+use Rattle.tk_hub.specs.declared.course.HubTurn.{HubTurn}
+use Rattle.tk_hub.specs.declared.course.HubTurn.TheVariants as t
 use Rattle.tk_input.specs.Files.{one_more}
 use Rattle.tk_input.specs.Sink.{Grows, GrowsByFront}
 use Rattle.tk_journal.specs.Legal.{Opening, opened, start}
 use Rattle.tk_journal.specs.Publishing.{publications, published_in}
+use Rattle.tk_journal.specs.Readings.{is_stopped}
 use Rattle.tk_journal.specs.declared.noted.Noted.{Noted}
 use Rattle.tk_journal.specs.declared.noted.Noted.TheVariants as n
 use Rattle.tk_journal.specs.declared.publication.Publication.{Publication}
@@ -191,6 +196,35 @@ turned_faults o.Finished faults is = refl
 turned_faults (o.Ended cause) faults is = refl
 turned_faults o.HostFailed faults is = absurd is
 turned_faults o.WriteFailed faults is = absurd is
+
+-- a session that begins goes on
+pub going_first : {W : Type 0} (s : SessionView W) (settings : Setup) → IsHub s.hub → s.hub.coordinator.settings ≡ settings → s.hub.coordinator.journal ≡ opened (start settings) → s.hub.course ≡ cs.Open → s.told ≡ 0 → IsGoing s
+going_first s settings kept given journal course told =
+    let begun = journal ∙ ap (λ (x : Setup). opened (start x)) (sym given) in
+    record {
+      standing = record { kept = kept; begins = subst (IsFront (opened (start s.hub.coordinator.settings))) (sym begun) (front_refl (opened (start s.hub.coordinator.settings))) };
+      course = course;
+      all = told ∙ sym (ap (λ (j : List Noted). length (publications j)) begun ∙ ap (λ (ps : List Publication). length ps) (opened_unpublished (start s.hub.coordinator.settings)));
+    }
+
+-- the hub takes a turn
+pub turned : {W : Type 0} (turn : HubTurn) (old s new : SessionView W) → s ≡ old → IsStanding old → IsHub new.hub → new.hub.coordinator.settings ≡ s.hub.coordinator.settings
+    → IsFront s.hub.coordinator.journal new.hub.coordinator.journal → new.hub.course ≡ course_of turn → (turn ≡ t.WriteFailed → ⊥) → (turn ≡ t.Finished → is_stopped new.hub.coordinator.journal ≡ true)
+    → new.roster ≡ s.roster → new.told ≡ s.told → Turns turn old new
+turned turn old s new same standing kept settings grows course written finished roster told =
+    let was : IsStanding s = subst IsStanding (sym same) standing in
+    let begins = front_trans (opened (start s.hub.coordinator.settings)) s.hub.coordinator.journal new.hub.coordinator.journal was.begins grows in
+    let turns : Turns turn s new = record {
+      standing = record { kept = kept; begins = subst (λ (x : Setup). IsFront (opened (start x)) new.hub.coordinator.journal) (sym settings) begins };
+      settings = settings;
+      grows = grows;
+      course = course;
+      written = written;
+      finished = finished;
+      roster = roster;
+      told = told;
+    } in
+    subst (λ x. Turns turn x new) same turns
 
 -- connections are held at the hub, and nothing else changed
 pub going_held : {W : Type 0} (s s' : SessionView W) → IsGoing s → s'.hub ≡ record s.hub { held = s'.hub.held } → s'.told ≡ s.told → IsHub s'.hub → IsGoing s'
