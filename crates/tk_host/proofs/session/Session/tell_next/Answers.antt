@@ -1,4 +1,4 @@
-use Rattle.std.proofs.Common.{◌≡◌, ◌<◌, length, Some, refl, sym, ap, subst, arith}
+use Rattle.std.proofs.Common.{◌≡◌, ◌<◌, length, Some, refl, sym, ap, ◌∙◌, subst, arith}
 use Rattle.std.specs.Prelude.{slice_get}
 use Rattle.tk_journal.specs.Publishing.{publications}
 use Rattle.tk_hub.proofs.WriteLemmas.{all_named}
@@ -18,7 +18,10 @@ set_line-requires g c =
     _ _ c.publication-publication.ensures
 
 pub overflow_add-self : goal.overflow_add-self
-overflow_add-self g c = ?
+overflow_add-self g c =
+    let count = c.published.ensures ∙ ap (λ k. length (publications k.journal)) c.coordinator-coordinator.ensures.value in
+    let more = subst (λ s. s.told < length (published_by s)) (sym c.self.view_is) c.requires.more in
+    search (arith, count, more)
 
 pub returns-in_err-put_line-clause-tells : goal.returns-in_err-put_line-clause-tells
 returns-in_err-put_line-clause-tells g c = λ before h.
