@@ -164,6 +164,15 @@ module _ {W : Type 0} (names : List (List ℕ)) (s s' : SessionView W) (before n
   pub told_left : {A : Type 0} (over : Over) → (over ≡ o.WriteFailed → ⊥) → IsTold {A = A} (Err over) names s before now
   told_left over fine = record { told = h.told; joined = h.joined; sets = h.sets; within = h.within; written = writes_left over before now (told_text names [] h.told) fine h.written }
 
+-- what is told says no more of an answer than whether a session goes on
+pub told_as : {W A B : Type 0} (x : A) (y : B) (names : List (List ℕ)) (s : SessionView W) (before now : Option (List ℕ)) → IsTold {A = A} (Ok x) names s before now → IsTold {A = B} (Ok y) names s before now
+told_as x y names s before now h = record { told = h.told; joined = h.joined; sets = h.sets; within = h.within; written = h.written }
+
+-- or how it is left
+pub told_parted : {W A B : Type 0} (over : Over) (result : Result B Over) (names : List (List ℕ)) (s : SessionView W) (before now : Option (List ℕ)) → IsErrAnd result (λ o. o ≡ over) → IsTold {A = A} (Err over) names s before now → IsTold result names s before now
+told_parted over (Ok x) names s before now is h = absurd is
+told_parted over (Err o) names s before now is h = record { told = h.told; joined = h.joined; sets = h.sets; within = h.within; written = subst (λ (v : Over). WritesLeft v before now (told_text names [] h.told)) (sym is) h.written }
+
 -- ---- how a session is left
 
 pub untold_leaves : {W : Type 0} (s : SessionView W) (over : Over) → IsUntold over → Leaves s over
@@ -225,6 +234,12 @@ turned turn old s new same standing kept settings grows course written finished 
       told = told;
     } in
     subst (λ x. Turns turn x new) same turns
+
+-- behind a turn as many sets are published as are told at least
+pub turned_within : {W : Type 0} (turn : HubTurn) (old new : SessionView W) → Turns turn old new → TellsAll old → new.told ≤ length (published_by new)
+turned_within turn old new turns all =
+    let more = published_grow old.hub.coordinator.journal new.hub.coordinator.journal turns.grows old.told (omega (arith, all)) in
+    omega (arith, turns.told, all, more.1)
 
 -- connections are held at the hub, and nothing else changed
 pub going_held : {W : Type 0} (s s' : SessionView W) → IsGoing s → s'.hub ≡ record s.hub { held = s'.hub.held } → s'.told ≡ s.told → IsHub s'.hub → IsGoing s'
