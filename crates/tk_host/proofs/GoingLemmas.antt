@@ -9,16 +9,21 @@ use Rattle.std.proofs.lemmas.List.Elements.{filter_map-append}
 use Rattle.std.proofs.lemmas.List.Sums.{fold-append}
 use Rattle.std.proofs.lemmas.Option.{get_or_from_slice_get}
 use Rattle.tk_base.specs.History.{IsFront}
+use Rattle.tk_base.specs.Settings.{Setup}
 use Rattle.tk_coord.specs.Coordinator.{CoordinatorView}
-use Rattle.tk_end.proofs.HearingLemmas.{front_trans}
+use Rattle.tk_end.proofs.HearingLemmas.{front_refl, front_trans}
 use Rattle.tk_frames.specs.declared.frame.Frame.TheVariants as f
 use Rattle.tk_hub.specs.Hub.{HubView, IsHub}
 use Rattle.tk_hub.specs.Lines.{AreNamed}
+use Rattle.tk_hub.specs.Turn.{course_of}
 use Rattle.tk_hub.specs.declared.course.Course.TheVariants as cs
+use Rattle.tk_hub.specs.declared.course.HubTurn.{HubTurn}
+use Rattle.tk_hub.specs.declared.course.HubTurn.TheVariants as t
 use Rattle.tk_input.specs.Files.{one_more}
 use Rattle.tk_input.specs.Sink.{Grows, GrowsByFront}
 use Rattle.tk_journal.specs.Legal.{Opening, opened, start}
 use Rattle.tk_journal.specs.Publishing.{publications, published_in}
+use Rattle.tk_journal.specs.Readings.{is_stopped}
 use Rattle.tk_journal.specs.declared.noted.Noted.{Noted}
 use Rattle.tk_journal.specs.declared.noted.Noted.TheVariants as n
 use Rattle.tk_journal.specs.declared.publication.Publication.{Publication}
@@ -159,6 +164,15 @@ module _ {W : Type 0} (names : List (List ℕ)) (s s' : SessionView W) (before n
   pub told_left : {A : Type 0} (over : Over) → (over ≡ o.WriteFailed → ⊥) → IsTold {A = A} (Err over) names s before now
   told_left over fine = record { told = h.told; joined = h.joined; sets = h.sets; within = h.within; written = writes_left over before now (told_text names [] h.told) fine h.written }
 
+-- what is told says no more of an answer than whether a session goes on
+pub told_as : {W A B : Type 0} (x : A) (y : B) (names : List (List ℕ)) (s : SessionView W) (before now : Option (List ℕ)) → IsTold {A = A} (Ok x) names s before now → IsTold {A = B} (Ok y) names s before now
+told_as x y names s before now h = record { told = h.told; joined = h.joined; sets = h.sets; within = h.within; written = h.written }
+
+-- or how it is left
+pub told_parted : {W A B : Type 0} (over : Over) (result : Result B Over) (names : List (List ℕ)) (s : SessionView W) (before now : Option (List ℕ)) → IsErrAnd result (λ o. o ≡ over) → IsTold {A = A} (Err over) names s before now → IsTold result names s before now
+told_parted over (Ok x) names s before now is h = absurd is
+told_parted over (Err o) names s before now is h = record { told = h.told; joined = h.joined; sets = h.sets; within = h.within; written = subst (λ (v : Over). WritesLeft v before now (told_text names [] h.told)) (sym is) h.written }
+
 -- ---- how a session is left
 
 pub untold_leaves : {W : Type 0} (s : SessionView W) (over : Over) → IsUntold over → Leaves s over
@@ -191,6 +205,41 @@ turned_faults o.Finished faults is = refl
 turned_faults (o.Ended cause) faults is = refl
 turned_faults o.HostFailed faults is = absurd is
 turned_faults o.WriteFailed faults is = absurd is
+
+-- a session that begins goes on
+pub going_first : {W : Type 0} (s : SessionView W) (settings : Setup) → IsHub s.hub → s.hub.coordinator.settings ≡ settings → s.hub.coordinator.journal ≡ opened (start settings) → s.hub.course ≡ cs.Open → s.told ≡ 0 → IsGoing s
+going_first s settings kept given journal course told =
+    let begun = journal ∙ ap (λ (x : Setup). opened (start x)) (sym given) in
+    record {
+      standing = record { kept = kept; begins = subst (IsFront (opened (start s.hub.coordinator.settings))) (sym begun) (front_refl (opened (start s.hub.coordinator.settings))) };
+      course = course;
+      all = told ∙ sym (ap (λ (j : List Noted). length (publications j)) begun ∙ ap (λ (ps : List Publication). length ps) (opened_unpublished (start s.hub.coordinator.settings)));
+    }
+
+-- the hub takes a turn
+pub turned : {W : Type 0} (turn : HubTurn) (old s new : SessionView W) → s ≡ old → IsStanding old → IsHub new.hub → new.hub.coordinator.settings ≡ s.hub.coordinator.settings
+    → IsFront s.hub.coordinator.journal new.hub.coordinator.journal → new.hub.course ≡ course_of turn → (turn ≡ t.WriteFailed → ⊥) → (turn ≡ t.Finished → is_stopped new.hub.coordinator.journal ≡ true)
+    → new.roster ≡ s.roster → new.told ≡ s.told → Turns turn old new
+turned turn old s new same standing kept settings grows course written finished roster told =
+    let was : IsStanding s = subst IsStanding (sym same) standing in
+    let begins = front_trans (opened (start s.hub.coordinator.settings)) s.hub.coordinator.journal new.hub.coordinator.journal was.begins grows in
+    let turns : Turns turn s new = record {
+      standing = record { kept = kept; begins = subst (λ (x : Setup). IsFront (opened (start x)) new.hub.coordinator.journal) (sym settings) begins };
+      settings = settings;
+      grows = grows;
+      course = course;
+      written = written;
+      finished = finished;
+      roster = roster;
+      told = told;
+    } in
+    subst (λ x. Turns turn x new) same turns
+
+-- behind a turn as many sets are published as are told at least
+pub turned_within : {W : Type 0} (turn : HubTurn) (old new : SessionView W) → Turns turn old new → TellsAll old → new.told ≤ length (published_by new)
+turned_within turn old new turns all =
+    let more = published_grow old.hub.coordinator.journal new.hub.coordinator.journal turns.grows old.told (omega (arith, all)) in
+    omega (arith, turns.told, all, more.1)
 
 -- connections are held at the hub, and nothing else changed
 pub going_held : {W : Type 0} (s s' : SessionView W) → IsGoing s → s'.hub ≡ record s.hub { held = s'.hub.held } → s'.told ≡ s.told → IsHub s'.hub → IsGoing s'
