@@ -19,9 +19,11 @@ use Rattle.tk_journal.proofs.Ended.{legal_ends}
 use Rattle.tk_journal.proofs.LawLemmas.{one_less}
 use Rattle.tk_ledger.proofs.SinkLemmas.{front_longer, front_more, front_of, grows_more, grows_none}
 use Rattle.tk_story.proofs.JoiningLemmas.{from_the_start}
-use Rattle.tk_host.specs.Coordinating.{Coordinates, IsFinal, IsFollowed, WritesEnding, WritesOn, opening_text}
-use Rattle.tk_host.specs.Going.{IsStanding, IsTold, Leaves, Steps, TellsAll, WritesLeft, going, left, published_by}
-use Rattle.tk_host.specs.Holding.{HasEndedBy, Holds, HoldsAll, Opens, Parts, held_text}
+use Rattle.tk_host.specs.Coordinating.{Coordinates, IsFinal, IsFollowed, WritesEnding, WritesOn, opening_text, run_faults}
+use Rattle.tk_host.proofs.GoingLemmas.{writes_more}
+use Rattle.tk_wire.specs.Host.{HostState}
+use Rattle.tk_host.specs.Going.{IsGoing, IsStanding, IsTold, Leaves, Serves, Steps, TellsAll, WritesLeft, going, left, published_by}
+use Rattle.tk_host.specs.Holding.{Begins, HasEndedBy, Holds, HoldsAll, Hosts, Opens, Parts, faults_on, held_text}
 use Rattle.tk_host.specs.Session.{IsCausedBy, IsEnded, IsSession, PastSession, joined_in, leaves_out, sets_in}
 use Rattle.tk_host.specs.Sitting.{SessionView}
 use Rattle.tk_host.specs.Text.{ended_text, listening_text, over_text, session_text, sessions_text, text_of, told_text}
@@ -86,10 +88,10 @@ ended_by : {W : Type 0} (s : SessionView W) (over : Over) → Leaves s over → 
 ended_by s over h is = (subst (Leaves s) is h).1
 
 -- a session that was left is a session as it was
-pub session_of : {W : Type 0} (s : SessionView W) (settings : Setup) (names : List (List ℕ)) (over : Over) (before now : Option (List ℕ))
-    → IsStanding s → Leaves s over → s.hub.coordinator.settings ≡ settings → (t : IsTold (left over) names s before now)
+pub session_of : {W : Type 0} (s : SessionView W) (settings : Setup) (names : List (List ℕ)) (line : List ℕ) (over : Over) (before now : Option (List ℕ))
+    → IsStanding s → Leaves s over → s.hub.coordinator.settings ≡ settings → (t : Begins over names line s before now)
     → IsSession settings (record { told = t.told; journal = s.hub.coordinator.journal; over = over })
-session_of s settings names over before now standing leaves same t =
+session_of s settings names line over before now standing leaves same t =
     let j = s.hub.coordinator.journal in
     let kept = standing.kept.seats.journal in
     let long : length (sets_in t.told) ≡ s.told = (let a = ap (λ ps. length ps) t.sets in omega (arith, a, length-take s.told (published_by s), t.within)) in
@@ -113,26 +115,39 @@ parts_written o.WriteFailed (Err end) number mid now next told first p =
     subst (λ (e : Coordinated). WritesEnding e mid next (told ++ [])) (sym (p.unwritten refl))
     (front_longer mid next told [] (subst (λ (x : Option (List ℕ)). GrowsByFront mid x told) (sym (p.same refl)) first))
 
--- a session was held
-pub held_session : {W A : Type 0} (s0 s1 : SessionView W) (settings : Setup) (names : List (List ℕ)) (over : Over) (result : Result A Coordinated) (number : ℕ) (before mid now next : Option (List ℕ))
-    → s0.hub.coordinator.settings ≡ settings → Steps (left over) s0 s1 → IsTold (left over) names s1 mid now → Grows before mid (session_text number) → Parts over result number now next
-    → Holds result names settings number before next
-held_session s0 s1 settings names over result number before mid now next same steps t opened_ p = record {
-  held = Some (record { told = t.told; journal = s1.hub.coordinator.journal; over = over });
-  is = session_of s1 settings names over mid now steps.standing steps.leaves (steps.settings ∙ same) t;
-  followed = p.ended;
-  final = p.final;
-  written = on_more result before mid next (session_text number) (told_text names [] t.told ++ over_text number over) opened_ (parts_written over result number mid now next (told_text names [] t.told) t.written p);
+-- a session began with its line
+pub begun : {W : Type 0} (over : Over) (names : List (List ℕ)) (line : List ℕ) (s : SessionView W) (before mid now : Option (List ℕ)) → Grows before mid line → IsTold (left over) names s mid now → Begins over names line s before now
+begun over names line s before mid now put t = record {
+  told = t.told;
+  joined = t.joined;
+  sets = t.sets;
+  within = t.within;
+  written = writes_more (left over) before mid now line (told_text names [] t.told) put t.written;
 }
 
--- a session did not begin, for want of memory
-pub held_none : {A : Type 0} (names : List (List ℕ)) (settings : Setup) (number : ℕ) (now : Option (List ℕ)) → Holds {A = A} (Err d.NoMemory) names settings number now now
-held_none names settings number now = record {
-  held = None;
-  is = tt;
-  followed = tt;
-  final = λ is. absurd (cc);
-  written = ([], [], refl, grows_none now);
+-- the put of its line failed
+pub begun_unwritten : {W : Type 0} (names : List (List ℕ)) (line : List ℕ) (s : SessionView W) (before now : Option (List ℕ)) → s.roster ≡ [] → s.told ≡ 0 → GrowsByFront before now line → Begins o.WriteFailed names line s before now
+begun_unwritten names line s before now nobody none put = record {
+  told = [];
+  joined = sym nobody;
+  sets = sym (ap (λ (k : ℕ). take k (published_by s)) none);
+  within = omega (arith, none);
+  written = front_longer before now line [] put;
+}
+
+-- a session was held
+pub held_session : {W A : Type 0} (s0 s1 : SessionView W) (settings : Setup) (names : List (List ℕ)) (line : List ℕ) (over : Over) (result : Result A Coordinated) (number : ℕ) (before now next : Option (List ℕ))
+    → s0.hub.coordinator.settings ≡ settings → Steps (left over) s0 s1 → line ≡ session_text number → Begins over names line s1 before now → Parts over result number now next
+    → Holds result names settings number before next
+held_session s0 s1 settings names line over result number before now next same steps is t p = record {
+  held = Some (record { told = t.told; journal = s1.hub.coordinator.journal; over = over });
+  is = session_of s1 settings names line over before now steps.standing steps.leaves (steps.settings ∙ same) t;
+  followed = p.ended;
+  final = p.final;
+  written =
+      let lines = told_text names [] t.told in
+      subst (WritesOn result before next) (append_assoc line lines (over_text number over) ∙ ap (λ (l : List ℕ). l ++ (lines ++ over_text number over)) is)
+      (parts_written over result number before now next (line ++ lines) t.written p);
 }
 
 -- ---- how a session is left
