@@ -21,7 +21,8 @@ use Rattle.tk_ledger.proofs.SinkLemmas.{front_longer, front_more, front_of, grow
 use Rattle.tk_story.proofs.JoiningLemmas.{from_the_start}
 use Rattle.tk_host.specs.Coordinating.{Coordinates, IsFinal, IsFollowed, WritesEnding, WritesOn, opening_text, run_faults}
 use Rattle.tk_host.proofs.GoingLemmas.{writes_more}
-use Rattle.tk_wire.specs.Host.{HostState}
+use Rattle.tk_wire.specs.Meanings.{raised_by}
+use Rattle.tk_input.specs.Files.{HasRisen}
 use Rattle.tk_host.specs.Going.{IsGoing, IsStanding, IsTold, Leaves, Serves, Steps, TellsAll, WritesLeft, going, left, published_by}
 use Rattle.tk_host.specs.Holding.{Begins, HasEndedBy, Holds, HoldsAll, Hosts, Opens, Parts, faults_on, held_text}
 use Rattle.tk_host.specs.Session.{IsCausedBy, IsEnded, IsSession, PastSession, joined_in, leaves_out, sets_in}
@@ -297,9 +298,9 @@ opened_untold (Err end) address a b is put = record {
 
 -- ---- the process
 
-pub coordinated_all : {A : Type 0} (x : A) (end : Coordinated) (names : List (List ℕ)) (settings : Setup) (limit : Option ℕ) (before mid now : Option (List ℕ))
-    → Opens {A = A} (Ok x) before mid → HoldsAll end names settings (unwrap_or limit (2 ^ 64 - 1)) mid now → Coordinates end names settings limit before now
-coordinated_all x end names settings limit before mid now first all = record {
+pub coordinated_all : {A : Type 0} (x : A) (end : Coordinated) (names : List (List ℕ)) (settings : Setup) (limit : Option ℕ) (many : ℕ) (before mid now : Option (List ℕ))
+    → many ≡ unwrap_or limit (2 ^ 64 - 1) → Opens {A = A} (Ok x) before mid → HoldsAll end names settings many mid now → Coordinates end names settings limit before now
+coordinated_all x end names settings limit many before mid now count first all = record {
   address = first.address;
   past = all.past;
   last = all.last;
@@ -307,7 +308,7 @@ coordinated_all x end names settings limit before mid now first all = record {
   each_followed = all.each_followed;
   last_is = all.last_is;
   written = ending_more end before mid now (opening_text first.address) (sessions_text names 1 (all.past ++ cons_option all.last [])) first.written all.written;
-  done = all.done;
+  done = λ is. subst (λ (n : ℕ). IsFinal all.last ⊎ (length all.past ≡ n)) count (all.done is);
 }
 
 -- the host was not opened, or that was not told
@@ -322,3 +323,7 @@ coordinated_none end names settings limit before now first = record {
   written = subst (WritesEnding end before now) (sym (append-nil (opening_text first.address))) first.written;
   done = λ is. absurd (first.undone is);
 }
+
+-- one call of the host more failed
+pub risen : (a b c : ℕ) → b ≡ a → c ≡ raised_by 1 b → HasRisen a c
+risen a b c same more low = omega (arith, same, more, low)

@@ -38,6 +38,7 @@ pub fn open<H: Host, O: Sink>(
     requires { (H.state host.old).listens ≡ false }
     ensures opens { Opens result (O.written out.old) (O.written out.new) }
     ensures listens { OnOk result ((H.state host.new).listens ≡ true) }
+    ensures same { OnOk result ((H.state host.new).faults ≡ (H.state host.old).faults) }
     ensures faults { IfErr result (λ end. FailsHost end (H.state host.old) (H.state host.new)) }
     ensures counted { O.fault_count out.new ≡ faults_on result (O.fault_count out.old) }
 {
