@@ -314,6 +314,10 @@ inside_calls o.WriteFailed faults is = refl
 pub serves_inside : {A B : Type 0} (x : A) (over : Over) (a b : HostState) → IsOfSession over → Serves {A = A} (Ok x) a b → Serves {A = B} (Err over) a b
 serves_inside x over a b is h = record { listens = h.listens; on = tt; off = h.on ∙ inside_calls over a.faults is }
 
+pub serves_within : {A B : Type 0} (x : A) (result : Result B Over) (a b : HostState) → IfErr result IsOfSession → Serves {A = A} (Ok x) a b → Serves result a b
+serves_within x (Ok y) a b is h = record { listens = h.listens; on = h.on; off = tt }
+serves_within x (Err over) a b is h = record { listens = h.listens; on = tt; off = h.on ∙ inside_calls over a.faults is }
+
 pub serves_as : {A B : Type 0} (x : A) (y : B) (a b : HostState) → Serves {A = A} (Ok x) a b → Serves {A = B} (Ok y) a b
 serves_as x y a b h = record { listens = h.listens; on = h.on; off = tt }
 
