@@ -32,7 +32,7 @@ use Rattle.tk_story.proofs.JoinLemmas.{rest_of}
 use Rattle.tk_wire.specs.Host.{HostState}
 use Rattle.tk_wire.specs.Meanings.{raised_by}
 use Rattle.tk_wire.specs.declared.greeting.Greeting.{Greeting}
-use Rattle.tk_host.specs.Going.{IsGoing, IsOfSession, IsOfTurn, IsStanding, IsTold, IsUntold, Leaves, Serves, Steps, TellsAll, Turns, WritesLeft, WritesStep, calls_failed, faults_left, going, left, published_by}
+use Rattle.tk_host.specs.Going.{IsGoing, IsOfHost, IsOfSession, IsOfTurn, IsStanding, IsTold, IsUntold, Leaves, Serves, Steps, TellsAll, Turns, WritesLeft, WritesStep, calls_failed, faults_left, going, left, published_by, step_faults}
 use Rattle.tk_host.specs.Session.{Joined, Published, Told, joined_by, joined_in, set_in, sets_in}
 use Rattle.tk_host.specs.Text.{joined_text, line_of, set_text, told_text}
 use Rattle.tk_host.specs.declared.cause.Cause.TheVariants as c
@@ -241,6 +241,50 @@ turned_within turn old new turns all =
     let more = published_grow old.hub.coordinator.journal new.hub.coordinator.journal turns.grows old.told (omega (arith, all)) in
     omega (arith, turns.told, all, more.1)
 
+pub hosted_leaves : {W : Type 0} (s : SessionView W) (over : Over) → IsOfHost over → TellsAll s → Leaves s over
+hosted_leaves s o.Finished is all = absurd is
+hosted_leaves s (o.Ended (c.Link mon)) is all = absurd is
+hosted_leaves s (o.Ended (c.Refused mon)) is all = absurd is
+hosted_leaves s (o.Ended (c.Bad mon)) is all = absurd is
+hosted_leaves s (o.Ended (c.Again mon)) is all = absurd is
+hosted_leaves s (o.Ended c.Memory) is all = tt
+hosted_leaves s o.HostFailed is all = all
+hosted_leaves s o.WriteFailed is all = absurd is
+
+pub hosted_written : (over : Over) → IsOfHost over → over ≡ o.WriteFailed → ⊥
+hosted_written over is wrote = subst IsOfHost wrote is
+
+pub hosted_faults : (over : Over) (faults : ℕ) → IsOfHost over → faults ≡ faults_left over faults
+hosted_faults o.Finished faults is = refl
+hosted_faults (o.Ended cause) faults is = refl
+hosted_faults o.HostFailed faults is = refl
+hosted_faults o.WriteFailed faults is = absurd is
+
+-- what an error says, its error in the next call says
+pub parted_faults : {B : Type 0} (over : Over) (result : Result B Over) (faults : ℕ) → IsErrAnd result (λ o. o ≡ over) → faults_left over faults ≡ step_faults result faults
+parted_faults over (Ok x) faults is = absurd is
+parted_faults over (Err o) faults is = ap (λ (v : Over). faults_left v faults) (sym is)
+
+-- ---- steps one behind the other
+
+pub steps_none : {W : Type 0} (s : SessionView W) → IsGoing s → Steps going s s
+steps_none s going_ = record { standing = going_.standing; going = going_; leaves = tt; settings = refl }
+
+pub steps_on : {W A B : Type 0} (x : A) (result : Result B Over) (s s' s'' : SessionView W) → Steps {A = A} (Ok x) s s' → Steps result s' s'' → Steps result s s''
+steps_on x result s s' s'' first then = record { standing = then.standing; going = then.going; leaves = then.leaves; settings = then.settings ∙ first.settings }
+
+pub steps_as : {W A B : Type 0} (x : A) (y : B) (s s' : SessionView W) → Steps {A = A} (Ok x) s s' → Steps {A = B} (Ok y) s s'
+steps_as x y s s' h = record { standing = h.standing; going = h.going; leaves = tt; settings = h.settings }
+
+pub steps_parted : {W A B : Type 0} (over : Over) (result : Result B Over) (s s' : SessionView W) → IsErrAnd result (λ o. o ≡ over) → Steps {A = A} (Err over) s s' → Steps result s s'
+steps_parted over (Ok x) s s' is h = absurd is
+steps_parted over (Err o) s s' is h = record { standing = h.standing; going = tt; leaves = subst (Leaves s') (sym is) h.leaves; settings = h.settings }
+
+-- the host ends a session that goes on
+pub steps_hosted : {W A B : Type 0} (x : A) (over : Over) (result : Result B Over) (s s' : SessionView W) → IsErrAnd result (λ o. o ≡ over) → IsOfHost over → Steps {A = A} (Ok x) s s' → Steps result s s'
+steps_hosted x over (Ok y) s s' parted is h = absurd parted
+steps_hosted x over (Err o) s s' parted is h = record { standing = h.standing; going = tt; leaves = subst (Leaves s') (sym parted) (hosted_leaves s' over is h.going.all); settings = h.settings }
+
 -- connections are held at the hub, and nothing else changed
 pub going_held : {W : Type 0} (s s' : SessionView W) → IsGoing s → s'.hub ≡ record s.hub { held = s'.hub.held } → s'.told ≡ s.told → IsHub s'.hub → IsGoing s'
 going_held s s' h rest count kept =
@@ -269,6 +313,17 @@ inside_calls o.WriteFailed faults is = refl
 -- a session that is left by itself leaves the host as it was
 pub serves_inside : {A B : Type 0} (x : A) (over : Over) (a b : HostState) → IsOfSession over → Serves {A = A} (Ok x) a b → Serves {A = B} (Err over) a b
 serves_inside x over a b is h = record { listens = h.listens; on = tt; off = h.on ∙ inside_calls over a.faults is }
+
+pub serves_within : {A B : Type 0} (x : A) (result : Result B Over) (a b : HostState) → IfErr result IsOfSession → Serves {A = A} (Ok x) a b → Serves result a b
+serves_within x (Ok y) a b is h = record { listens = h.listens; on = h.on; off = tt }
+serves_within x (Err over) a b is h = record { listens = h.listens; on = tt; off = h.on ∙ inside_calls over a.faults is }
+
+pub serves_as : {A B : Type 0} (x : A) (y : B) (a b : HostState) → Serves {A = A} (Ok x) a b → Serves {A = B} (Ok y) a b
+serves_as x y a b h = record { listens = h.listens; on = h.on; off = tt }
+
+pub serves_parted : {A B : Type 0} (over : Over) (result : Result B Over) (a b : HostState) → IsErrAnd result (λ o. o ≡ over) → Serves {A = A} (Err over) a b → Serves result a b
+serves_parted over (Ok x) a b is h = absurd is
+serves_parted over (Err o) a b is h = record { listens = h.listens; on = tt; off = h.off ∙ ap (λ (v : Over). calls_failed v a.faults) (sym is) }
 
 -- ---- errors that a failed put turns into
 
