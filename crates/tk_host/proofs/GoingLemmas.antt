@@ -1,9 +1,8 @@
 -- A session while it goes on, step by step.
-use Rattle.std.proofs.Common.{◌≡◌, ◌≤◌, ◌<◌, ℕ, ◌+◌, suc, zero, List, [], ◌∷◌, ◌++◌, length, map, take, drop, get_or, true, false, Bool, Option, Some, None, Result, Ok, Err, refl, sym, ap, ap₂, subst, ◌∙◌, inl, inr, arith, append_assoc, append-nil, length-append, ℤ}
-use Rattle.std.specs.Prelude.{fold, filter_map, slice_get, unwrap_or, OnOk, IfErr}
+use Rattle.std.proofs.Common.{◌≡◌, ◌≤◌, ◌<◌, ℕ, ◌+◌, suc, zero, List, [], ◌∷◌, ◌++◌, length, map, take, get_or, true, Option, Some, Result, Ok, Err, refl, sym, ap, ap₂, subst, ◌∙◌, arith, append_assoc, append-nil, length-append, ℤ}
+use Rattle.std.specs.Prelude.{fold, slice_get, unwrap_or, IfErr}
 use Rattle.std.specs.List.{All, enumerate_from}
 use Rattle.std.specs.Result.{IsErrAnd}
-use Rattle.std.proofs.lemmas.Bool.{false≢true}
 use Rattle.std.proofs.lemmas.List.{take-append-le, take_more}
 use Rattle.std.proofs.lemmas.List.Elements.{filter_map-append}
 use Rattle.std.proofs.lemmas.List.Sums.{fold-append}
@@ -19,7 +18,6 @@ use Rattle.tk_hub.specs.Turn.{course_of}
 use Rattle.tk_hub.specs.declared.course.Course.TheVariants as cs
 use Rattle.tk_hub.specs.declared.course.HubTurn.{HubTurn}
 use Rattle.tk_hub.specs.declared.course.HubTurn.TheVariants as t
-use Rattle.tk_input.specs.Files.{one_more}
 use Rattle.tk_input.specs.Sink.{Grows, GrowsByFront}
 use Rattle.tk_journal.specs.Legal.{Opening, opened, start}
 use Rattle.tk_journal.specs.Publishing.{publications, published_in}
@@ -30,9 +28,8 @@ use Rattle.tk_journal.specs.declared.publication.Publication.{Publication}
 use Rattle.tk_ledger.proofs.SinkLemmas.{front_more, grows_more, grows_none}
 use Rattle.tk_story.proofs.JoinLemmas.{rest_of}
 use Rattle.tk_wire.specs.Host.{HostState}
-use Rattle.tk_wire.specs.Meanings.{raised_by}
 use Rattle.tk_wire.specs.declared.greeting.Greeting.{Greeting}
-use Rattle.tk_host.specs.Going.{IsGoing, IsOfHost, IsOfSession, IsOfTurn, IsStanding, IsTold, IsUntold, Leaves, Serves, Steps, TellsAll, Turns, WritesLeft, WritesStep, calls_failed, faults_left, going, left, published_by, step_faults}
+use Rattle.tk_host.specs.Going.{IsGoing, IsOfHost, IsOfSession, IsOfTurn, IsStanding, IsTold, IsUntold, Leaves, Serves, Steps, TellsAll, Turns, WritesLeft, WritesStep, calls_failed, faults_left, going, published_by, step_faults}
 use Rattle.tk_host.specs.Session.{Joined, Published, Told, joined_by, joined_in, set_in, sets_in}
 use Rattle.tk_host.specs.Text.{joined_text, line_of, set_text, told_text}
 use Rattle.tk_host.specs.declared.cause.Cause.TheVariants as c

@@ -1,31 +1,28 @@
 -- One session of a process, and sessions one behind the other.
-use Rattle.std.proofs.Common.{◌≡◌, ◌≤◌, ◌<◌, ◌⊎◌, ℕ, ◌+◌, suc, zero, List, [], ◌∷◌, ◌++◌, length, take, get_or, ◌-◌, true, false, Option, Some, None, IfSome, Result, Ok, Err, refl, sym, ap, subst, ◌∙◌, inl, inr, arith, append_assoc, append-nil, length-append}
-use Rattle.std.specs.Prelude.{All, OnOk, IfErr, unwrap_or, ◌^◌}
+use Rattle.std.proofs.Common.{◌≡◌, ◌<◌, ◌⊎◌, ℕ, ◌+◌, suc, zero, List, [], ◌∷◌, ◌++◌, length, take, get_or, ◌-◌, true, false, Option, Some, None, IfSome, Result, Ok, Err, refl, sym, ap, subst, ◌∙◌, inl, inr, arith, append_assoc, append-nil, length-append}
+use Rattle.std.specs.Prelude.{All, unwrap_or, ◌^◌}
 use Rattle.std.specs.List.{cons_option}
 use Rattle.std.specs.Result.{IsErrAnd}
 use Rattle.std.proofs.lemmas.List.Elements.{All-append}
 use Rattle.std.proofs.Math.Seq.{take-length}
 use Rattle.std.proofs.lemmas.List.{length-take}
-use Rattle.tk_base.specs.History.{IsFront}
 use Rattle.tk_base.specs.Settings.{Setup}
 use Rattle.tk_input.specs.Sink.{Grows, GrowsByFront}
 use Rattle.tk_journal.specs.Laws.{HasEnded}
-use Rattle.tk_journal.specs.Legal.{IsLegal, opened, start}
-use Rattle.tk_journal.specs.Publishing.{publications}
 use Rattle.tk_journal.specs.Readings.{is_stopped}
 use Rattle.tk_coord.specs.Coordinator.{IsJournal}
 use Rattle.tk_journal.specs.declared.noted.Noted.{Noted}
 use Rattle.tk_journal.proofs.Ended.{legal_ends}
 use Rattle.tk_journal.proofs.LawLemmas.{one_less}
-use Rattle.tk_ledger.proofs.SinkLemmas.{front_longer, front_more, front_of, grows_more, grows_none}
+use Rattle.tk_ledger.proofs.SinkLemmas.{front_longer, front_more, grows_more, grows_none}
 use Rattle.tk_story.proofs.JoiningLemmas.{from_the_start}
-use Rattle.tk_host.specs.Coordinating.{Coordinates, IsFinal, IsFollowed, WritesEnding, WritesOn, opening_text, run_faults}
+use Rattle.tk_host.specs.Coordinating.{Coordinates, IsFinal, IsFollowed, WritesEnding, WritesOn, opening_text}
 use Rattle.tk_host.proofs.GoingLemmas.{writes_more}
 use Rattle.tk_wire.specs.Meanings.{raised_by}
 use Rattle.tk_input.specs.Files.{HasRisen}
-use Rattle.tk_host.specs.Going.{IsGoing, IsStanding, IsTold, Leaves, Serves, Steps, TellsAll, WritesLeft, going, left, published_by}
-use Rattle.tk_host.specs.Holding.{Begins, HasEndedBy, Holds, HoldsAll, Hosts, Opens, Parts, faults_on, held_text}
-use Rattle.tk_host.specs.Session.{IsCausedBy, IsEnded, IsSession, PastSession, joined_in, leaves_out, sets_in}
+use Rattle.tk_host.specs.Going.{IsStanding, IsTold, Leaves, Steps, TellsAll, WritesLeft, left, published_by}
+use Rattle.tk_host.specs.Holding.{Begins, HasEndedBy, Holds, HoldsAll, Opens, Parts, held_text}
+use Rattle.tk_host.specs.Session.{IsCausedBy, IsSession, PastSession, leaves_out, sets_in}
 use Rattle.tk_host.specs.Sitting.{SessionView}
 use Rattle.tk_host.specs.Text.{ended_text, listening_text, over_text, session_text, sessions_text, text_of, told_text}
 use Rattle.tk_host.specs.declared.cause.Cause.{Cause}

@@ -1,5 +1,5 @@
 -- What one session of a process comes to. No public clause cites it.
-use Rattle.std.specs.Prelude.{ℕ, ◌≡◌, ◌≤◌, ◌⊎◌, All, length, take, List, [], ◌++◌, Option, Some, None, Result, Ok, Err, OnOk, IfErr, IfSome, ⊤}
+use Rattle.std.specs.Prelude.{ℕ, ◌≡◌, ◌≤◌, ◌⊎◌, All, length, take, List, [], ◌++◌, Option, Some, None, Result, Ok, Err, OnOk, IfErr, IfSome}
 use Rattle.std.specs.List.{cons_option}
 use Rattle.tk_base.specs.Settings.{Setup}
 use Rattle.tk_wire.specs.Host.{HostState}

@@ -126,15 +126,6 @@ pub fn hold<R: Wait, H: Host, O: Sink>(
 {
     let line = session_line(alloc, number)?;
     let mut session = Session::new(alloc, plan.settings, plan.run)?;
-    let over = begin(
-        rt,
-        alloc,
-        host,
-        &mut session,
-        line,
-        first,
-        plan.names,
-        out,
-    );
+    let over = begin(rt, alloc, host, &mut session, line, first, plan.names, out);
     leave(alloc, host, plan, number, session, over, out)
 }
