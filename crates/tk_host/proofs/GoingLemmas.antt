@@ -1,33 +1,35 @@
 -- A session while it goes on, step by step.
-use Rattle.std.proofs.Common.{◌≡◌, ◌≤◌, ◌<◌, ℕ, ◌+◌, suc, zero, List, [], ◌∷◌, ◌++◌, length, map, take, drop, get_or, true, false, Bool, Option, Some, None, Result, Ok, Err, refl, sym, ap, ap₂, subst, ◌∙◌, inl, inr, arith, append_assoc, append-nil, length-append, ℤ}
-use Rattle.std.specs.Prelude.{fold, filter_map, slice_get, unwrap_or, OnOk, IfErr}
+use Rattle.std.proofs.Common.{◌≡◌, ◌≤◌, ◌<◌, ℕ, ◌+◌, suc, zero, List, [], ◌∷◌, ◌++◌, length, map, take, get_or, true, Option, Some, Result, Ok, Err, refl, sym, ap, ap₂, subst, ◌∙◌, arith, append_assoc, append-nil, length-append, ℤ}
+use Rattle.std.specs.Prelude.{fold, slice_get, unwrap_or, IfErr}
 use Rattle.std.specs.List.{All, enumerate_from}
 use Rattle.std.specs.Result.{IsErrAnd}
-use Rattle.std.proofs.lemmas.Bool.{false≢true}
 use Rattle.std.proofs.lemmas.List.{take-append-le, take_more}
 use Rattle.std.proofs.lemmas.List.Elements.{filter_map-append}
 use Rattle.std.proofs.lemmas.List.Sums.{fold-append}
 use Rattle.std.proofs.lemmas.Option.{get_or_from_slice_get}
 use Rattle.tk_base.specs.History.{IsFront}
+use Rattle.tk_base.specs.Settings.{Setup}
 use Rattle.tk_coord.specs.Coordinator.{CoordinatorView}
-use Rattle.tk_end.proofs.HearingLemmas.{front_trans}
+use Rattle.tk_end.proofs.HearingLemmas.{front_refl, front_trans}
 use Rattle.tk_frames.specs.declared.frame.Frame.TheVariants as f
 use Rattle.tk_hub.specs.Hub.{HubView, IsHub}
 use Rattle.tk_hub.specs.Lines.{AreNamed}
+use Rattle.tk_hub.specs.Turn.{course_of}
 use Rattle.tk_hub.specs.declared.course.Course.TheVariants as cs
-use Rattle.tk_input.specs.Files.{one_more}
+use Rattle.tk_hub.specs.declared.course.HubTurn.{HubTurn}
+use Rattle.tk_hub.specs.declared.course.HubTurn.TheVariants as t
 use Rattle.tk_input.specs.Sink.{Grows, GrowsByFront}
 use Rattle.tk_journal.specs.Legal.{Opening, opened, start}
 use Rattle.tk_journal.specs.Publishing.{publications, published_in}
+use Rattle.tk_journal.specs.Readings.{is_stopped}
 use Rattle.tk_journal.specs.declared.noted.Noted.{Noted}
 use Rattle.tk_journal.specs.declared.noted.Noted.TheVariants as n
 use Rattle.tk_journal.specs.declared.publication.Publication.{Publication}
 use Rattle.tk_ledger.proofs.SinkLemmas.{front_more, grows_more, grows_none}
 use Rattle.tk_story.proofs.JoinLemmas.{rest_of}
 use Rattle.tk_wire.specs.Host.{HostState}
-use Rattle.tk_wire.specs.Meanings.{raised_by}
 use Rattle.tk_wire.specs.declared.greeting.Greeting.{Greeting}
-use Rattle.tk_host.specs.Going.{IsGoing, IsOfSession, IsOfTurn, IsStanding, IsTold, IsUntold, Leaves, Serves, Steps, TellsAll, Turns, WritesLeft, WritesStep, calls_failed, faults_left, going, left, published_by}
+use Rattle.tk_host.specs.Going.{IsGoing, IsOfHost, IsOfSession, IsOfTurn, IsStanding, IsTold, IsUntold, Leaves, Serves, Steps, TellsAll, Turns, WritesLeft, WritesStep, calls_failed, faults_left, going, published_by, step_faults}
 use Rattle.tk_host.specs.Session.{Joined, Published, Told, joined_by, joined_in, set_in, sets_in}
 use Rattle.tk_host.specs.Text.{joined_text, line_of, set_text, told_text}
 use Rattle.tk_host.specs.declared.cause.Cause.TheVariants as c
@@ -159,6 +161,15 @@ module _ {W : Type 0} (names : List (List ℕ)) (s s' : SessionView W) (before n
   pub told_left : {A : Type 0} (over : Over) → (over ≡ o.WriteFailed → ⊥) → IsTold {A = A} (Err over) names s before now
   told_left over fine = record { told = h.told; joined = h.joined; sets = h.sets; within = h.within; written = writes_left over before now (told_text names [] h.told) fine h.written }
 
+-- what is told says no more of an answer than whether a session goes on
+pub told_as : {W A B : Type 0} (x : A) (y : B) (names : List (List ℕ)) (s : SessionView W) (before now : Option (List ℕ)) → IsTold {A = A} (Ok x) names s before now → IsTold {A = B} (Ok y) names s before now
+told_as x y names s before now h = record { told = h.told; joined = h.joined; sets = h.sets; within = h.within; written = h.written }
+
+-- or how it is left
+pub told_parted : {W A B : Type 0} (over : Over) (result : Result B Over) (names : List (List ℕ)) (s : SessionView W) (before now : Option (List ℕ)) → IsErrAnd result (λ o. o ≡ over) → IsTold {A = A} (Err over) names s before now → IsTold result names s before now
+told_parted over (Ok x) names s before now is h = absurd is
+told_parted over (Err o) names s before now is h = record { told = h.told; joined = h.joined; sets = h.sets; within = h.within; written = subst (λ (v : Over). WritesLeft v before now (told_text names [] h.told)) (sym is) h.written }
+
 -- ---- how a session is left
 
 pub untold_leaves : {W : Type 0} (s : SessionView W) (over : Over) → IsUntold over → Leaves s over
@@ -192,6 +203,85 @@ turned_faults (o.Ended cause) faults is = refl
 turned_faults o.HostFailed faults is = absurd is
 turned_faults o.WriteFailed faults is = absurd is
 
+-- a session that begins goes on
+pub going_first : {W : Type 0} (s : SessionView W) (settings : Setup) → IsHub s.hub → s.hub.coordinator.settings ≡ settings → s.hub.coordinator.journal ≡ opened (start settings) → s.hub.course ≡ cs.Open → s.told ≡ 0 → IsGoing s
+going_first s settings kept given journal course told =
+    let begun = journal ∙ ap (λ (x : Setup). opened (start x)) (sym given) in
+    record {
+      standing = record { kept = kept; begins = subst (IsFront (opened (start s.hub.coordinator.settings))) (sym begun) (front_refl (opened (start s.hub.coordinator.settings))) };
+      course = course;
+      all = told ∙ sym (ap (λ (j : List Noted). length (publications j)) begun ∙ ap (λ (ps : List Publication). length ps) (opened_unpublished (start s.hub.coordinator.settings)));
+    }
+
+-- the hub takes a turn
+pub turned : {W : Type 0} (turn : HubTurn) (old s new : SessionView W) → s ≡ old → IsStanding old → IsHub new.hub → new.hub.coordinator.settings ≡ s.hub.coordinator.settings
+    → IsFront s.hub.coordinator.journal new.hub.coordinator.journal → new.hub.course ≡ course_of turn → (turn ≡ t.WriteFailed → ⊥) → (turn ≡ t.Finished → is_stopped new.hub.coordinator.journal ≡ true)
+    → new.roster ≡ s.roster → new.told ≡ s.told → Turns turn old new
+turned turn old s new same standing kept settings grows course written finished roster told =
+    let was : IsStanding s = subst IsStanding (sym same) standing in
+    let begins = front_trans (opened (start s.hub.coordinator.settings)) s.hub.coordinator.journal new.hub.coordinator.journal was.begins grows in
+    let turns : Turns turn s new = record {
+      standing = record { kept = kept; begins = subst (λ (x : Setup). IsFront (opened (start x)) new.hub.coordinator.journal) (sym settings) begins };
+      settings = settings;
+      grows = grows;
+      course = course;
+      written = written;
+      finished = finished;
+      roster = roster;
+      told = told;
+    } in
+    subst (λ x. Turns turn x new) same turns
+
+-- behind a turn as many sets are published as are told at least
+pub turned_within : {W : Type 0} (turn : HubTurn) (old new : SessionView W) → Turns turn old new → TellsAll old → new.told ≤ length (published_by new)
+turned_within turn old new turns all =
+    let more = published_grow old.hub.coordinator.journal new.hub.coordinator.journal turns.grows old.told (omega (arith, all)) in
+    omega (arith, turns.told, all, more.1)
+
+pub hosted_leaves : {W : Type 0} (s : SessionView W) (over : Over) → IsOfHost over → TellsAll s → Leaves s over
+hosted_leaves s o.Finished is all = absurd is
+hosted_leaves s (o.Ended (c.Link mon)) is all = absurd is
+hosted_leaves s (o.Ended (c.Refused mon)) is all = absurd is
+hosted_leaves s (o.Ended (c.Bad mon)) is all = absurd is
+hosted_leaves s (o.Ended (c.Again mon)) is all = absurd is
+hosted_leaves s (o.Ended c.Memory) is all = tt
+hosted_leaves s o.HostFailed is all = all
+hosted_leaves s o.WriteFailed is all = absurd is
+
+pub hosted_written : (over : Over) → IsOfHost over → over ≡ o.WriteFailed → ⊥
+hosted_written over is wrote = subst IsOfHost wrote is
+
+pub hosted_faults : (over : Over) (faults : ℕ) → IsOfHost over → faults ≡ faults_left over faults
+hosted_faults o.Finished faults is = refl
+hosted_faults (o.Ended cause) faults is = refl
+hosted_faults o.HostFailed faults is = refl
+hosted_faults o.WriteFailed faults is = absurd is
+
+-- what an error says, its error in the next call says
+pub parted_faults : {B : Type 0} (over : Over) (result : Result B Over) (faults : ℕ) → IsErrAnd result (λ o. o ≡ over) → faults_left over faults ≡ step_faults result faults
+parted_faults over (Ok x) faults is = absurd is
+parted_faults over (Err o) faults is = ap (λ (v : Over). faults_left v faults) (sym is)
+
+-- ---- steps one behind the other
+
+pub steps_none : {W : Type 0} (s : SessionView W) → IsGoing s → Steps going s s
+steps_none s going_ = record { standing = going_.standing; going = going_; leaves = tt; settings = refl }
+
+pub steps_on : {W A B : Type 0} (x : A) (result : Result B Over) (s s' s'' : SessionView W) → Steps {A = A} (Ok x) s s' → Steps result s' s'' → Steps result s s''
+steps_on x result s s' s'' first then = record { standing = then.standing; going = then.going; leaves = then.leaves; settings = then.settings ∙ first.settings }
+
+pub steps_as : {W A B : Type 0} (x : A) (y : B) (s s' : SessionView W) → Steps {A = A} (Ok x) s s' → Steps {A = B} (Ok y) s s'
+steps_as x y s s' h = record { standing = h.standing; going = h.going; leaves = tt; settings = h.settings }
+
+pub steps_parted : {W A B : Type 0} (over : Over) (result : Result B Over) (s s' : SessionView W) → IsErrAnd result (λ o. o ≡ over) → Steps {A = A} (Err over) s s' → Steps result s s'
+steps_parted over (Ok x) s s' is h = absurd is
+steps_parted over (Err o) s s' is h = record { standing = h.standing; going = tt; leaves = subst (Leaves s') (sym is) h.leaves; settings = h.settings }
+
+-- the host ends a session that goes on
+pub steps_hosted : {W A B : Type 0} (x : A) (over : Over) (result : Result B Over) (s s' : SessionView W) → IsErrAnd result (λ o. o ≡ over) → IsOfHost over → Steps {A = A} (Ok x) s s' → Steps result s s'
+steps_hosted x over (Ok y) s s' parted is h = absurd parted
+steps_hosted x over (Err o) s s' parted is h = record { standing = h.standing; going = tt; leaves = subst (Leaves s') (sym parted) (hosted_leaves s' over is h.going.all); settings = h.settings }
+
 -- connections are held at the hub, and nothing else changed
 pub going_held : {W : Type 0} (s s' : SessionView W) → IsGoing s → s'.hub ≡ record s.hub { held = s'.hub.held } → s'.told ≡ s.told → IsHub s'.hub → IsGoing s'
 going_held s s' h rest count kept =
@@ -220,6 +310,17 @@ inside_calls o.WriteFailed faults is = refl
 -- a session that is left by itself leaves the host as it was
 pub serves_inside : {A B : Type 0} (x : A) (over : Over) (a b : HostState) → IsOfSession over → Serves {A = A} (Ok x) a b → Serves {A = B} (Err over) a b
 serves_inside x over a b is h = record { listens = h.listens; on = tt; off = h.on ∙ inside_calls over a.faults is }
+
+pub serves_within : {A B : Type 0} (x : A) (result : Result B Over) (a b : HostState) → IfErr result IsOfSession → Serves {A = A} (Ok x) a b → Serves result a b
+serves_within x (Ok y) a b is h = record { listens = h.listens; on = h.on; off = tt }
+serves_within x (Err over) a b is h = record { listens = h.listens; on = tt; off = h.on ∙ inside_calls over a.faults is }
+
+pub serves_as : {A B : Type 0} (x : A) (y : B) (a b : HostState) → Serves {A = A} (Ok x) a b → Serves {A = B} (Ok y) a b
+serves_as x y a b h = record { listens = h.listens; on = h.on; off = tt }
+
+pub serves_parted : {A B : Type 0} (over : Over) (result : Result B Over) (a b : HostState) → IsErrAnd result (λ o. o ≡ over) → Serves {A = A} (Err over) a b → Serves result a b
+serves_parted over (Ok x) a b is h = absurd is
+serves_parted over (Err o) a b is h = record { listens = h.listens; on = tt; off = h.off ∙ ap (λ (v : Over). calls_failed v a.faults) (sym is) }
 
 -- ---- errors that a failed put turns into
 

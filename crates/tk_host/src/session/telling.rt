@@ -69,7 +69,11 @@ impl<W: Wire + Drop> Session<W> {
         ensures untold { IfErr result IsUntold }
         ensures counted { O.fault_count out.new ≡ step_faults result (O.fault_count out.old) }
     {
-        let publication = self.hub.coordinator().publication(self.told);
+        let coordinator = self.hub.coordinator();
+        // The journal is read for its clause, that its entries are of the settings, and the count for its range.
+        let _ = coordinator.journal();
+        let _ = coordinator.published();
+        let publication = coordinator.publication(self.told);
         let line = set_line(alloc, names, &self.roster, publication)?;
         self.told += 1;
         put_line(line, out)?;

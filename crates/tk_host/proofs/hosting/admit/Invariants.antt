@@ -7,6 +7,6 @@ abbrev pub invariant-loop : goal.invariant-loop
 invariant-loop g l = record {
   steps : Steps going l.fn.session l.session;
   tells : TellsMore going l.fn.session l.session (g.O.Sink.written l.fn.out) (g.O.Sink.written l.out);
-  serves : Serves going (g.H.state l.fn.host) (g.H.state l.host);
+  serves : Serves going (g.H.Host.state l.fn.host) (g.H.Host.state l.host);
   faults : g.O.Sink.fault_count l.out ≡ g.O.Sink.fault_count l.fn.out;
 }
