@@ -1,7 +1,4 @@
-use Rattle.std.proofs.Common.{Bool, Ok, Err, Result, sym, ap, ◌∙◌, subst}
 use Rattle.tk_host.proofs.GoingLemmas.{told_as, told_grown, told_left, told_parted, turned_within, turned_written}
-use Rattle.tk_host.specs.Going.{IsTold, going}
-use Rattle.tk_host.specs.declared.over.Over.{Over}
 use Rattle.tk_host.proofs.hosting.play.Goals as goal
 
 pub tell-requires-clause-within : goal.tell-requires-clause-within

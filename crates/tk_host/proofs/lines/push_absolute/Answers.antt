@@ -1,4 +1,4 @@
-use Rattle.std.proofs.Common.{ap, ap₂, ◌∙◌, pos, ◌+ℤ◌, refl}
+use Rattle.std.proofs.Common.{ap₂, pos, ◌+ℤ◌}
 use Rattle.tk_journal.proofs.LineLemmas.{grown}
 use Rattle.tk_host.specs.Origins.{origin_of}
 use Rattle.tk_host.proofs.LineLemmas.{places_more}

@@ -1,5 +1,4 @@
 use Rattle.std.proofs.Common.{◌≡◌, ◌++◌}
-use Rattle.std.specs.List.{range_with_len}
 use Rattle.tk_host.proofs.LineLemmas.{places_to}
 use Rattle.tk_host.proofs.lines.push_absolute.Given as goal
 

@@ -1,9 +1,8 @@
-use Rattle.std.proofs.Common.{◌++◌, refl, sym, subst, ◌∙◌, Option, List, ℕ}
+use Rattle.std.proofs.Common.{refl, sym, subst}
 use Rattle.tk_ledger.proofs.SinkLemmas.{put_done, put_front}
 use Rattle.tk_host.proofs.GoingLemmas.{told_joined, unwritten}
-use Rattle.tk_host.specs.Going.{IsTold, WritesStep, going, left}
+use Rattle.tk_host.specs.Going.{IsTold, going}
 use Rattle.tk_host.specs.Text.{joined_text}
-use Rattle.tk_host.specs.declared.over.Over.TheVariants as o
 use Rattle.tk_host.proofs.session.Session.note.Goals as goal
 
 pub returns-clause-tells : goal.returns-clause-tells
