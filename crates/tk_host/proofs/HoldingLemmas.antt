@@ -1,29 +1,31 @@
 -- One session of a process, and sessions one behind the other.
-use Rattle.std.proofs.Common.{◌≡◌, ◌≤◌, ◌<◌, ◌⊎◌, ℕ, ◌+◌, suc, zero, List, [], ◌∷◌, ◌++◌, length, take, get_or, ◌-◌, true, false, Option, Some, None, IfSome, Result, Ok, Err, refl, sym, ap, subst, ◌∙◌, inl, inr, arith, append_assoc, append-nil, length-append}
-use Rattle.std.specs.Prelude.{All, OnOk, IfErr, unwrap_or, ◌^◌}
+use Rattle.std.proofs.Common.{◌≡◌, ◌<◌, ◌⊎◌, ℕ, ◌+◌, suc, zero, List, [], ◌∷◌, ◌++◌, length, take, get_or, ◌-◌, true, false, Option, Some, None, IfSome, Result, Ok, Err, refl, sym, ap, subst, ◌∙◌, inl, inr, arith, append_assoc, append-nil, length-append}
+use Rattle.std.specs.Prelude.{All, unwrap_or, ◌^◌}
 use Rattle.std.specs.List.{cons_option}
+use Rattle.std.specs.Result.{IsErrAnd}
 use Rattle.std.proofs.lemmas.List.Elements.{All-append}
 use Rattle.std.proofs.Math.Seq.{take-length}
 use Rattle.std.proofs.lemmas.List.{length-take}
-use Rattle.tk_base.specs.History.{IsFront}
 use Rattle.tk_base.specs.Settings.{Setup}
 use Rattle.tk_input.specs.Sink.{Grows, GrowsByFront}
 use Rattle.tk_journal.specs.Laws.{HasEnded}
-use Rattle.tk_journal.specs.Legal.{IsLegal, opened, start}
-use Rattle.tk_journal.specs.Publishing.{publications}
 use Rattle.tk_journal.specs.Readings.{is_stopped}
 use Rattle.tk_coord.specs.Coordinator.{IsJournal}
 use Rattle.tk_journal.specs.declared.noted.Noted.{Noted}
 use Rattle.tk_journal.proofs.Ended.{legal_ends}
 use Rattle.tk_journal.proofs.LawLemmas.{one_less}
-use Rattle.tk_ledger.proofs.SinkLemmas.{front_longer, front_more, front_of, grows_more, grows_none}
+use Rattle.tk_ledger.proofs.SinkLemmas.{front_longer, front_more, grows_more, grows_none}
 use Rattle.tk_story.proofs.JoiningLemmas.{from_the_start}
 use Rattle.tk_host.specs.Coordinating.{Coordinates, IsFinal, IsFollowed, WritesEnding, WritesOn, opening_text}
-use Rattle.tk_host.specs.Going.{IsStanding, IsTold, Leaves, Steps, TellsAll, WritesLeft, going, left, published_by}
-use Rattle.tk_host.specs.Holding.{HasEndedBy, Holds, HoldsAll, Opens, Parts, held_text}
-use Rattle.tk_host.specs.Session.{IsCausedBy, IsEnded, IsSession, PastSession, joined_in, leaves_out, sets_in}
+use Rattle.tk_host.proofs.GoingLemmas.{writes_more}
+use Rattle.tk_wire.specs.Meanings.{raised_by}
+use Rattle.tk_input.specs.Files.{HasRisen}
+use Rattle.tk_host.specs.Going.{IsStanding, IsTold, Leaves, Steps, TellsAll, WritesLeft, left, published_by}
+use Rattle.tk_host.specs.Holding.{Begins, HasEndedBy, Holds, HoldsAll, Opens, Parts, held_text}
+use Rattle.tk_host.specs.Session.{IsCausedBy, IsSession, PastSession, leaves_out, sets_in}
 use Rattle.tk_host.specs.Sitting.{SessionView}
-use Rattle.tk_host.specs.Text.{over_text, session_text, sessions_text, text_of, told_text}
+use Rattle.tk_host.specs.Text.{ended_text, listening_text, over_text, session_text, sessions_text, text_of, told_text}
+use Rattle.tk_host.specs.declared.cause.Cause.{Cause}
 use Rattle.tk_host.specs.declared.cause.Cause.TheVariants as c
 use Rattle.tk_host.specs.declared.coordinated.Coordinated.{Coordinated}
 use Rattle.tk_host.specs.declared.coordinated.Coordinated.TheVariants as d
@@ -84,10 +86,10 @@ ended_by : {W : Type 0} (s : SessionView W) (over : Over) → Leaves s over → 
 ended_by s over h is = (subst (Leaves s) is h).1
 
 -- a session that was left is a session as it was
-pub session_of : {W : Type 0} (s : SessionView W) (settings : Setup) (names : List (List ℕ)) (over : Over) (before now : Option (List ℕ))
-    → IsStanding s → Leaves s over → s.hub.coordinator.settings ≡ settings → (t : IsTold (left over) names s before now)
+pub session_of : {W : Type 0} (s : SessionView W) (settings : Setup) (names : List (List ℕ)) (line : List ℕ) (over : Over) (before now : Option (List ℕ))
+    → IsStanding s → Leaves s over → s.hub.coordinator.settings ≡ settings → (t : Begins over names line s before now)
     → IsSession settings (record { told = t.told; journal = s.hub.coordinator.journal; over = over })
-session_of s settings names over before now standing leaves same t =
+session_of s settings names line over before now standing leaves same t =
     let j = s.hub.coordinator.journal in
     let kept = standing.kept.seats.journal in
     let long : length (sets_in t.told) ≡ s.told = (let a = ap (λ ps. length ps) t.sets in omega (arith, a, length-take s.told (published_by s), t.within)) in
@@ -111,26 +113,102 @@ parts_written o.WriteFailed (Err end) number mid now next told first p =
     subst (λ (e : Coordinated). WritesEnding e mid next (told ++ [])) (sym (p.unwritten refl))
     (front_longer mid next told [] (subst (λ (x : Option (List ℕ)). GrowsByFront mid x told) (sym (p.same refl)) first))
 
--- a session was held
-pub held_session : {W A : Type 0} (s0 s1 : SessionView W) (settings : Setup) (names : List (List ℕ)) (over : Over) (result : Result A Coordinated) (number : ℕ) (before mid now next : Option (List ℕ))
-    → s0.hub.coordinator.settings ≡ settings → Steps (left over) s0 s1 → IsTold (left over) names s1 mid now → Grows before mid (session_text number) → Parts over result number now next
-    → Holds result names settings number before next
-held_session s0 s1 settings names over result number before mid now next same steps t opened_ p = record {
-  held = Some (record { told = t.told; journal = s1.hub.coordinator.journal; over = over });
-  is = session_of s1 settings names over mid now steps.standing steps.leaves (steps.settings ∙ same) t;
-  followed = p.ended;
-  final = p.final;
-  written = on_more result before mid next (session_text number) (told_text names [] t.told ++ over_text number over) opened_ (parts_written over result number mid now next (told_text names [] t.told) t.written p);
+-- a session began with its line
+pub begun : {W : Type 0} (over : Over) (names : List (List ℕ)) (line : List ℕ) (s : SessionView W) (before mid now : Option (List ℕ)) → Grows before mid line → IsTold (left over) names s mid now → Begins over names line s before now
+begun over names line s before mid now put t = record {
+  told = t.told;
+  joined = t.joined;
+  sets = t.sets;
+  within = t.within;
+  written = writes_more (left over) before mid now line (told_text names [] t.told) put t.written;
 }
 
--- a session did not begin, for want of memory
-pub held_none : {A : Type 0} (names : List (List ℕ)) (settings : Setup) (number : ℕ) (now : Option (List ℕ)) → Holds {A = A} (Err d.NoMemory) names settings number now now
-held_none names settings number now = record {
-  held = None;
-  is = tt;
-  followed = tt;
-  final = λ is. absurd (cc);
-  written = ([], [], refl, grows_none now);
+-- the put of its line failed
+pub begun_unwritten : {W : Type 0} (names : List (List ℕ)) (line : List ℕ) (s : SessionView W) (before now : Option (List ℕ)) → s.roster ≡ [] → s.told ≡ 0 → GrowsByFront before now line → Begins o.WriteFailed names line s before now
+begun_unwritten names line s before now nobody none put = record {
+  told = [];
+  joined = sym nobody;
+  sets = sym (ap (λ (k : ℕ). take k (published_by s)) none);
+  within = omega (arith, none);
+  written = front_longer before now line [] put;
+}
+
+-- a session was held
+pub held_session : {W A : Type 0} (s0 s1 : SessionView W) (settings : Setup) (names : List (List ℕ)) (line : List ℕ) (over : Over) (result : Result A Coordinated) (number : ℕ) (before now next : Option (List ℕ))
+    → s0.hub.coordinator.settings ≡ settings → Steps (left over) s0 s1 → line ≡ session_text number → Begins over names line s1 before now → Parts over result number now next
+    → Holds result names settings number before next
+held_session s0 s1 settings names line over result number before now next same steps is t p = record {
+  held = Some (record { told = t.told; journal = s1.hub.coordinator.journal; over = over });
+  is = session_of s1 settings names line over before now steps.standing steps.leaves (steps.settings ∙ same) t;
+  followed = p.ended;
+  final = p.final;
+  written =
+      let lines = told_text names [] t.told in
+      subst (WritesOn result before next) (append_assoc line lines (over_text number over) ∙ ap (λ (l : List ℕ). l ++ (lines ++ over_text number over)) is)
+      (parts_written over result number before now next (line ++ lines) t.written p);
+}
+
+-- ---- how a session is left
+
+ended_badly : {A : Type 0} (cause : Cause) (end : Coordinated) (number : ℕ) (now next : Option (List ℕ)) → (end ≡ d.Done → ⊥) → (end ≡ d.LinkFault → ⊥) → WritesEnding end now next (ended_text number cause)
+    → Parts {A = A} (o.Ended cause) (Err end) number now next
+ended_badly cause end number now next undone fine text = record {
+  ended = tt;
+  final = λ is. absurd (undone is);
+  failed = λ is. absurd (fine is);
+  unwritten = λ is. absurd (cc);
+  unmade = λ is. absurd (cc);
+  same = λ is. absurd (cc);
+  written = text;
+}
+
+parts_as : {A : Type 0} (result : Result A Coordinated) (v over : Over) (number : ℕ) (now next : Option (List ℕ)) → over ≡ v → Parts v result number now next → Parts over result number now next
+parts_as result v over number now next is = subst (λ (w : Over). Parts w result number now next) (sym is)
+
+-- there was no memory for the line
+pub parts_unmade : {A : Type 0} (over : Over) (cause : Cause) (result : Result A Coordinated) (number : ℕ) (now : Option (List ℕ)) → over ≡ o.Ended cause → IsErrAnd result (λ end. end ≡ d.NoMemory) → Parts over result number now now
+parts_unmade over cause (Ok x) number now is none = absurd none
+parts_unmade over cause (Err end) number now is none =
+    parts_as (Err end) (o.Ended cause) over number now now is
+    (ended_badly cause end number now now (λ done. absurd (cc)) (λ failed. absurd (cc))
+    (subst (λ (e : Coordinated). WritesEnding e now now (ended_text number cause)) (sym none) ([], ended_text number cause, refl, grows_none now)))
+
+-- its put failed
+pub parts_unwritten : {A : Type 0} (over : Over) (cause : Cause) (result : Result A Coordinated) (number : ℕ) (now next : Option (List ℕ)) → over ≡ o.Ended cause → IsErrAnd result (λ end. end ≡ d.WriteFault)
+    → GrowsByFront now next (ended_text number cause) → Parts over result number now next
+parts_unwritten over cause (Ok x) number now next is failed put = absurd failed
+parts_unwritten over cause (Err end) number now next is failed put =
+    parts_as (Err end) (o.Ended cause) over number now next is
+    (ended_badly cause end number now next (λ done. absurd (cc)) (λ broken. absurd (cc))
+    (subst (λ (e : Coordinated). WritesEnding e now next (ended_text number cause)) (sym failed) put))
+
+-- it was put
+pub parts_ended : {A : Type 0} (x : A) (over : Over) (cause : Cause) (number : ℕ) (now next : Option (List ℕ)) → over ≡ o.Ended cause → Grows now next (ended_text number cause) → Parts {A = A} over (Ok x) number now next
+parts_ended x over cause number now next is put =
+    subst (λ (v : Over). Parts v (Ok x) number now next) (sym is)
+    (record { ended = tt; final = tt; failed = tt; unwritten = λ wrote. tt; unmade = λ wrote. absurd (cc); same = λ wrote. absurd (cc); written = put })
+
+-- there is no line
+pub parts_finished : {A : Type 0} (over : Over) (number : ℕ) (now : Option (List ℕ)) → over ≡ o.Finished → Parts {A = A} over (Err d.Done) number now now
+parts_finished over number now is = record {
+  ended = tt;
+  final = λ done. is;
+  failed = λ broken. absurd (cc);
+  unwritten = λ wrote. absurd (cc);
+  unmade = λ wrote. tt;
+  same = λ wrote. refl;
+  written = subst (λ (v : Over). Grows now now (over_text number v)) (sym is) (grows_none now);
+}
+
+pub parts_failed : {A : Type 0} (over : Over) (number : ℕ) (now : Option (List ℕ)) → over ≡ o.HostFailed → Parts {A = A} over (Err d.LinkFault) number now now
+parts_failed over number now is = record {
+  ended = tt;
+  final = λ done. absurd (cc);
+  failed = λ broken. is;
+  unwritten = λ wrote. absurd (cc);
+  unmade = λ wrote. tt;
+  same = λ wrote. refl;
+  written = subst (λ (v : Over). Grows now now (over_text number v)) (sym is) (grows_none now);
 }
 
 -- ---- sessions one behind the other
@@ -200,11 +278,26 @@ held_done names settings limit before now h = record {
   done = λ is. inr h.many;
 }
 
+-- ---- the first line
+
+-- it was put
+pub opened_told : {A : Type 0} (x : A) (address : List ℕ) (a b : Option (List ℕ)) → Grows a b (listening_text address) → Opens {A = A} (Ok x) a b
+opened_told x address a b put = record { address = Some address; written = put; undone = tt }
+
+-- its put failed
+pub opened_untold : {A : Type 0} (result : Result A Coordinated) (address : List ℕ) (a b : Option (List ℕ)) → IsErrAnd result (λ end. end ≡ d.WriteFault) → GrowsByFront a b (listening_text address) → Opens result a b
+opened_untold (Ok x) address a b is put = absurd is
+opened_untold (Err end) address a b is put = record {
+  address = Some address;
+  written = subst (λ (e : Coordinated). WritesEnding e a b (listening_text address)) (sym is) put;
+  undone = λ done. absurd (cc);
+}
+
 -- ---- the process
 
-pub coordinated_all : {A : Type 0} (x : A) (end : Coordinated) (names : List (List ℕ)) (settings : Setup) (limit : Option ℕ) (before mid now : Option (List ℕ))
-    → Opens {A = A} (Ok x) before mid → HoldsAll end names settings (unwrap_or limit (2 ^ 64 - 1)) mid now → Coordinates end names settings limit before now
-coordinated_all x end names settings limit before mid now first all = record {
+pub coordinated_all : {A : Type 0} (x : A) (end : Coordinated) (names : List (List ℕ)) (settings : Setup) (limit : Option ℕ) (many : ℕ) (before mid now : Option (List ℕ))
+    → many ≡ unwrap_or limit (2 ^ 64 - 1) → Opens {A = A} (Ok x) before mid → HoldsAll end names settings many mid now → Coordinates end names settings limit before now
+coordinated_all x end names settings limit many before mid now count first all = record {
   address = first.address;
   past = all.past;
   last = all.last;
@@ -212,7 +305,7 @@ coordinated_all x end names settings limit before mid now first all = record {
   each_followed = all.each_followed;
   last_is = all.last_is;
   written = ending_more end before mid now (opening_text first.address) (sessions_text names 1 (all.past ++ cons_option all.last [])) first.written all.written;
-  done = all.done;
+  done = λ is. subst (λ (n : ℕ). IsFinal all.last ⊎ (length all.past ≡ n)) count (all.done is);
 }
 
 -- the host was not opened, or that was not told
@@ -227,3 +320,7 @@ coordinated_none end names settings limit before now first = record {
   written = subst (WritesEnding end before now) (sym (append-nil (opening_text first.address))) first.written;
   done = λ is. absurd (first.undone is);
 }
+
+-- one call of the host more failed
+pub risen : (a b c : ℕ) → b ≡ a → c ≡ raised_by 1 b → HasRisen a c
+risen a b c same more low = omega (arith, same, more, low)

@@ -1,9 +1,8 @@
 -- Lines and sessions written out.
-use Rattle.std.proofs.Common.{◌≡◌, ℕ, pos, true, false, List, [], ◌∷◌, ◌++◌, refl}
+use Rattle.std.proofs.Common.{◌≡◌, ℕ, pos, true, List, [], ◌∷◌, refl}
 use Rattle.std.specs.Prelude.{codes}
 use Rattle.std.specs.Fmt.{digits}
-use Rattle.tk_host.specs.Session.{Published}
-use Rattle.tk_host.specs.Text.{absolute_text, set_text, sessions_text, text_of}
+use Rattle.tk_host.specs.Text.{absolute_text, set_text, sessions_text}
 use Rattle.tk_host.specs.declared.cause.Cause.TheVariants as c
 use Rattle.tk_host.specs.declared.over.Over.TheVariants as o
 

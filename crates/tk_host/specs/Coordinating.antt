@@ -1,16 +1,13 @@
 -- What a coordinator's process does: its sessions, what is written of them, and how it ends.
-use Rattle.std.specs.Prelude.{ℕ, ◌≡◌, ◌⊎◌, ◌-◌, ◌^◌, true, List, [], ◌++◌, length, All, unwrap_or, Option, Some, None, Result, Ok, Err, OnOk, IfSome, ⊤}
+use Rattle.std.specs.Prelude.{ℕ, ◌≡◌, ◌⊎◌, ◌-◌, ◌^◌, List, [], ◌++◌, length, All, unwrap_or, Option, Some, None, Result, Ok, Err, IfSome}
 use Rattle.std.specs.List.{cons_option}
 use Rattle.tk_base.specs.Settings.{Setup}
 use Rattle.tk_input.specs.Files.{one_more}
 use Rattle.tk_input.specs.Sink.{Grows, GrowsByFront}
-use Rattle.tk_wire.specs.Host.{HostState}
-use Rattle.tk_wire.specs.Meanings.{raised_by}
 use Rattle.tk_host.specs.Session.{IsEnded, IsSession, PastSession}
-use Rattle.tk_host.specs.Text.{listening_text, sessions_text, text_of}
+use Rattle.tk_host.specs.Text.{listening_text, sessions_text}
 use Rattle.tk_host.specs.declared.coordinated.Coordinated.{Coordinated}
 use Rattle.tk_host.specs.declared.coordinated.Coordinated.TheVariants as d
-use Rattle.tk_host.specs.declared.over.Over.{Over}
 use Rattle.tk_host.specs.declared.over.Over.TheVariants as o
 
 -- ---- what is written

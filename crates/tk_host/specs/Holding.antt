@@ -1,16 +1,26 @@
 -- What one session of a process comes to. No public clause cites it.
-use Rattle.std.specs.Prelude.{ℕ, ◌≡◌, ◌⊎◌, All, length, List, [], ◌++◌, Option, Some, None, Result, Ok, Err, OnOk, IfErr, IfSome, ⊤}
+use Rattle.std.specs.Prelude.{ℕ, ◌≡◌, ◌≤◌, ◌⊎◌, All, length, take, List, [], ◌++◌, Option, Some, None, Result, Ok, Err, OnOk, IfErr, IfSome}
 use Rattle.std.specs.List.{cons_option}
 use Rattle.tk_base.specs.Settings.{Setup}
 use Rattle.tk_wire.specs.Host.{HostState}
 use Rattle.tk_wire.specs.Meanings.{raised_by}
 use Rattle.tk_host.specs.Coordinating.{IsFinal, IsFollowed, WritesEnding, WritesOn, opening_text, run_faults}
-use Rattle.tk_host.specs.Session.{IsEnded, IsSession, PastSession}
-use Rattle.tk_host.specs.Text.{over_text, sessions_text, text_of}
+use Rattle.tk_host.specs.Going.{WritesLeft, published_by}
+use Rattle.tk_host.specs.Session.{IsEnded, IsSession, PastSession, Told, joined_in, sets_in}
+use Rattle.tk_host.specs.Sitting.{SessionView}
+use Rattle.tk_host.specs.Text.{over_text, sessions_text, text_of, told_text}
 use Rattle.tk_host.specs.declared.coordinated.Coordinated.{Coordinated}
 use Rattle.tk_host.specs.declared.coordinated.Coordinated.TheVariants as d
 use Rattle.tk_host.specs.declared.over.Over.{Over}
 use Rattle.tk_host.specs.declared.over.Over.TheVariants as o
+
+-- what was told in a session that began with a line and was left so: who joined, and the first sets; its text was written
+pub record Begins {W : Type 0} (over : Over) (names : List (List ℕ)) (line : List ℕ) (s : SessionView W) (before now : Option (List ℕ)) : Type 0 where
+  pub told : List Told
+  pub joined : joined_in told ≡ s.roster
+  pub sets : sets_in told ≡ take s.told (published_by s)
+  pub within : s.told ≤ length (published_by s)
+  pub written : WritesLeft over before now (line ++ told_text names [] told)
 
 -- the text of a session that began, and none of one that did not
 abbrev pub held_text : List (List ℕ) → ℕ → Option PastSession → List ℕ

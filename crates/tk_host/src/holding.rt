@@ -1,5 +1,6 @@
-ghost use Rattle.std.specs.Prelude.{◌≡◌, ◌≤◌, false, true, IfErr, OnOk, length};
-ghost use Rattle.tk_host.specs.Holding.{FailsHost, Holds, Hosts, Opens, Parts, faults_behind, faults_on};
+ghost use Rattle.std.specs.Prelude.{◌≡◌, ◌≤◌, [], false, true, IfErr, OnOk, length};
+ghost use Rattle.tk_host.specs.Going.{IsGoing, Serves, Steps, faults_left, left};
+ghost use Rattle.tk_host.specs.Holding.{Begins, FailsHost, Holds, Hosts, Opens, Parts, faults_behind, faults_on};
 
 use crate::coordinated::Coordinated;
 use crate::hosting::attend;
@@ -37,6 +38,7 @@ pub fn open<H: Host, O: Sink>(
     requires { (H.state host.old).listens ≡ false }
     ensures opens { Opens result (O.written out.old) (O.written out.new) }
     ensures listens { OnOk result ((H.state host.new).listens ≡ true) }
+    ensures same { OnOk result ((H.state host.new).faults ≡ (H.state host.old).faults) }
     ensures faults { IfErr result (λ end. FailsHost end (H.state host.old) (H.state host.new)) }
     ensures counted { O.fault_count out.new ≡ faults_on result (O.fault_count out.old) }
 {
@@ -76,6 +78,36 @@ fn leave<H: Host, O: Sink>(
     }
 }
 
+/// Begins a session by its line, and runs it until it is left.
+fn begin<R: Wait, H: Host, O: Sink>(
+    rt: &R,
+    alloc: Global,
+    host: &mut H,
+    session: &mut Session<H::Link>,
+    line: Vec<u8>,
+    first: Option<Knock<H::Link>>,
+    names: &Catalog,
+    out: &mut O,
+) -> Over
+    requires listens { (H.state host.old).listens ≡ true }
+    requires going { IsGoing session.old }
+    requires nobody { session.old.roster ≡ [] }
+    requires untold { session.old.told ≡ 0 }
+    requires named { session.old.hub.coordinator.settings.objects ≤ length names.now }
+    ensures steps { Steps (left result) session.old session.new }
+    ensures begins { Begins result names.now line.items session.new (O.written out.old) (O.written out.new) }
+    ensures serves { Serves (left result) (H.state host.old) (H.state host.new) }
+    ensures counted { O.fault_count out.new ≡ faults_left result (O.fault_count out.old) }
+{
+    match put_line(line, out) {
+        Ok(()) => attend(rt, alloc, host, session, first, names, out),
+        Err(_) => {
+            drop(first);
+            Over::WriteFailed
+        }
+    }
+}
+
 /// Holds one session over a door that listens, which may begin with a connection. Answers how the next begins.
 pub fn hold<R: Wait, H: Host, O: Sink>(
     rt: &R,
@@ -92,8 +124,8 @@ pub fn hold<R: Wait, H: Host, O: Sink>(
     ensures hosts { Hosts result (H.state host.old) (H.state host.new) }
     ensures counted { O.fault_count out.new ≡ faults_on result (O.fault_count out.old) }
 {
+    let line = session_line(alloc, number)?;
     let mut session = Session::new(alloc, plan.settings, plan.run)?;
-    put_line(session_line(alloc, number)?, out)?;
-    let over = attend(rt, alloc, host, &mut session, first, plan.names, out);
+    let over = begin(rt, alloc, host, &mut session, line, first, plan.names, out);
     leave(alloc, host, plan, number, session, over, out)
 }
