@@ -12,7 +12,7 @@ use Rattle.tk_base.specs.Settings.{Setup}
 use Rattle.tk_coord.specs.Coordinator.{CoordinatorView}
 use Rattle.tk_end.proofs.HearingLemmas.{front_refl, front_trans}
 use Rattle.tk_frames.specs.declared.frame.Frame.TheVariants as f
-use Rattle.tk_hub.specs.Hub.{HubView, IsHub}
+use Rattle.tk_hub.specs.Hub.{IsHub}
 use Rattle.tk_hub.specs.Lines.{AreNamed}
 use Rattle.tk_hub.specs.Turn.{course_of}
 use Rattle.tk_hub.specs.declared.course.Course.TheVariants as cs
@@ -29,7 +29,7 @@ use Rattle.tk_ledger.proofs.SinkLemmas.{front_more, grows_more, grows_none}
 use Rattle.tk_story.proofs.JoinLemmas.{rest_of}
 use Rattle.tk_wire.specs.Host.{HostState}
 use Rattle.tk_wire.specs.declared.greeting.Greeting.{Greeting}
-use Rattle.tk_host.specs.Going.{IsGoing, IsOfHost, IsOfSession, IsOfTurn, IsStanding, IsTold, IsUntold, Leaves, Serves, Steps, TellsAll, Turns, WritesLeft, WritesStep, calls_failed, faults_left, going, published_by, step_faults}
+use Rattle.tk_host.specs.Going.{IsGoing, IsOfHost, IsOfSession, IsOfTurn, IsStanding, IsTold, Leaves, Serves, Steps, TellsAll, Turns, WritesLeft, WritesStep, calls_failed, faults_left, going, published_by, step_faults}
 use Rattle.tk_host.specs.Session.{Joined, Published, Told, joined_by, joined_in, set_in, sets_in}
 use Rattle.tk_host.specs.Text.{joined_text, line_of, set_text, told_text}
 use Rattle.tk_host.specs.declared.cause.Cause.TheVariants as c
@@ -112,18 +112,6 @@ module _ {W : Type 0} (names : List (List ℕ)) (s s' : SessionView W) (before n
         written = h.written;
       }
 
-  -- nothing more is told over the same journal
-  pub told_same : s'.hub.coordinator ≡ s.hub.coordinator → s'.roster ≡ s.roster → s'.told ≡ s.told → IsTold going names s' before now
-  told_same same roster count =
-      let sets = ap (λ (k : CoordinatorView). publications k.journal) same in
-      record {
-        told = h.told;
-        joined = h.joined ∙ sym roster;
-        sets = h.sets ∙ ap₂ take (sym count) (sym sets);
-        within = (let l = ap (λ (ps : List Publication). length ps) sets in omega (arith, count, h.within, l));
-        written = h.written;
-      }
-
   -- a monitor that joins is told
   pub told_joined : {A : Type 0} (result : Result A Over) (g : Greeting) (next : Option (List ℕ)) → s'.hub.coordinator ≡ s.hub.coordinator → s'.roster ≡ s.roster ++ g ∷ [] → s'.told ≡ s.told
       → WritesStep result now next (joined_text g) → IsTold result names s' before next
@@ -172,36 +160,8 @@ told_parted over (Err o) names s before now is h = record { told = h.told; joine
 
 -- ---- how a session is left
 
-pub untold_leaves : {W : Type 0} (s : SessionView W) (over : Over) → IsUntold over → Leaves s over
-untold_leaves s o.Finished is = absurd is
-untold_leaves s (o.Ended (c.Link mon)) is = absurd is
-untold_leaves s (o.Ended (c.Refused mon)) is = absurd is
-untold_leaves s (o.Ended (c.Bad mon)) is = absurd is
-untold_leaves s (o.Ended (c.Again mon)) is = absurd is
-untold_leaves s (o.Ended c.Memory) is = tt
-untold_leaves s o.HostFailed is = absurd is
-untold_leaves s o.WriteFailed is = tt
-
-pub untold_inside : (over : Over) → IsUntold over → IsOfSession over
-untold_inside o.Finished is = tt
-untold_inside (o.Ended cause) is = tt
-untold_inside o.HostFailed is = is
-untold_inside o.WriteFailed is = tt
-
-pub turned_inside : (over : Over) → IsOfTurn over → IsOfSession over
-turned_inside o.Finished is = tt
-turned_inside (o.Ended cause) is = tt
-turned_inside o.HostFailed is = is
-turned_inside o.WriteFailed is = tt
-
 pub turned_written : (over : Over) → IsOfTurn over → over ≡ o.WriteFailed → ⊥
 turned_written over is wrote = subst IsOfTurn wrote is
-
-pub turned_faults : (over : Over) (faults : ℕ) → IsOfTurn over → faults_left over faults ≡ faults
-turned_faults o.Finished faults is = refl
-turned_faults (o.Ended cause) faults is = refl
-turned_faults o.HostFailed faults is = absurd is
-turned_faults o.WriteFailed faults is = absurd is
 
 -- a session that begins goes on
 pub going_first : {W : Type 0} (s : SessionView W) (settings : Setup) → IsHub s.hub → s.hub.coordinator.settings ≡ settings → s.hub.coordinator.journal ≡ opened (start settings) → s.hub.course ≡ cs.Open → s.told ≡ 0 → IsGoing s
@@ -262,6 +222,12 @@ pub parted_faults : {B : Type 0} (over : Over) (result : Result B Over) (faults 
 parted_faults over (Ok x) faults is = absurd is
 parted_faults over (Err o) faults is = ap (λ (v : Over). faults_left v faults) (sym is)
 
+pub counted_hosted : {B : Type 0} (over : Over) (result : Result B Over) (faults now : ℕ) → IsErrAnd result (λ o. o ≡ over) → IsOfHost over → now ≡ faults → now ≡ step_faults result faults
+counted_hosted over result faults now parted is same = same ∙ hosted_faults over faults is ∙ parted_faults over result faults parted
+
+pub counted_parted : {B : Type 0} (over : Over) (result : Result B Over) (faults now next : ℕ) → IsErrAnd result (λ o. o ≡ over) → now ≡ faults → next ≡ faults_left over now → next ≡ step_faults result faults
+counted_parted over result faults now next parted same counted = counted ∙ ap (faults_left over) same ∙ parted_faults over result faults parted
+
 -- ---- steps one behind the other
 
 pub steps_none : {W : Type 0} (s : SessionView W) → IsGoing s → Steps going s s
@@ -281,16 +247,6 @@ steps_parted over (Err o) s s' is h = record { standing = h.standing; going = tt
 pub steps_hosted : {W A B : Type 0} (x : A) (over : Over) (result : Result B Over) (s s' : SessionView W) → IsErrAnd result (λ o. o ≡ over) → IsOfHost over → Steps {A = A} (Ok x) s s' → Steps result s s'
 steps_hosted x over (Ok y) s s' parted is h = absurd parted
 steps_hosted x over (Err o) s s' parted is h = record { standing = h.standing; going = tt; leaves = subst (Leaves s') (sym parted) (hosted_leaves s' over is h.going.all); settings = h.settings }
-
--- connections are held at the hub, and nothing else changed
-pub going_held : {W : Type 0} (s s' : SessionView W) → IsGoing s → s'.hub ≡ record s.hub { held = s'.hub.held } → s'.told ≡ s.told → IsHub s'.hub → IsGoing s'
-going_held s s' h rest count kept =
-    let same = ap (λ (x : HubView _). x.coordinator) rest in
-    record {
-      standing = record { kept = kept; begins = subst (λ (k : CoordinatorView). IsFront (opened (start k.settings)) k.journal) (sym same) h.standing.begins };
-      course = ap (λ (x : HubView _). x.course) rest ∙ h.course;
-      all = count ∙ h.all ∙ ap (λ (k : CoordinatorView). length (publications k.journal)) (sym same);
-    }
 
 -- ---- the host
 

@@ -1,5 +1,5 @@
 -- One session of a process, and sessions one behind the other.
-use Rattle.std.proofs.Common.{◌≡◌, ◌<◌, ◌⊎◌, ℕ, ◌+◌, suc, zero, List, [], ◌∷◌, ◌++◌, length, take, get_or, ◌-◌, true, false, Option, Some, None, IfSome, Result, Ok, Err, refl, sym, ap, subst, ◌∙◌, inl, inr, arith, append_assoc, append-nil, length-append}
+use Rattle.std.proofs.Common.{◌≡◌, ◌<◌, ◌⊎◌, ℕ, ◌+◌, suc, zero, List, [], ◌∷◌, ◌++◌, length, take, get_or, ◌-◌, true, false, Option, Some, None, IfSome, Result, Ok, Err, refl, sym, ap, subst, ◌∙◌, inl, arith, append_assoc, append-nil, length-append}
 use Rattle.std.specs.Prelude.{All, unwrap_or, ◌^◌}
 use Rattle.std.specs.List.{cons_option}
 use Rattle.std.specs.Result.{IsErrAnd}
@@ -221,9 +221,6 @@ pub record HeldAll (names : List (List ℕ)) (settings : Setup) (count : ℕ) (b
   pub each_followed : All IsFollowed past
   pub written : Grows before now (sessions_text names 1 past)
 
-pub none_held : (names : List (List ℕ)) (settings : Setup) (now : Option (List ℕ)) → HeldAll names settings 0 now now
-none_held names settings now = record { past = []; many = refl; each = λ k d within. absurd (omega (arith, within)); each_followed = λ k d within. absurd (omega (arith, within)); written = grows_none now }
-
 all_push : {X : Type 0} (P : X → Type 0) (xs : List X) (x : X) → All P xs → P x → All P (xs ++ x ∷ [])
 all_push P xs x all one = All-append P xs (x ∷ []) all (λ k d within. only k d within one) where
   only : (k : ℕ) (d : _) → k < 1 → P x → P (get_or (x ∷ []) k d)
@@ -265,18 +262,6 @@ module _ (names : List (List ℕ)) (settings : Setup) (count : ℕ) (before now 
     written = text_with end one.held one.written;
     done = λ is. inl (one.final is);
   }
-
--- as many sessions were held as were asked for
-pub held_done : (names : List (List ℕ)) (settings : Setup) (limit : ℕ) (before now : Option (List ℕ)) → HeldAll names settings limit before now → HoldsAll d.Done names settings limit before now
-held_done names settings limit before now h = record {
-  past = h.past;
-  last = None;
-  each = h.each;
-  each_followed = h.each_followed;
-  last_is = tt;
-  written = subst (λ (xs : List PastSession). Grows before now (sessions_text names 1 xs)) (sym (append-nil h.past)) h.written;
-  done = λ is. inr h.many;
-}
 
 -- ---- the first line
 
