@@ -4,6 +4,9 @@
 //! It makes the true files, the output and the net, and calls `run` or `live`, which promise the rest.
 #![tactic(auto)]
 
+mod processes;
+
+use processes::run_process;
 use std::alloc::AllocGlobal;
 use std::io::{Print, Write};
 use std::process::ExitCode;
@@ -94,6 +97,8 @@ fn main(rt: HostRuntime) -> ExitCode {
     let status = match words_of(&rt) {
         Ok(words) => match verb_of(words.as_slice()) {
             Some(Verb::Live) => run_live(&rt, words.as_slice()),
+            Some(Verb::Coordinate) => run_process(&rt, words.as_slice()),
+            Some(Verb::Monitor) => run_process(&rt, words.as_slice()),
             _ => run_words(&rt, words.as_slice()),
         },
         Err(status) => status,

@@ -1,0 +1,159 @@
+"""Runs `topk coordinate` and `topk monitor` as processes of their own on 127.0.0.1, and judges every set that is printed.
+
+The folder examples/three_processes has the words of each process; what stands for the address is filled in. A set is right where
+plain sums over the places printed beside it make it so. Besides: a monitor that begins first, one of another run, of another
+catalogue, or that nobody answers; and strangers, who change nothing.
+"""
+import pathlib
+import socket
+import struct
+import subprocess
+import sys
+import tempfile
+import time
+
+import check_examples as plain
+
+ROOT = pathlib.Path(__file__).resolve().parent.parent
+FOLDER = ROOT / "examples" / "three_processes"
+PROGRAM = ROOT / "crates" / "topk" / "out" / "topk"
+LIMIT = 60
+
+
+def words(name, address):
+    return [word.replace("ADDRESS", address) for word in (FOLDER / name).read_text().split()]
+
+
+class Process:
+    """A process whose lines can be read while it runs."""
+
+    def __init__(self, asked):
+        self.out, self.fault = tempfile.TemporaryFile("w+"), tempfile.TemporaryFile("w+")
+        self.child = subprocess.Popen([PROGRAM, *asked], cwd=FOLDER, stdout=self.out, stderr=self.fault)
+
+    def lines(self):
+        self.out.seek(0)
+        return self.out.read().splitlines()
+
+    def ended(self, status):
+        """What it printed, once it has ended with this status."""
+        self.child.wait(timeout=LIMIT)
+        self.fault.seek(0)
+        assert self.child.returncode == status, f"status {self.child.returncode}: {self.fault.read()}"
+        return self.lines()
+
+    def killed(self):
+        self.child.kill()
+        self.child.wait(timeout=LIMIT)
+        return self.lines()
+
+    def address(self):
+        """Where a coordinator listens: its first line, behind which it begins a session."""
+        until = time.monotonic() + LIMIT
+        while time.monotonic() < until:
+            lines = self.lines()
+            if len(lines) >= 2:
+                assert lines[0].startswith("listening ") and lines[1] == "session 1", f"no address: {lines}"
+                return lines[0].split()[1]
+            time.sleep(0.01)
+        raise AssertionError("no address")
+
+
+def free_address():
+    with socket.socket() as door:
+        door.bind(("127.0.0.1", 0))
+        return "127.0.0.1:%d" % door.getsockname()[1]
+
+
+def judged(lines):
+    """Each set of a coordinator is right over its cut, and the last one is final, over the whole logs."""
+    names = plain.catalogue_of(FOLDER, {"objects": "objects.csv"})
+    logs = {1: [plain.changes_of(FOLDER / "one.csv")], 2: [plain.changes_of(FOLDER / "two.csv")]}
+    return plain.check_sets("three_processes", names, logs, {"k": "1", "epsilon": "0"}, lines, {})
+
+
+def in_order(before=lambda address: None):
+    """The three processes, the coordinator first; what is done before the monitors begin changes nothing."""
+    coordinator = Process(words("coordinate", "127.0.0.1:0"))
+    address = coordinator.address()
+    before(address)
+    monitors = [Process(words(name, address)) for name in ("monitor_1", "monitor_2")]
+    told = [monitor.ended(0) for monitor in monitors]
+    lines = coordinator.ended(0)
+    assert {"joined 1 at 0", "joined 2 at 0"} < set(lines), f"not joined: {lines}"
+    assert all(one[0] == "joined 1 at 0" and one[-1] == "ended at 1 skipped 0" for one in told), f"monitors: {told}"
+    return judged(lines)
+
+
+def monitors_first():
+    """The monitors, which dial until somebody answers, and the coordinator then."""
+    address = free_address()
+    monitors = [Process(words(name, address)) for name in ("monitor_1", "monitor_2")]
+    time.sleep(0.7)
+    coordinator = Process(words("coordinate", address))
+    lines = coordinator.ended(0)
+    assert lines[0] == f"listening {address}", f"another address: {lines}"
+    for monitor in monitors:
+        monitor.ended(0)
+    return judged(lines)
+
+
+def others_are_strangers():
+    """A monitor of another run, and one with other objects, join nothing; nobody answers one that dials elsewhere."""
+    coordinator = Process(words("coordinate", "127.0.0.1:0"))
+    address = coordinator.address()
+    other = words("monitor_1", address)
+    other[other.index("--run") + 1] = "6"
+    renamed = words("monitor_1", address)
+    renamed[renamed.index("--objects") + 1] = "others.csv"
+    strangers = [Process(other), Process(renamed)]
+    time.sleep(1)
+    lines = coordinator.killed()
+    assert lines[1:] == ["session 1"], f"a stranger joined: {lines}"
+    for process in strangers:
+        process.killed()
+    alone = Process([*words("monitor_1", free_address()), "--tries", "2", "--pause", "10"])
+    alone.ended(8)
+
+
+def greeting(mark=b"TKC1", run=0, monitor=1, streams=1):
+    return mark + struct.pack(">QIB", run, monitor, streams) + bytes(96)
+
+
+# What strangers say: nothing, noise, half a greeting, greetings of another form, run or monitor.
+STRANGE = [b"", b"GET / HTTP/1.1\r\n\r\n" + bytes(200), greeting()[:112], greeting(mark=b"TKC2"), greeting(run=7),
+           greeting(monitor=0), greeting(monitor=3), greeting(streams=0), greeting(streams=9)]
+
+
+def knock(address):
+    """A hundred strangers, some of whom stay and say nothing more."""
+    host, port = address.split(":")
+    held = []
+    for number in range(100):
+        guest = socket.create_connection((host, int(port)), timeout=5)
+        try:
+            guest.sendall(STRANGE[number % len(STRANGE)])
+        except OSError:
+            pass
+        if number % 3:
+            guest.close()
+        else:
+            held.append(guest)
+    knock.held = held
+
+
+def main():
+    if not PROGRAM.exists():
+        print("processes: the program is not built")
+        return 1
+    for case in (in_order, monitors_first, others_are_strangers, lambda: in_order(knock)):
+        fault = case()
+        if fault:
+            print(f"processes: {fault}")
+            return 1
+    print("processes: ok")
+    return 0
+
+
+if __name__ == "__main__":
+    sys.exit(main())
