@@ -1,8 +1,8 @@
 """Runs `topk coordinate` and `topk monitor` as processes of their own on 127.0.0.1, and judges every set that is printed.
 
 The folder examples/three_processes has the words of each process; what stands for the address is filled in. A set is right where
-plain sums over the places printed beside it make it so. Besides: a monitor that begins first, one of another run, of another
-catalogue, or that nobody answers; and strangers, who change nothing.
+plain sums over the places printed beside it make it so. Besides: a monitor over its standard input, one that begins first, one
+of another run, of another catalogue, or that nobody answers; and strangers, who change nothing.
 """
 import pathlib
 import socket
@@ -27,9 +27,11 @@ def words(name, address):
 class Process:
     """A process whose lines can be read while it runs."""
 
-    def __init__(self, asked):
-        self.out, self.fault = tempfile.TemporaryFile("w+"), tempfile.TemporaryFile("w+")
-        self.child = subprocess.Popen([PROGRAM, *asked], cwd=FOLDER, stdout=self.out, stderr=self.fault)
+    def __init__(self, asked, told=""):
+        self.out, self.fault, given = tempfile.TemporaryFile("w+"), tempfile.TemporaryFile("w+"), tempfile.TemporaryFile("w+")
+        given.write(told)
+        given.seek(0)
+        self.child = subprocess.Popen([PROGRAM, *asked], cwd=FOLDER, stdin=given, stdout=self.out, stderr=self.fault)
 
     def lines(self):
         self.out.seek(0)
@@ -98,6 +100,17 @@ def monitors_first():
     return judged(lines)
 
 
+def alone():
+    """One monitor over its standard input, and one session."""
+    asked = words("coordinate", "127.0.0.1:0")
+    asked[asked.index("--monitors") + 1] = "1"
+    coordinator = Process([*asked, "--sessions", "1"])
+    monitor = Process([*words("monitor_1", coordinator.address())[:-1], "-"], "a,5\nb,3\n")
+    told, lines = monitor.ended(0), coordinator.ended(0)
+    assert told == ["joined 1 at 0", "ended at 2 skipped 0"], f"the monitor: {told}"
+    assert lines[-1].startswith("final ") and lines[-1].endswith(" cut 1:2 members a"), f"the last set: {lines}"
+
+
 def others_are_strangers():
     """A monitor of another run, and one with other objects, join nothing; nobody answers one that dials elsewhere."""
     coordinator = Process(words("coordinate", "127.0.0.1:0"))
@@ -146,7 +159,7 @@ def main():
     if not PROGRAM.exists():
         print("processes: the program is not built")
         return 1
-    for case in (in_order, monitors_first, others_are_strangers, lambda: in_order(knock)):
+    for case in (in_order, monitors_first, alone, others_are_strangers, lambda: in_order(knock)):
         fault = case()
         if fault:
             print(f"processes: {fault}")
