@@ -1,5 +1,7 @@
 //! A coordinator and a monitor that run as processes of their own, over sockets between hosts.
 
+ghost use Rattle.tk_frames.specs.Spelling.{IsVersion};
+
 use std::alloc::{AllocGlobal, Global};
 use std::io::Print;
 use std::net::TcpStream;
@@ -78,7 +80,9 @@ fn serve_monitor<
         + Wait
         + Clock
         + Sync,
->(rt: &R, alloc: Global, words: &Watched<'_>) -> Status {
+>(rt: &R, alloc: Global, words: &Watched<'_>) -> Status
+    requires { IsVersion words.now.frames }
+{
     let mut files = TrueFiles::new(alloc, rt);
     let input = match load_monitor(rt, alloc, words, &mut files) {
         Ok(input) => input,
@@ -87,6 +91,8 @@ fn serve_monitor<
     let Ok(mut dialer) = SocketDialer::new(alloc, rt, words.connect) else {
         return Status::NoMemory;
     };
+    // That the settings are within their limits is told by this alone.
+    let _ = input.settings.monitors();
     let watch = Watch {
         settings: input.settings,
         number: input.number,
