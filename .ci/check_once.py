@@ -22,7 +22,6 @@ EXCEPTIONS = {
     "lent_name name_in text_in": "bytes that are lent: a name, the name of a file, a word",
     "HasRisen": "a count of the faults of files, and one of what a wire took",
     "no_frame no_payload": "no crate below tk_hub and tk_port knows both the ends and the odd bytes of a story",
-    "ok": "a name for one constructor",
     "len": "lists of pairs and of changes, each with forms of its own",
     "row_of": "parts of one monitor, and logs with ticks of one monitor",
     "IsSteady halted": "a hub and a port, neither below the other",
