@@ -1,6 +1,7 @@
 -- Changes as pairs of an object and a whole number.
-use Rattle.std.specs.Prelude.{ℕ, ℤ, List, map}
+use Rattle.std.specs.Prelude.{ℕ, ◌-◌, ℤ, pos, List, ◌∷◌, ◌++◌, length, map, take, drop}
 use Rattle.tk_base.specs.Pairs.{narrow_pair_of}
+use Rattle.tk_base.specs.declared.narrow_pair.NarrowPair.{NarrowPair}
 use Rattle.tk_input.specs.declared.change.Change.{Change}
 use Rattle.tk_input.specs.declared.changes.Form.{Form}
 use Rattle.tk_input.specs.declared.changes.Form.TheVariants.{Narrow, Wide}
@@ -13,7 +14,23 @@ pair_of c = (c.obj.0, c.by)
 abbrev pub changes_of : List Change → List (ℕ × ℤ)
 changes_of list = map pair_of list
 
+-- some changes that are kept in 8 bytes each
+abbrev pub narrow_changes_of : List NarrowPair → List (ℕ × ℤ)
+narrow_changes_of list = map narrow_pair_of list
+
 -- the changes of a list, in either form
 abbrev pub changes_in : Form → List (ℕ × ℤ)
 changes_in (Narrow list) = map narrow_pair_of list.items
 changes_in (Wide list) = changes_of list.items
+
+-- some changes with one more at a place
+abbrev pub inserted : ℕ → ℕ × ℤ → List (ℕ × ℤ) → List (ℕ × ℤ)
+inserted place change changes = take place changes ++ (change ∷ drop place changes)
+
+-- some changes with one more in front of the last
+abbrev pub grown_by : ℕ × ℤ → List (ℕ × ℤ) → List (ℕ × ℤ)
+grown_by change changes = inserted (length changes - 1) change changes
+
+-- the closing record of a stream's log: a change of nothing, raised once the stream has ended
+abbrev pub closing : ℕ × ℤ
+closing = (1, pos 0)

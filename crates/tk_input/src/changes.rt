@@ -2,7 +2,7 @@
 
 ghost use Rattle.std.specs.Prelude.{◌≡◌, ◌<◌, ◌++◌, ◌∷◌, [], IfOk, OnOk, OnErr, length, map, slice_get, Some};
 ghost use Rattle.tk_base.specs.Pairs.{narrow_pair_of};
-ghost use Rattle.tk_input.specs.Changes.{changes_of, pair_of};
+ghost use Rattle.tk_input.specs.Changes.{changes_of, grown_by, inserted, narrow_changes_of, pair_of};
 
 use crate::change::Change;
 use std::alloc::Global;
@@ -43,13 +43,53 @@ fn change_of(narrow: NarrowPair) -> Change
 
 /// The same changes in 32 bytes each, and one more. Room for all is taken first, so that nothing may fail behind it.
 fn widened(alloc: Global, list: &[NarrowPair], last: Change) -> Result<Vec<Change>, NoMemory>
-    ensures { IfOk result (λ wide. changes_of wide.items ≡ map narrow_pair_of list.now ++ pair_of last ∷ []) }
+    ensures { IfOk result (λ wide. changes_of wide.items ≡ narrow_changes_of list.now ++ pair_of last ∷ []) }
 {
     let mut wide = Vec::with_capacity(alloc, list.len() + 1)?;
     for narrow in list {
         wide.push_reserved(change_of(*narrow));
     }
     wide.push_reserved(last);
+    Ok(wide)
+}
+
+/// Puts a change at a place, all in 8 bytes.
+fn insert_narrow(
+    list: &mut Vec<NarrowPair>,
+    place: usize,
+    change: NarrowPair,
+) -> Result<(), NoMemory>
+    requires { place < length list.old.items }
+    ensures ok { OnOk result (narrow_changes_of list.new.items
+        ≡ inserted place (narrow_pair_of change) (narrow_changes_of list.old.items)) }
+    ensures err { OnErr result (list.new.items ≡ list.old.items) }
+{
+    list.insert(place, change)?;
+    Ok(())
+}
+
+/// Puts a change at a place, all in 32 bytes.
+fn insert_wide(list: &mut Vec<Change>, place: usize, change: Change) -> Result<(), NoMemory>
+    requires { place < length list.old.items }
+    ensures ok { OnOk result (changes_of list.new.items ≡ inserted place (pair_of change) (changes_of list.old.items)) }
+    ensures err { OnErr result (list.new.items ≡ list.old.items) }
+{
+    list.insert(place, change)?;
+    Ok(())
+}
+
+/// The same changes in 32 bytes each, with one more in front of the last.
+fn widened_before(
+    alloc: Global,
+    list: &[NarrowPair],
+    change: Change,
+) -> Result<Vec<Change>, NoMemory>
+    requires { 0 < length list.now }
+    ensures { IfOk result (λ wide. changes_of wide.items ≡ grown_by (pair_of change) (narrow_changes_of list.now)) }
+{
+    let place = list.len() - 1;
+    let mut wide = widened(alloc, &list[..place], change)?;
+    wide.push(change_of(list[place]))?;
     Ok(wide)
 }
 
@@ -78,6 +118,31 @@ impl Changes {
                 }
             },
             Form::Wide(list) => list.push(change)?,
+        }
+        Ok(())
+    }
+
+    /// Puts a change in front of the last one. Costs what `push` costs.
+    pub fn grow(&mut self, change: Change) -> Result<(), NoMemory>
+        requires { 0 < length self.old }
+        ensures ok { OnOk result (self.new ≡ grown_by (pair_of change) self.old) }
+        ensures err { OnErr result (self.new ≡ self.old) }
+    {
+        match &mut self.form {
+            Form::Narrow(list) => match NarrowPair::of(change.obj, change.by) {
+                Some(narrow) => {
+                    let place = list.len() - 1;
+                    insert_narrow(list, place, narrow)?;
+                }
+                None => {
+                    let wide = widened_before(*list.allocator(), list.as_slice(), change)?;
+                    self.form = Form::Wide(wide);
+                }
+            },
+            Form::Wide(list) => {
+                let place = list.len() - 1;
+                insert_wide(list, place, change)?;
+            }
         }
         Ok(())
     }

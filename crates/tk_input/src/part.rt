@@ -1,7 +1,8 @@
 //! The log of a feeder: how a file gives it, and how several hold the same list.
 
-ghost use Rattle.std.specs.Prelude.{◌≡◌, ◌<◌, ◌≤◌, ◌^◌, IfOk, IfErr, OnOk, Ok, Err, All, [], length, option_map, slice_get, Some, unsigned_abs};
+ghost use Rattle.std.specs.Prelude.{◌≡◌, ◌<◌, ◌≤◌, ◌^◌, IfOk, IfErr, OnErr, OnOk, Ok, Err, All, [], length, option_map, slice_get, Some, unsigned_abs};
 ghost use Rattle.csv.specs.Records.{fields_of};
+ghost use Rattle.tk_input.specs.Changes.{grown_by, pair_of};
 ghost use Rattle.tk_input.specs.Log.{IsFault, both_fields as both_fields_of, change_added, log_of, next_change as next_change_of};
 ghost use Rattle.tk_input.specs.Logs.{IsObject};
 ghost use Rattle.tk_input.specs.Records.{through};
@@ -213,6 +214,23 @@ impl Part {
         ensures { slice_get self.now i ≡ Some (result.obj.0, result.by) }
     {
         self.changes().at(i)
+    }
+
+    /// Puts a change in front of the last one. Costs what `Changes::grow` costs, and where others hold the list too, a copy of it.
+    pub fn grow(&mut self, change: Change) -> Result<(), NoMemory>
+        requires { 0 < length self.old }
+        ensures ok { OnOk result (self.new ≡ grown_by (pair_of change) self.old) }
+        ensures err { OnErr result (self.new ≡ self.old) }
+    {
+        match &mut self.held {
+            Held::Own(changes) => changes.grow(change),
+            Held::Shared(shared) => {
+                let mut own = Changes::try_clone(shared)?;
+                own.grow(change)?;
+                self.held = Held::Own(own);
+                Ok(())
+            }
+        }
     }
 
     /// The same changes, of which clones are cheap from now on.

@@ -9,3 +9,4 @@ pub mod RefusalLemmas
 pub mod StartLemmas
 pub mod TakeLemmas
 pub mod ValuesLemmas
+pub mod GrowLemmas

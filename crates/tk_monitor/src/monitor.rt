@@ -8,6 +8,7 @@ ghost use Rattle.tk_monitor.specs.Board.{IsOneOf};
 ghost use Rattle.tk_monitor.specs.Monitored.{IsFeederOf, Raises};
 
 mod check;
+mod grow;
 mod make;
 mod take;
 

@@ -97,6 +97,19 @@ impl Trail {
         self.raises -= 1;
     }
 
+    /// Keeps room that was made for an entry for one raise more.
+    pub fn keep_raise(&mut self)
+        requires spare { 0 < self.old.spare }
+        requires few { self.old.raises + 1 < 2 ^ 32 }
+        ensures { self.new ≡ record self.old {
+          raises = self.old.raises + 1;
+          spare = self.old.spare - 1;
+        } }
+    {
+        self.raises += 1;
+        self.spare -= 1;
+    }
+
     /// Notes a frame that was taken, for which there is room.
     pub fn took(&mut self, frame: KeptFrame)
         requires { 0 < self.old.spare }

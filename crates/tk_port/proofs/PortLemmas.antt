@@ -1,4 +1,5 @@
 -- What the type of a port keeps, over each of its calls.
+use Rattle.std.specs.Prelude.{ℤ}
 use Rattle.std.proofs.Common.{◌≡◌, ◌≤◌, ℕ, [], ◌∷◌, ◌++◌, length, take, refl, sym, ap, ◌∙◌, subst, Result, Ok, Err, OnOk, OnErr}
 use Rattle.tk_base.specs.declared.memory.NoMemory.{NoMemory}
 use Rattle.tk_monitor.specs.declared.outcome.Checked.{Checked}
@@ -18,7 +19,11 @@ use Rattle.tk_end.specs.Link.{IsEnd, IsShut, LinkView, Says, over}
 use Rattle.tk_wire.specs.Meanings.{Traffic}
 use Rattle.tk_wire.specs.Parse.{IsEncoding, IsParse}
 use Rattle.tk_end.proofs.EndLemmas.{shut_end}
-use Rattle.tk_monitor.specs.Stepped.{taking, checking}
+use Rattle.tk_monitor.specs.Stepped.{taking, checking, growing}
+use Rattle.tk_trail.specs.Growing.{grown, grown_parts}
+use Rattle.tk_trail.specs.Legal.{HasNext}
+use Rattle.tk_trail.proofs.AlikeLemmas.{refusal_alike}
+use Rattle.tk_trail.proofs.GrowingLemmas.{grown_legal}
 use Rattle.tk_port.specs.Port.{IsOnCourse, IsPort}
 use Rattle.tk_port.specs.Turn.{Exchanges, Reaches, Stays, Takes, Checks}
 use Rattle.tk_port.specs.declared.course.Course.{Course}
@@ -59,6 +64,31 @@ port_after_raise {W} run m n link course feeder (Done broken) p raises legal =
 port_after_raise {W} run m n link course feeder Ended p raises legal =
     let Kept : MonitorView → Type 0 = λ x. IsPort {W = W} (record { run = run; monitor = x; link = link; course = course }) in
     subst Kept (sym raises.1) p
+
+-- the log of a feeder has a change more
+course_grown : {W : Type 0} (link : LinkView W) (m : MonitorView) (g : ℕ) (change : ℕ × ℤ) (course : Course) → IsOnCourse link m course → IsOnCourse link (growing m g change) course
+course_grown link m g change c.Open is = is
+course_grown link m g change c.Halted is = is
+course_grown link m g change c.Failed is = is
+course_grown link m g change (c.Refused why) is = (is.0, record { frame = is.1.frame; read = is.1.read; rest = is.1.rest; leaves = is.1.leaves; refused = sym (refusal_alike m.setup (grown_parts m.setup.parts g change) m.trail is.1.frame) ∙ is.1.refused })
+course_grown link m g change (c.Bad fault) is = is
+
+pub port_grown : {W : Type 0} (run : ℕ) (m : MonitorView) (link : LinkView W) (course : Course) (g : ℕ) (change : ℕ × ℤ) → IsPort (record { run = run; monitor = m; link = link; course = course }) → HasNext m.setup m.trail g → IsSetup (grown m.setup g change) → IsPort (record { run = run; monitor = growing m g change; link = link; course = course })
+port_grown run m link course g change p next within = record {
+  version = p.version;
+  setup = within;
+  legal = grown_legal m.setup m.trail g change p.setup.from next p.legal;
+  written = p.written;
+  ends = p.ends;
+  course = course_grown link m g change course p.course;
+}
+
+-- where there was no memory for it, nothing changed
+pub port_after_grow : {W : Type 0} (run : ℕ) (m n : MonitorView) (link : LinkView W) (course : Course) (g : ℕ) (change : ℕ × ℤ) (r : Result (Unit {0}) NoMemory) → IsPort (record { run = run; monitor = m; link = link; course = course }) → HasNext m.setup m.trail g → IsSetup (grown m.setup g change) → OnOk r (n ≡ growing m g change) → OnErr r (n ≡ m) → IsPort (record { run = run; monitor = n; link = link; course = course })
+port_after_grow {W} run m n link course g change (Ok done) p next within ok err =
+    subst (λ x. IsPort {W = W} (record { run = run; monitor = x; link = link; course = course })) (sym ok) (port_grown run m link course g change p next within)
+port_after_grow {W} run m n link course g change (Err lacking) p next within ok err =
+    subst (λ x. IsPort {W = W} (record { run = run; monitor = x; link = link; course = course })) (sym err) p
 
 -- frames that are taken and checks keep the trail legal
 pub reaches_legal : (a b : MonitorView) → IsSetup a.setup → Reaches a b → IsLegal a.setup a.trail → IsLegal b.setup b.trail

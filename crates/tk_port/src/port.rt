@@ -10,7 +10,9 @@ ghost use Rattle.tk_wire.specs.Buffered.{counts_pushed};
 ghost use Rattle.tk_end.specs.Link.{Covers, IsShut, LeavesFull, Says};
 ghost use Rattle.tk_end.specs.Piping.{Drains, Fills};
 ghost use Rattle.tk_port.specs.Port.{IsLeft, IsPort, IsStanding, LeavesOdd, Turns, TurnsOne, answer_of, halted_of, hello_of};
-ghost use Rattle.tk_monitor.specs.Stepped.{checking};
+ghost use Rattle.tk_monitor.specs.Stepped.{checking, growing};
+ghost use Rattle.tk_trail.specs.Growing.{grown};
+ghost use Rattle.tk_trail.specs.Legal.{HasNext};
 ghost use Rattle.tk_port.specs.declared.turn.Turn.{Turn as Turned};
 
 use crate::course::Course;
@@ -22,6 +24,7 @@ use std::marker::Model;
 use tk_base::{Feeder, NoMemory};
 use tk_end::Link;
 use tk_frames::Frame;
+use tk_input::Change;
 use tk_monitor::{Checked, Monitor, Raised};
 use tk_story::{Bytes, MonEnd, Received};
 use tk_wire::{InBuffer, Pipe, Piped, Pushed, Wire};
@@ -151,6 +154,19 @@ impl<W: Wire> Port<W> {
         ensures kept { IsPort self.new }
     {
         self.side.monitor.raise(f)
+    }
+
+    /// Puts a change in front of the last record of a feeder, as `Monitor::grow` does.
+    pub fn grow(&mut self, f: Feeder, change: Change) -> Result<(), NoMemory>
+        requires next { HasNext self.old.monitor.setup self.old.monitor.trail f.0 }
+        requires limits { IsSetup (grown self.old.monitor.setup f.0 (change.obj.0, change.by)) }
+        ensures ok { OnOk result (self.new ≡ record self.old {
+          monitor = growing self.old.monitor f.0 (change.obj.0, change.by);
+        }) }
+        ensures err { OnErr result (self.new ≡ self.old) }
+        ensures kept { IsPort self.new }
+    {
+        self.side.monitor.grow(f, change)
     }
 
     /// Sends a Report or tells the end where that is due.

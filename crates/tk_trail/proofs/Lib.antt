@@ -16,3 +16,5 @@ pub mod SaysLemmas
 pub mod SendsLemmas
 pub mod BoundLemmas
 pub mod BorderLemmas
+pub mod AlikeLemmas
+pub mod GrowingLemmas

@@ -8,6 +8,7 @@ pub mod Says
 pub mod Still
 pub mod Bounds
 pub mod BoundLaws
+pub mod Growing
 pub mod Laws
 pub mod SpeakingLaws
 pub use Rattle.tk_base.specs.History

@@ -6,6 +6,7 @@
 
 mod bounds;
 mod entry;
+mod growing;
 mod laws;
 mod refusal;
 mod speaking;
@@ -16,6 +17,9 @@ pub use bounds::{
     values_are_small,
 };
 pub use entry::Entry;
+pub use growing::{
+    a_grown_trail_is_legal, legality_looks_at_what_is_reached, the_last_record_stays,
+};
 pub use laws::{
     a_front_is_legal, a_report_needs_a_broken_constraint, a_stopped_monitor_is_at_rest,
     answers_come_at_once, assigns_are_numbered, frames_carry_the_sequence_of_their_place,
