@@ -21,8 +21,8 @@ use Rattle.tk_story.specs.Links.{IsOrderedLink}
 use Rattle.tk_story.specs.Moments.{IsPublishedValid}
 use Rattle.tk_story.specs.Story.{IsStory, StoryView, setup_of, trail_of}
 use Rattle.tk_story.proofs.PublishedLemmas.{IsPublished, published_holds, said_well, spoken}
-use Rattle.tk_apart.specs.Compacting.{StandForLogs, all_behind, cut_moved, ends_of}
-use Rattle.tk_apart.proofs.CompactingLemmas.{valid_moves}
+use Rattle.tk_compact.specs.Standing.{StandForLogs, all_behind, cut_moved, ends_of}
+use Rattle.tk_compact.proofs.StandingLemmas.{valid_moves}
 use Rattle.tk_apart.specs.Connected.{AreConnected, IsConnected, IsConnection}
 use Rattle.tk_apart.proofs.CarriedLemmas.{carried_front, front_behind, front_of_front}
 

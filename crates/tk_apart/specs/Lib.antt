@@ -1,4 +1,3 @@
 pub mod Carried
-pub mod Compacting
 pub mod Connected
 pub mod SoFar

@@ -6,7 +6,7 @@ use Rattle.tk_journal.specs.declared.noted.Noted.TheVariants as n
 use Rattle.tk_journal.specs.declared.publication.Publication.{Publication}
 use Rattle.tk_story.specs.Moments.{IsPublishedValid}
 use Rattle.tk_story.specs.Story.{IsStory, StoryView}
-use Rattle.tk_apart.specs.Compacting.{StandForLogs, all_behind, cut_moved, ends_of}
+use Rattle.tk_compact.specs.Standing.{StandForLogs, all_behind, cut_moved, ends_of}
 use Rattle.tk_apart.specs.Connected.{AreConnected}
 
 -- they are a story

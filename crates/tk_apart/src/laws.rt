@@ -1,7 +1,6 @@
 //! What holds of processes apart.
 
 ghost use Rattle.tk_apart.specs.Carried.{CarriedIsAFront};
-ghost use Rattle.tk_apart.specs.Compacting.{MovedIsOriginAndPlace};
 ghost use Rattle.tk_apart.specs.Connected.{EndsThatTellAreConnected};
 ghost use Rattle.tk_apart.specs.SoFar.{ConnectedIsAStory, CutIsBehindTheStart, PublishedAcrossHostsIsValid, PublishedIsValidOverTheTrueLogs};
 
@@ -23,11 +22,6 @@ pub fn a_story_is_sound_so_far()
     ensures story { ConnectedIsAStory }
     ensures valid { PublishedAcrossHostsIsValid }
     ensures behind { CutIsBehindTheStart }
-{}
-
-/// What is printed of a place is its origin, which is the count without the start, and the place in the session.
-pub fn a_moved_place_is_origin_and_place()
-    ensures { MovedIsOriginAndPlace }
 {}
 
 /// Where each monitor started behind a base that stands for its true log, each set that was published is valid over the

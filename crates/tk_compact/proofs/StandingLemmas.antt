@@ -5,30 +5,27 @@ use Rattle.std.specs.List.{zip}
 use Rattle.std.proofs.lemmas.Int.{ints}
 use Rattle.std.proofs.lemmas.List.{length-map}
 use Rattle.std.proofs.lemmas.Slice.Zip.{length-zip}
-use Rattle.std.proofs.Math.Seq.{take-append-add, take-length}
+use Rattle.std.proofs.Math.Seq.{take-length}
 use Rattle.tk_input.specs.Logs.{ArePlaces, IsValid, sum_for, total, value_of}
 use Rattle.tk_base.proofs.SumLemmas.{int_sum-cons}
-use Rattle.tk_apart.specs.Compacting.{StandForLogs, StandsFor, all_behind, behind, cut_moved, ends_of, moved}
-use Rattle.tk_window.proofs.SumLemmas.{sum_for-append}
-
--- so many changes further
-abbrev further : List ℕ → List ℕ → List ℕ
-further places steps = map (λ p. p.0 + p.1) (zip places steps)
-
--- these places are places of some parts, none in front of the beginnings
-record ArePlacesBehind (base more : List (List (ℕ × ℤ))) (places : List ℕ) : Type 0 where
-  shape : length more ≡ length base
-  within : ArePlaces (behind base more) places
-  behind_base : (i : ℕ) → get_or (ends_of base) i 0 ≤ get_or places i 0
+use Rattle.tk_trail.proofs.ValuesLemmas.{sum_for-cons}
+use Rattle.tk_compact.specs.Standing.{ArePlacesBehind, StandForLogs, StandsFor, all_behind, behind, cut_moved, ends_of, further, moved, reached}
 
 -- ---- sums
+
+-- behind all of one part: its sum, and that of the other up to where one is there
+sum_behind : (o : ℕ) (xs ys : List (ℕ × ℤ)) (s : ℕ) → sum_for o (take (length xs + s) (xs ++ ys)) ≡ sum_for o xs +ℤ sum_for o (take s ys)
+sum_behind o [] ys s = let e : 0 + s ≡ s = omega arith in rw e (omega (arith, ints))
+sum_behind o (x ∷ xs) ys s =
+    let e : length (x ∷ xs) + s ≡ suc (length xs + s) = omega arith in
+    rw e (omega (arith, ints, sum_for-cons o x (take (length xs + s) (xs ++ ys)), sum_for-cons o x xs, sum_behind o xs ys s))
 
 -- the sums of one part, at a place of it
 abbrev at_place : ℕ → List (ℕ × ℤ) × ℕ → ℤ
 at_place o p = sum_for o (take p.1 p.0)
 
 -- behind all of some parts: their values at the ends, and those of the others where these are
-value_behind : (xs ys : List (List (ℕ × ℤ))) (steps : List ℕ) (o : ℕ) → length ys ≡ length xs → length steps ≡ length xs → value_of (behind xs ys) (further (ends_of xs) steps) o ≡ value_of xs (ends_of xs) o +ℤ value_of ys steps o
+pub value_behind : (xs ys : List (List (ℕ × ℤ))) (steps : List ℕ) (o : ℕ) → length ys ≡ length xs → length steps ≡ length xs → value_of (behind xs ys) (further (ends_of xs) steps) o ≡ value_of xs (ends_of xs) o +ℤ value_of ys steps o
 value_behind [] [] [] o same long = omega (arith, ints)
 value_behind [] [] (s ∷ steps) o same long = absurd (omega (arith, long))
 value_behind [] (y ∷ ys) steps o same long = absurd (omega (arith, same))
@@ -41,21 +38,20 @@ value_behind (x ∷ xs) (y ∷ ys) (s ∷ steps) o same long =
       int_sum-cons (sum_for o (take (length x + s) (x ++ y))) (map (at_place o) (zip (behind xs ys) (further (ends_of xs) steps))),
       int_sum-cons (sum_for o (take (length x) x)) (map (at_place o) (zip xs (ends_of xs))),
       int_sum-cons (sum_for o (take s y)) (map (at_place o) (zip ys steps)),
-      ap (λ (cs : List (ℕ × ℤ)). sum_for o cs) (take-append-add x y s),
       ap (λ (cs : List (ℕ × ℤ)). sum_for o cs) (take-length x),
-      sum_for-append o x (take s y),
+      sum_behind o x y s,
       value_behind xs ys steps o (omega (arith, same)) (omega (arith, long)),
     )
 
 -- ---- places
 
-abbrev beyond : List ℕ → List ℕ → List ℕ
+abbrev pub beyond : List ℕ → List ℕ → List ℕ
 beyond from places = map (λ p. p.1 - p.0) (zip from places)
 
-length-beyond : (from places : List ℕ) → length places ≡ length from → length (beyond from places) ≡ length from
+pub length-beyond : (from places : List ℕ) → length places ≡ length from → length (beyond from places) ≡ length from
 length-beyond from places same = omega (arith, length-map (zip from places) (λ (p : ℕ × ℕ). p.1 - p.0), length-zip from places, same)
 
-further_beyond : (from places : List ℕ) → length places ≡ length from → ((i : ℕ) → get_or from i 0 ≤ get_or places i 0) → places ≡ further from (beyond from places)
+pub further_beyond : (from places : List ℕ) → length places ≡ length from → ((i : ℕ) → get_or from i 0 ≤ get_or places i 0) → places ≡ further from (beyond from places)
 further_beyond [] [] same below = refl
 further_beyond [] (p ∷ places) same below = absurd (omega (arith, same))
 further_beyond (a ∷ from) [] same below = absurd (omega (arith, same))
@@ -71,15 +67,16 @@ moved_further (a ∷ from) [] places = refl
 moved_further (a ∷ from) (c ∷ counts) [] = refl
 moved_further (a ∷ from) (c ∷ counts) (p ∷ places) = ap (λ (xs : List ℕ). (c + (p - a)) ∷ xs) (moved_further from counts places)
 
-length-ends_of : (parts : List (List (ℕ × ℤ))) → length (ends_of parts) ≡ length parts
+pub length-ends_of : (parts : List (List (ℕ × ℤ))) → length (ends_of parts) ≡ length parts
 length-ends_of parts = length-map parts (λ (p : List (ℕ × ℤ)). length p)
 
-length-behind : (xs ys : List (List (ℕ × ℤ))) → length ys ≡ length xs → length (behind xs ys) ≡ length xs
+pub length-behind : (xs ys : List (List (ℕ × ℤ))) → length ys ≡ length xs → length (behind xs ys) ≡ length xs
 length-behind xs ys same = omega (arith, length-map (zip xs ys) (λ (p : List (ℕ × ℤ) × List (ℕ × ℤ)). p.0 ++ p.1), length-zip xs ys, same)
 
 -- ---- what stands for a log
 
-values_of_log : (base log more : List (List (ℕ × ℤ))) (places : List ℕ) (o : ℕ) → StandsFor base log → ArePlacesBehind base more places → value_of (behind base more) places o ≡ value_of (behind log more) (moved (ends_of base) (ends_of log) places) o
+-- behind a base the values are those of the log
+pub values_of_log : (base log more : List (List (ℕ × ℤ))) (places : List ℕ) (o : ℕ) → StandsFor base log → ArePlacesBehind base more places → value_of (behind base more) places o ≡ value_of (behind log more) (moved (ends_of base) (ends_of log) places) o
 values_of_log base log more places o stands at =
     let many : length places ≡ length (ends_of base) = omega (arith, at.within.shape, length-behind base more at.shape, length-ends_of base) in
     let steps = beyond (ends_of base) places in
@@ -91,6 +88,55 @@ values_of_log base log more places o stands at =
     ap (λ (ps : List ℕ). value_of (behind log more) ps o) (moved_further (ends_of base) (ends_of log) places)
     ∙ value_behind log more steps o (omega (arith, at.shape, stands.shape)) (omega (arith, long, stands.shape)) in
     here ∙ ap (λ (z : ℤ). z +ℤ value_of more steps o) (stands.sums o) ∙ sym there
+
+-- ---- what stands for it later
+
+pub reached_value : (parts : List (List (ℕ × ℤ))) (places : List ℕ) (o : ℕ) → value_of (reached parts places) (ends_of (reached parts places)) o ≡ value_of parts places o
+reached_value [] places o = refl
+reached_value (part ∷ parts) [] o = refl
+reached_value (part ∷ parts) (place ∷ places) o =
+    omega (
+      arith,
+      ints,
+      int_sum-cons (sum_for o (take (length (take place part)) (take place part))) (map (at_place o) (zip (reached parts places) (ends_of (reached parts places)))),
+      int_sum-cons (sum_for o (take place part)) (map (at_place o) (zip parts places)),
+      ap (λ (cs : List (ℕ × ℤ)). sum_for o cs) (take-length (take place part)),
+      reached_value parts places o,
+    )
+
+ends_behind : (xs ys : List (List (ℕ × ℤ))) → ends_of (behind xs ys) ≡ further (ends_of xs) (ends_of ys)
+ends_behind [] ys = refl
+ends_behind (x ∷ xs) [] = refl
+ends_behind (x ∷ xs) (y ∷ ys) = ap₂ (λ (n : ℕ) (ns : List ℕ). n ∷ ns) (length-append x y) (ends_behind xs ys)
+
+pub length-reached : (parts : List (List (ℕ × ℤ))) (places : List ℕ) → length places ≡ length parts → length (reached parts places) ≡ length parts
+length-reached parts places same = omega (arith, length-map (zip parts places) (λ (p : List (ℕ × ℤ) × ℕ). take p.1 p.0), length-zip parts places, same)
+
+length-further : (places steps : List ℕ) → length steps ≡ length places → length (further places steps) ≡ length places
+length-further places steps same = omega (arith, length-map (zip places steps) (λ (p : ℕ × ℕ). p.0 + p.1), length-zip places steps, same)
+
+-- what stands for the session later stands for the log with what was reached behind it
+pub goes_on : (base log more next : List (List (ℕ × ℤ))) (steps : List ℕ) → StandsFor base log → length more ≡ length base → length steps ≡ length base → StandsFor next (reached (behind base more) (further (ends_of base) steps)) → StandsFor next (behind log (reached more steps))
+goes_on base log more next steps stands same long later =
+    let later_log = reached more steps in
+    let many : length later_log ≡ length log = omega (arith, length-reached more steps (omega (arith, same, long)), same, stands.shape) in
+    record {
+      shape = omega (
+        arith,
+        later.shape,
+        length-reached (behind base more) (further (ends_of base) steps) (omega (arith, length-further (ends_of base) steps (omega (arith, long, length-ends_of base)), length-ends_of base, length-behind base more same)),
+        length-behind base more same,
+        length-behind log later_log many,
+        stands.shape,
+      );
+      sums = λ o.
+          later.sums o
+          ∙ reached_value (behind base more) (further (ends_of base) steps) o
+          ∙ value_behind base more steps o same long
+          ∙ ap₂ (λ (x y : ℤ). x +ℤ y) (stands.sums o) (sym (reached_value more steps o))
+          ∙ sym (value_behind log later_log (ends_of later_log) o many (omega (arith, many, length-ends_of later_log)))
+          ∙ ap (λ (ps : List ℕ). value_of (behind log later_log) ps o) (sym (ends_behind log later_log));
+    }
 
 -- ---- all monitors
 
@@ -171,6 +217,7 @@ get_or-all_behind (x ∷ xs) [] j same within = absurd (omega (arith, same))
 get_or-all_behind (x ∷ xs) (y ∷ ys) zero same within = refl
 get_or-all_behind (x ∷ xs) (y ∷ ys) (suc j) same within = get_or-all_behind xs ys j (omega (arith, same)) (omega (arith, within))
 
+-- a set that is valid over bases is valid over the logs
 pub valid_moves : (bases logs more : List (List (List (ℕ × ℤ)))) (n k : ℕ) (epsilon : ℤ) (cut : List (List ℕ)) (set : List ℕ) → StandForLogs bases logs more → ((j i : ℕ) → get_or (ends_of (get_or bases j [])) i 0 ≤ get_or (get_or cut j []) i 0) → IsValid (all_behind bases more) n k epsilon cut set → IsValid (all_behind logs more) n k epsilon (cut_moved bases logs cut) set
 valid_moves bases logs more n k epsilon cut set stand below valid =
     let b : length more ≡ length bases = omega (arith, stand.count, stand.count_more) in
@@ -198,6 +245,7 @@ valid_moves bases logs more n k epsilon cut set stand below valid =
 
 -- ---- printed places
 
+-- a moved place is origin and place
 pub moved_place : (from counts places : List ℕ) (i : ℕ) → length counts ≡ length from → length places ≡ length from → i < length from → get_or from i 0 ≤ get_or places i 0 → pos (get_or (moved from counts places) i 0) ≡ (pos (get_or counts i 0) -ℤ pos (get_or from i 0)) +ℤ pos (get_or places i 0)
 moved_place [] counts places i a b within low = absurd (omega (arith, within))
 moved_place (f ∷ from) [] places i a b within low = absurd (omega (arith, a))

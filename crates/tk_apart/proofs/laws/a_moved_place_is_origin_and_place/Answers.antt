@@ -1,5 +1,0 @@
-use Rattle.tk_apart.proofs.CompactingLemmas.{moved_place}
-use Rattle.tk_apart.proofs.laws.a_moved_place_is_origin_and_place.Goals as goal
-
-pub returns : goal.returns
-returns c = moved_place

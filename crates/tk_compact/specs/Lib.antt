@@ -1,0 +1,5 @@
+pub mod Standing
+pub mod Compacted
+pub mod Room
+pub mod Anew
+pub mod Begun
