@@ -1,0 +1,12 @@
+pub mod First
+pub mod Front
+pub mod Line
+pub mod LineBuffer
+pub mod Lines
+pub mod MapStreams
+pub mod Plain
+pub mod Records
+pub mod Source
+pub mod Taking
+pub mod TrueStreams
+pub mod Turn

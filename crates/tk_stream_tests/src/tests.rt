@@ -1,0 +1,4 @@
+//! What no clause says, and each call once.
+
+mod opening;
+mod reading;
