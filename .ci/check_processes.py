@@ -1,15 +1,19 @@
 """Runs `topk coordinate` and `topk monitor` as processes of their own on 127.0.0.1, and judges every set that is printed.
 
 The folder examples/three_processes has the words of each process; what stands for the address is filled in. A set is right where
-plain sums over the places printed beside it make it so. Besides: a monitor over its standard input, one that begins first, one
-of another run, of another catalogue, or that nobody answers; and strangers, who change nothing.
+plain sums over the places printed beside it make it so. Besides: monitors fed by pipes at once, whose coordinator is ended and
+begun anew; one that begins first, one of another run, of another catalogue, or that nobody answers; lines that are no records;
+and strangers, who change nothing.
 """
+import os
 import pathlib
+import random
 import socket
 import struct
 import subprocess
 import sys
 import tempfile
+import threading
 import time
 
 import check_examples as plain
@@ -18,6 +22,9 @@ ROOT = pathlib.Path(__file__).resolve().parent.parent
 FOLDER = ROOT / "examples" / "three_processes"
 PROGRAM = ROOT / "crates" / "topk" / "out" / "topk"
 LIMIT = 60
+
+# How many monitors the made streams have.
+MONITORS = 8
 
 
 def words(name, address):
@@ -70,7 +77,8 @@ def free_address():
 def judged(lines):
     """Each set of a coordinator is right over its cut, and the last one is final, over the whole logs."""
     names = plain.catalogue_of(FOLDER, {"objects": "objects.csv"})
-    logs = {1: [plain.changes_of(FOLDER / "one.csv")], 2: [plain.changes_of(FOLDER / "two.csv")]}
+    closing = ("a", 0)
+    logs = {1: [[*plain.changes_of(FOLDER / "one.csv"), closing]], 2: [[*plain.changes_of(FOLDER / "two.csv"), closing]]}
     return plain.check_sets("three_processes", names, logs, {"k": "1", "epsilon": "0"}, lines, {})
 
 
@@ -82,8 +90,9 @@ def in_order(before=lambda address: None):
     monitors = [Process(words(name, address)) for name in ("monitor_1", "monitor_2")]
     told = [monitor.ended(0) for monitor in monitors]
     lines = coordinator.ended(0)
-    assert {"joined 1 at 0", "joined 2 at 0"} < set(lines), f"not joined: {lines}"
-    assert all(one[0] == "joined 1 at 0" and one[-1] == "ended at 1 skipped 0" for one in told), f"monitors: {told}"
+    joined = [line.split(" at ")[0] for line in lines if line.startswith("joined")]
+    assert sorted(joined) == ["joined 1", "joined 2"], f"not joined: {lines}"
+    assert all(one[0].startswith("joined 1 at ") and one[-1] == "ended at 2 skipped 0" for one in told), f"monitors: {told}"
     return judged(lines)
 
 
@@ -107,8 +116,98 @@ def alone():
     coordinator = Process([*asked, "--sessions", "1"])
     monitor = Process([*words("monitor_1", coordinator.address())[:-1], "-"], "a,5\nb,3\n")
     told, lines = monitor.ended(0), coordinator.ended(0)
-    assert told == ["joined 1 at 0", "ended at 2 skipped 0"], f"the monitor: {told}"
-    assert lines[-1].startswith("final ") and lines[-1].endswith(" cut 1:2 members a"), f"the last set: {lines}"
+    assert told[-1] == "ended at 3 skipped 0", f"the monitor: {told}"
+    assert lines[-1].startswith("final ") and lines[-1].endswith(" cut 1:3 members a"), f"the last set: {lines}"
+
+
+def made_streams(pick, count):
+    """Streams of random length over six objects, each behind the monitor that it is of."""
+    names = [f"o{number}" for number in range(1, 7)]
+    streams = {}
+    for number in range(count):
+        records = [(pick.choice(names), pick.randrange(-5, 20)) for _ in range(pick.randrange(800))]
+        streams.setdefault(1 + number % MONITORS, []).append(records)
+    return names, streams
+
+
+def feed(path, records, halved):
+    """Gives a pipe its records in pieces, the second half of them once it may."""
+    with open(path, "w") as pipe:
+        for begin in range(0, len(records), 50):
+            if begin > len(records) // 2:
+                halved.wait(LIMIT)
+            pipe.write("".join(f"{name},{by}\n" for name, by in records[begin:begin + 50]))
+            pipe.flush()
+            time.sleep(0.002)
+        halved.wait(LIMIT)
+
+
+def is_right_over(names, streams, lines, k, epsilon):
+    """Each set of some sessions is right over its cut of the true logs, in which a closing record is nothing."""
+    logs = {monitor: [[*records, (names[0], 0)] for records in some] for monitor, some in streams.items()}
+    for line in lines:
+        fields = line.split()
+        if fields[0] in ("set", "final"):
+            cut, members = plain.cut_of(fields[3:fields.index("members")]), fields[fields.index("members") + 1:]
+            if not plain.is_right(names, plain.totals_at(names, logs, cut), members, k, epsilon):
+                return f"not within epsilon: {line}"
+    return None
+
+
+def fed_at_once():
+    """Eight monitors over twenty streams that come by pipes at once; the first coordinator is ended, and another goes on."""
+    names, streams = made_streams(random.Random(7), 20)
+    halved = threading.Event()
+    with tempfile.TemporaryDirectory() as folder:
+        room = pathlib.Path(folder)
+        (room / "objects.csv").write_text("".join(f"{name}\n" for name in names))
+        address = free_address()
+        asked = ["coordinate", "--monitors", str(MONITORS), "--k", "2", "--epsilon", "3", "--objects", str(room / "objects.csv"),
+                 "--run", "9", "--listen", address]
+        first = Process(asked)
+        first.address()
+        monitors, feeders = [], []
+        for monitor, some in streams.items():
+            pipes = [room / f"{monitor}_{number}" for number in range(len(some))]
+            for pipe in pipes:
+                os.mkfifo(pipe)
+            feeders += [threading.Thread(target=feed, args=(*item, halved)) for item in zip(pipes, some)]
+            monitors.append(Process(["monitor", "--number", str(monitor), "--objects", str(room / "objects.csv"), "--run", "9",
+                                     "--connect", address, "--pause", "20", *map(str, pipes)]))
+        for feeder in feeders:
+            feeder.start()
+        time.sleep(0.5)
+        lines = first.killed()
+        halved.set()
+        second = Process(asked)
+        for monitor in monitors:
+            monitor.ended(0)
+        for feeder in feeders:
+            feeder.join()
+        ends = second.ended(0)
+    whole = {monitor: [len(records) + 1 for records in some] for monitor, some in streams.items()}
+    last = ends[-1].split()
+    assert last[0] == "final" and plain.cut_of(last[3:last.index("members")]) == whole, f"the last set: {ends[-1]}"
+    return is_right_over(names, streams, [*lines, *ends], 2, 3)
+
+
+def odd_lines():
+    """A line that is no record ends the monitor, with its number, or is passed over and counted."""
+    coordinator = Process([*words("coordinate", "127.0.0.1:0"), "--sessions", "1"])
+    address = coordinator.address()
+    text = 'a,5\r\n\n"b",3\nc,1\nb;2\na,x\nb,-1'
+    monitor = Process([*words("monitor_1", address)[:-1], "-"], text)
+    monitor.ended(4)
+    monitor.fault.seek(0)
+    assert monitor.fault.read() == "topk: -: line 4: unknown object\n", "a bad line is told otherwise"
+    coordinator.killed()
+    asked = words("coordinate", "127.0.0.1:0")
+    asked[asked.index("--monitors") + 1] = "1"
+    coordinator = Process(asked)
+    monitor = Process([*words("monitor_1", coordinator.address())[:-1], "--skip-bad", "yes", "-"], text)
+    told, lines = monitor.ended(0), coordinator.ended(0)
+    assert told[-1] == "ended at 4 skipped 3", f"the monitor: {told}"
+    assert lines[-1].endswith(" cut 1:4 members a"), f"the last set: {lines}"
 
 
 def others_are_strangers():
@@ -159,7 +258,7 @@ def main():
     if not PROGRAM.exists():
         print("processes: the program is not built")
         return 1
-    for case in (in_order, monitors_first, alone, others_are_strangers, lambda: in_order(knock)):
+    for case in (in_order, monitors_first, alone, fed_at_once, odd_lines, others_are_strangers, lambda: in_order(knock)):
         fault = case()
         if fault:
             print(f"processes: {fault}")

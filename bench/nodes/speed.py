@@ -42,15 +42,15 @@ def fed(room, words):
 
 
 def by_monitor(program, room, records):
-    """The seconds of a monitor, whose coordinator prints at most the first set and the final one."""
+    """The seconds of a monitor, whose coordinator prints one set of members alone: once a session, and at the end."""
     coordinator = subprocess.Popen(
         [program, "coordinate", "--monitors", "1", "--k", "10", "--epsilon", "1000000", "--objects", "objects.csv", "--run", "1",
          "--listen", "127.0.0.1:0"], cwd=room, stdout=subprocess.PIPE, text=True)
     address = coordinator.stdout.readline().split()[1]
     seconds, told = fed(room, [program, "monitor", "--number", "1", "--objects", "objects.csv", "--run", "1", "--connect", address, "-"])
     lines, _ = coordinator.communicate(timeout=SECONDS)
-    sets = [line for line in lines.splitlines() if line.startswith(("set", "final"))]
-    if f"ended at {records + 1} " not in told or len(sets) > 2 or f" cut 1:{records + 1} " not in sets[-1]:
+    sets = [line.partition(" members ") for line in lines.splitlines() if line.startswith(("set", "final"))]
+    if f"ended at {records + 1} " not in told or len({members for _, _, members in sets}) > 1 or f" cut 1:{records + 1}" not in sets[-1][0]:
         raise SystemExit(f"another run than was meant: {told} {lines}")
     return seconds
 

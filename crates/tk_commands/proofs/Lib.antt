@@ -2,7 +2,6 @@ mod MakingLemmas
 mod MultiLemmas
 mod NumberedLemmas
 mod OtherLemmas
-mod ProcessLemmas
 mod RunMarkExamples
 mod RunMarkLemmas
 mod SessionLemmas

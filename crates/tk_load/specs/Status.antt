@@ -27,6 +27,7 @@ abbrev pub kind_text : InputKind → List ℕ
 kind_text k.Empty = codes "no object"
 kind_text k.TooMany = codes "too many records"
 kind_text k.TooLong = codes "the file is too long"
+kind_text k.LineTooLong = codes "the line is too long"
 kind_text k.BadRow = codes "wrong number of fields"
 kind_text k.BadName = codes "bad name"
 kind_text k.Repeated = codes "repeated name"

@@ -80,7 +80,10 @@ impl From<NoMemory> for Status {
 pub enum InputKind {
     Empty,
     TooMany,
+    /// The file has over 64 MiB.
     TooLong,
+    /// A line of a stream has over 65,536 bytes without its end.
+    LineTooLong,
     BadRow,
     BadName,
     Repeated,

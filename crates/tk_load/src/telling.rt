@@ -32,6 +32,7 @@ fn push_kind(line: &mut Vec<u8>, kind: InputKind) -> Result<(), AllocError>
         InputKind::Empty => line.extend_from_slice(b"no object"),
         InputKind::TooMany => line.extend_from_slice(b"too many records"),
         InputKind::TooLong => line.extend_from_slice(b"the file is too long"),
+        InputKind::LineTooLong => line.extend_from_slice(b"the line is too long"),
         InputKind::BadRow => line.extend_from_slice(b"wrong number of fields"),
         InputKind::BadName => line.extend_from_slice(b"bad name"),
         InputKind::Repeated => line.extend_from_slice(b"repeated name"),

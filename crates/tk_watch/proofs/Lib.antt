@@ -1,3 +1,10 @@
 mod CourseLemmas
+mod JoinLemmas
+mod NamedLemmas
 mod PassingLemmas
+mod RoomLemmas
 mod SinkLemmas
+mod ToldLemmas
+mod TurningLemmas
+mod BegunLemmas
+mod FreshLemmas

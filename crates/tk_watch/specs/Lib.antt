@@ -1,4 +1,9 @@
+pub mod Connections
 pub mod Leaving
+pub mod Names
 pub mod Passing
-pub mod Watching
-pub use Rattle.tk_serve.specs.Serving
+pub mod Standing
+pub mod StandingInside
+pub mod Told
+pub mod Turning
+pub mod Watch

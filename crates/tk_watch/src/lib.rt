@@ -1,21 +1,40 @@
-//! A monitor in a process of its own: it dials its coordinator, and begins anew where a connection is lost.
+//! A monitor in a process of its own: it is fed by streams, and begins anew behind what it counted where a connection is lost.
 //!
-//! It promises that what is written is the line of each connection that was made and of each that was left, in order, each
-//! with the cause that its end shows, and of a run that is done that a monitor over the given parts took Stop and is at their
-//! ends. Nothing is promised of time, of turns between threads, or that it returns.
-//! It stands on tk_serve, which serves each connection.
+//! It promises that each record that is told counts once, that whenever its lock is got its trail is legal and each stream has
+//! its closing record alone left to raise, or nothing; and that what is written is the line of each connection that was made and
+//! of each that was left, in order, each with the cause that it shows. A run that is done took Stop with all its streams ended.
+//! Nothing is promised of time, of turns between threads, or that it returns.
+//! It stands on tk_port, on tk_compact, behind whose bases it begins anew, and on tk_stream, whose records it counts.
 #![tactic(auto)]
 
-mod beginning;
+mod attended;
+mod attending;
 mod cause;
+mod cell;
+mod fault;
+mod feeding;
 mod lines;
+mod look;
 mod monitoring;
 mod passing;
+mod pausing;
+mod plan;
 mod reaching;
+mod room;
+mod standing;
+mod told;
+mod turned;
 mod verdict;
 mod watch;
+mod wish;
 
+pub use attended::Attended;
 pub use cause::Cause;
+pub use cell::{WatchCell, WatchName, Watched};
+pub use fault::{FeedFault, FeedKind};
 pub use monitoring::monitor;
+pub use plan::Plan;
+pub use told::Told;
+pub use turned::Turned;
 pub use verdict::Verdict;
 pub use watch::Watch;

@@ -2,15 +2,12 @@
 
 ghost use Rattle.std.specs.Prelude.{◌≡◌, ◌++◌, [], IfOk, OnOk, codes, decimal, if◌then◌else◌};
 ghost use Rattle.tk_journal.specs.Line.{places_text};
-ghost use Rattle.tk_trail.specs.Readings.{places_at};
-ghost use Rattle.tk_watch.specs.Watching.{ended_text, joined_text, left_text};
+ghost use Rattle.tk_watch.specs.Connections.{ended_text, joined_text, left_text};
 
-use crate::beginning::starts;
 use crate::cause::Cause;
 use itoa::{Buffer, Integer};
 use std::alloc::{AllocError, Global};
-use tk_base::{NoMemory, Places};
-use tk_monitor::Monitor;
+use tk_base::NoMemory;
 
 fn push_number<I: Integer>(line: &mut Vec<u8>, number: I) -> Result<(), AllocError>
     ensures { OnOk result (line.new.items ≡ line.old.items ++ I.text number) }
@@ -19,34 +16,33 @@ fn push_number<I: Integer>(line: &mut Vec<u8>, number: I) -> Result<(), AllocErr
     line.extend_from_slice(buffer.format(number).as_bytes())
 }
 
-/// A place, which may follow another.
-fn push_place(line: &mut Vec<u8>, place: u32, follows: bool) -> Result<(), AllocError>
-    ensures { OnOk result (line.new.items ≡ line.old.items ++ ((if follows then codes "," else []) ++ decimal place)) }
+/// A count, which may follow another.
+fn push_count(line: &mut Vec<u8>, count: u64, follows: bool) -> Result<(), AllocError>
+    ensures { OnOk result (line.new.items ≡ line.old.items ++ ((if follows then codes "," else []) ++ decimal count)) }
 {
     if follows {
         line.extend_from_slice(b",")?;
     }
-    push_number(line, place)
+    push_number(line, count)
 }
 
-fn push_places(line: &mut Vec<u8>, places: &Places) -> Result<(), AllocError>
-    ensures { OnOk result (line.new.items ≡ line.old.items ++ places_text places.now) }
+fn push_counts(line: &mut Vec<u8>, counts: &[u64]) -> Result<(), AllocError>
+    ensures { OnOk result (line.new.items ≡ line.old.items ++ places_text counts.now) }
 {
-    for i in 0..places.len() {
-        push_place(line, places.at(i), i > 0)?;
+    for i in 0..counts.len() {
+        push_count(line, counts[i], i > 0)?;
     }
     Ok(())
 }
 
-/// The line of a connection that was made, by a monitor with so many streams.
-pub(crate) fn joined_line(alloc: Global, streams: usize, number: u64) -> Result<Vec<u8>, NoMemory>
-    ensures { IfOk result (λ line. line.items ≡ joined_text streams number) }
+/// The line of a connection that was made.
+pub(crate) fn joined_line(alloc: Global, number: u64, counts: &[u64]) -> Result<Vec<u8>, NoMemory>
+    ensures { IfOk result (λ line. line.items ≡ joined_text number counts.now) }
 {
-    let places = starts(alloc, streams)?;
     let mut line = Vec::from_slice(alloc, b"joined ")?;
     push_number(&mut line, number)?;
     line.extend_from_slice(b" at ")?;
-    push_places(&mut line, &places)?;
+    push_counts(&mut line, counts)?;
     line.extend_from_slice(b"\n")?;
     Ok(line)
 }
@@ -64,12 +60,13 @@ pub(crate) fn left_line(alloc: Global, number: u64, cause: Cause) -> Result<Vec<
 }
 
 /// The last line, of a monitor that took Stop.
-pub(crate) fn ended_line(alloc: Global, monitor: &Monitor) -> Result<Vec<u8>, NoMemory>
-    ensures { IfOk result (λ line. line.items ≡ ended_text (places_at monitor.now.setup monitor.now.trail)) }
+pub(crate) fn ended_line(alloc: Global, counts: &[u64], skipped: u64) -> Result<Vec<u8>, NoMemory>
+    ensures { IfOk result (λ line. line.items ≡ ended_text counts.now skipped) }
 {
-    let places = monitor.places()?;
     let mut line = Vec::from_slice(alloc, b"ended at ")?;
-    push_places(&mut line, &places)?;
-    line.extend_from_slice(b" skipped 0\n")?;
+    push_counts(&mut line, counts)?;
+    line.extend_from_slice(b" skipped ")?;
+    push_number(&mut line, skipped)?;
+    line.extend_from_slice(b"\n")?;
     Ok(line)
 }

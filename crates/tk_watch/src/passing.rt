@@ -1,26 +1,24 @@
-ghost use Rattle.std.specs.Prelude.{◌≡◌, false, IfErr, OnOk, Some};
+//! One connection: its lines, and what its serving comes to.
+
+ghost use Rattle.std.specs.Prelude.{◌≡◌, false, Err, IfErr, IfOk, OnOk};
 ghost use Rattle.tk_input.specs.Sink.{Grows};
-ghost use Rattle.tk_serve.specs.Serving.{why_of};
-ghost use Rattle.tk_trail.specs.Legal.{IsLegal};
-ghost use Rattle.tk_trail.specs.Readings.{places_at};
 ghost use Rattle.tk_wire.specs.Net.{IsNew};
+ghost use Rattle.tk_watch.specs.Connections.{Ends, HasJoined, ended_text, joined_text, left_text};
 ghost use Rattle.tk_watch.specs.Passing.{Passes, PassesBehind, Stops, faults_passed, faults_stopped};
-ghost use Rattle.tk_watch.specs.Watching.{IsWatch, ended_text, joined_text, left_text, setup_of};
 ghost use Rattle.tk_watch.specs.declared.verdict.Verdict.TheVariants.{LinkFault as Unlinked};
 
-use crate::beginning::begin;
+use crate::attended::Attended;
+use crate::attending::attend;
 use crate::cause::Cause;
+use crate::cell::{WatchCell, WatchName};
+use crate::feeding::Shared;
 use crate::lines::{ended_line, joined_line, left_line};
 use crate::verdict::Verdict;
-use crate::watch::Watch;
 use std::alloc::Global;
 use std::marker::{Send, Sync};
 use std::sync::Wait;
-use std::thread::Threads;
 use tk_base::NoMemory;
 use tk_input::{PutFailed, Sink};
-use tk_monitor::Monitor;
-use tk_serve::{Alarm, OpenGate, Served, serve};
 use tk_wire::{Bell, Dialed, Rest, Wire};
 
 /// Writes a line.
@@ -40,15 +38,15 @@ fn put_line<O: Sink>(line: Vec<u8>, out: &mut O) -> Result<(), Verdict>
 /// Writes the line of a connection that was made.
 fn tell_joined<O: Sink>(
     alloc: Global,
-    streams: usize,
     number: u64,
+    counts: &[u64],
     out: &mut O,
 ) -> Result<(), Verdict>
-    ensures ok { OnOk result (Grows (O.written out.old) (O.written out.new) (joined_text streams number)) }
-    ensures err { IfErr result (λ v. Stops v (O.written out.old) (O.written out.new) (joined_text streams number)) }
+    ensures ok { OnOk result (Grows (O.written out.old) (O.written out.new) (joined_text number counts.now)) }
+    ensures err { IfErr result (λ v. Stops v (O.written out.old) (O.written out.new) (joined_text number counts.now)) }
     ensures counted { O.fault_count out.new ≡ faults_stopped result (O.fault_count out.old) }
 {
-    match joined_line(alloc, streams, number) {
+    match joined_line(alloc, number, counts) {
         Ok(line) => put_line(line, out),
         Err(NoMemory) => Err(Verdict::NoMemory),
     }
@@ -67,78 +65,122 @@ fn tell_left<O: Sink>(alloc: Global, number: u64, cause: Cause, out: &mut O) -> 
 }
 
 /// Writes the last line, of a monitor that took Stop.
-fn tell_ended<O: Sink>(alloc: Global, monitor: &Monitor, out: &mut O) -> Result<(), Verdict>
-    ensures ok { OnOk result (Grows (O.written out.old) (O.written out.new)
-        (ended_text (places_at monitor.now.setup monitor.now.trail))) }
-    ensures err { IfErr result (λ v. Stops v (O.written out.old) (O.written out.new)
-        (ended_text (places_at monitor.now.setup monitor.now.trail))) }
+fn tell_ended<O: Sink>(
+    alloc: Global,
+    counts: &[u64],
+    skipped: u64,
+    out: &mut O,
+) -> Result<(), Verdict>
+    ensures ok { OnOk result (Grows (O.written out.old) (O.written out.new) (ended_text counts.now skipped)) }
+    ensures err { IfErr result (λ v. Stops v (O.written out.old) (O.written out.new) (ended_text counts.now skipped)) }
     ensures counted { O.fault_count out.new ≡ faults_stopped result (O.fault_count out.old) }
 {
-    match ended_line(alloc, monitor) {
+    match ended_line(alloc, counts, skipped) {
         Ok(line) => put_line(line, out),
         Err(NoMemory) => Err(Verdict::NoMemory),
     }
 }
 
-/// Writes the line of a connection that ended so, behind the line that it was made.
-fn tell<W: Wire, Q: Rest, O: Sink>(
+/// Writes the line of a connection that is over so, behind the line that it was made.
+fn tell_over<W: Wire, N: WatchName, O: Sink>(
     alloc: Global,
-    watch: &Watch,
     number: u64,
-    served: &Served<W, Q>,
+    over: Attended,
     out: &mut O,
-) -> Option<Verdict>
-    requires setup { served.now.end.monitor.setup ≡ setup_of watch.now }
-    requires legal { IsLegal (setup_of watch.now) served.now.end.monitor.trail }
-    requires why { served.now.why ≡ why_of served.now.end (W.counts served.now.link) (Q.fault_count served.now.rest) }
-    ensures passes { PassesBehind (setup_of watch.now) number result (O.written out.old) (O.written out.new) }
-    ensures linked { result ≡ Some Unlinked → ⊥ }
+) -> Result<Cause, Verdict>
+    requires { Ends W N.named over }
+    ensures passes { PassesBehind W N.named number result (O.written out.old) (O.written out.new) }
+    ensures linked { result ≡ Err Unlinked → ⊥ }
     ensures counted { O.fault_count out.new ≡ faults_passed result (O.fault_count out.old) }
 {
-    match Cause::of(served.why, &served.end.odd) {
-        Some(cause) => match tell_left(alloc, number, cause, out) {
-            Ok(()) => None,
-            Err(verdict) => Some(verdict),
+    match over {
+        Attended::Left(cause) => match tell_left(alloc, number, cause, out) {
+            Ok(()) => Ok(cause),
+            Err(verdict) => Err(verdict),
         },
-        None => match tell_ended(alloc, &served.end.monitor, out) {
-            Ok(()) => Some(Verdict::Done),
-            Err(verdict) => Some(verdict),
-        },
+        Attended::Stopped { counts, skipped } => {
+            let told = tell_ended(alloc, counts.as_slice(), skipped, out);
+            drop(counts);
+            match told {
+                Ok(()) => Err(Verdict::Done),
+                Err(verdict) => Err(verdict),
+            }
+        }
+        Attended::Fed(fault) => Err(Verdict::Fed(fault)),
+        Attended::More => unreachable!(),
+        Attended::Quiet => unreachable!(),
     }
 }
 
-/// One connection, over a link that was dialed: its line, the monitor served to its end, and the line of that.
+/// Serves a connection whose line was written, and leaves it.
+fn serve<R: Wait, W: Wire + Drop, B: Bell + Drop, N: WatchName, Q: Rest, O: Sink>(
+    rt: &R,
+    alloc: Global,
+    shared: &Shared<W, B, N>,
+    number: u64,
+    rest: &mut Q,
+    out: &mut O,
+) -> Result<Cause, Verdict>
+    ensures passes { PassesBehind W N.named number result (O.written out.old) (O.written out.new) }
+    ensures linked { result ≡ Err Unlinked → ⊥ }
+    ensures counted { O.fault_count out.new ≡ faults_passed result (O.fault_count out.old) }
+{
+    let attended = attend(rt, alloc, &shared.cell, rest, &shared.wish);
+    shared.cell.lock(rt).leave();
+    match attended {
+        Ok(over) => tell_over::<W, N, O>(alloc, number, over, out),
+        Err(NoMemory) => Err(Verdict::NoMemory),
+    }
+}
+
+/// Begins a connection under the lock, and answers how many records each stream gave.
+fn begin<R: Wait, L: Dialed + Drop, B: Bell + Drop, N: WatchName>(
+    rt: &R,
+    alloc: Global,
+    cell: &WatchCell<L, B, N>,
+    link: L,
+    bell: B,
+) -> Result<Vec<u64>, NoMemory>
+    requires new { IsNew L.Wire.tells (L.Wire.traffic link) (L.Wire.counts link) }
+    requires once { L.greeted link ≡ false }
+    ensures { IfOk result (λ counts. HasJoined L N.named counts.items) }
+{
+    cell.lock(rt).begin(alloc, link, bell)
+}
+
+/// One connection, over a link that was dialed: its line, the connection served until it is over, and the line of that.
 pub(crate) fn pass<
-    R: Threads + Wait + Sync,
+    R: Wait,
     L: Dialed + Send + Drop,
     Q: Rest + Send + Drop,
     B: Bell + Send + Sync + Drop,
+    N: WatchName,
     O: Sink,
 >(
     rt: &R,
     alloc: Global,
-    watch: &Watch,
+    shared: &Shared<L, B, N>,
     number: u64,
     made: (L, Q, B),
     out: &mut O,
-) -> Option<Verdict>
-    requires watch { IsWatch watch.now }
+) -> Result<Cause, Verdict>
     requires new { IsNew L.Wire.tells (L.Wire.traffic made.0) (L.Wire.counts made.0) }
     requires once { L.greeted made.0 ≡ false }
-    ensures passes { Passes (setup_of watch.now) number result (O.written out.old) (O.written out.new) }
-    ensures linked { result ≡ Some Unlinked → ⊥ }
+    ensures passes { Passes L N.named number result (O.written out.old) (O.written out.new) }
+    ensures linked { result ≡ Err Unlinked → ⊥ }
     ensures counted { O.fault_count out.new ≡ faults_passed result (O.fault_count out.old) }
 {
     let (link, rest, bell) = made;
-    let Ok(port) = begin(alloc, watch, link) else {
-        return Some(Verdict::NoMemory);
+    let Ok(counts) = begin(rt, alloc, &shared.cell, link, bell) else {
+        drop(rest);
+        return Err(Verdict::NoMemory);
     };
-    if let Err(verdict) = tell_joined(alloc, watch.parts.len(), number, out) {
-        drop(port);
-        return Some(verdict);
+    let told = tell_joined(alloc, number, counts.as_slice(), out);
+    drop(counts);
+    if let Err(verdict) = told {
+        drop(rest);
+        return Err(verdict);
     }
-    let served = serve(rt, port, rest, &bell, &OpenGate, &Alarm::new());
-    let told = tell(alloc, watch, number, &served, out);
-    drop(served);
-    told
+    let mut rest = rest;
+    serve(rt, alloc, shared, number, &mut rest, out)
 }

@@ -1,20 +1,18 @@
+//! How a coordinator is reached.
+
 ghost use Rattle.std.specs.Prelude.{◌≡◌, false, true, IfErr, IfOk, IsSome};
 ghost use Rattle.tk_wire.specs.Net.{IsNew};
 ghost use Rattle.tk_watch.specs.Passing.{IsUnreached};
 ghost use Rattle.tk_watch.specs.declared.verdict.Verdict.TheVariants.{LinkFault as Unlinked};
 
+use crate::cell::{WatchCell, WatchName};
+use crate::pausing::pause;
+use crate::plan::Plan;
 use crate::verdict::Verdict;
-use crate::watch::Watch;
 use std::sync::Wait;
-use std::thread;
-use std::time::{Clock, Duration};
+use std::time::Clock;
 use tk_base::NoMemory;
-use tk_wire::Dialer;
-
-/// Lets the pause pass before the next dial.
-pub(crate) fn pause<R: Clock>(rt: &R, watch: &Watch) {
-    thread::sleep(rt, Duration::from_millis(watch.pause));
-}
+use tk_wire::{Bell, Dialer, Wire};
 
 /// Whether that many dials in a row are enough.
 fn is_enough(tries: Option<u64>, unanswered: u64) -> bool
@@ -26,16 +24,17 @@ fn is_enough(tries: Option<u64>, unanswered: u64) -> bool
     }
 }
 
-/// Dials until somebody answers, or nobody did so often enough.
-pub(crate) fn reach<R: Wait + Clock, D: Dialer>(
+/// Dials until somebody answers, nobody did so often enough, or a stream ends the process.
+pub(crate) fn reach<R: Wait + Clock, W: Wire + Drop, B: Bell + Drop, N: WatchName, D: Dialer>(
     rt: &R,
-    watch: &Watch,
+    cell: &WatchCell<W, B, N>,
+    plan: &Plan,
     dialer: &mut D,
 ) -> Result<(D::Link, D::Rest, D::Bell), Verdict>
     ensures link { IfOk result (λ made. IsNew D.Link.tells (D.Link.traffic made.0) (D.Link.counts made.0)) }
     ensures greeted { IfOk result (λ made. D.Link.greeted made.0 ≡ false) }
     ensures ended { IfErr result IsUnreached }
-    ensures tries { IfErr result (λ verdict. verdict ≡ Unlinked → IsSome watch.now.tries) }
+    ensures tries { IfErr result (λ verdict. verdict ≡ Unlinked → IsSome plan.now.tries) }
 {
     let mut unanswered: u64 = 0;
     for _ in rt.forever() {
@@ -44,10 +43,12 @@ pub(crate) fn reach<R: Wait + Clock, D: Dialer>(
             Ok(None) => unanswered = unanswered.saturating_add(1),
             Err(NoMemory) => return Err(Verdict::NoMemory),
         }
-        if is_enough(watch.tries, unanswered) {
+        if is_enough(plan.tries, unanswered) {
             return Err(Verdict::LinkFault);
         }
-        pause(rt, watch);
+        if let Some(fault) = pause(rt, cell, plan.pause) {
+            return Err(Verdict::Fed(fault));
+        }
     }
     unreachable!()
 }

@@ -91,6 +91,7 @@ asked_monitor w = record {
   frames = w.frames;
   pause = w.pause;
   tries = w.tries;
+  skip_bad = w.skip_bad;
   sources = map (λ s. s.now) w.sources.items;
 }
 

@@ -90,7 +90,7 @@ sources_rule = record (new_rule (codes "source")) { required = true; action = So
 -- `monitor`
 abbrev pub monitor_app : App
 monitor_app =
-    with_rule (with_rule (with_rule (with_rule (with_rule (with_rule (with_rule (with_rule (new_app (codes "monitor"))
+    with_rule (with_rule (with_rule (with_rule (with_rule (with_rule (with_rule (with_rule (with_rule (new_app (codes "monitor"))
     (option_rule (codes "number") true))
     (option_rule (codes "objects") true))
     (option_rule (codes "run") true))
@@ -98,6 +98,7 @@ monitor_app =
     (option_rule (codes "frames") false))
     (option_rule (codes "pause") false))
     (option_rule (codes "tries") false))
+    (option_rule (codes "skip-bad") false))
     sources_rule
 
 -- the command of which help is wished, where one is named

@@ -1,5 +1,5 @@
 -- The forms of the values of words.
-use Rattle.std.specs.Prelude.{ℕ, Bool, count_by, bytes_eq, codes, ◌&&◌, ◌==◌, nat_lt, nat_le, if◌then◌else◌, List, [], ◌∷◌, length, Option, Some, None, option_map, option_and_then}
+use Rattle.std.specs.Prelude.{ℕ, Bool, true, count_by, bytes_eq, codes, ◌&&◌, ◌==◌, nat_lt, nat_le, if◌then◌else◌, List, [], ◌∷◌, length, Option, Some, None, option_map, option_and_then}
 use Rattle.std.specs.List.{after_first, before_first, list_all, position_or_len}
 use Rattle.std.specs.Path.{rsplit_once}
 use Rattle.tk_base.specs.Digits.{digits_in, short_in}
@@ -43,6 +43,10 @@ times_in text = times_from (short_in text)
 -- the version of frames that is named
 abbrev pub version_in : List ℕ → Option ℕ
 version_in text = if bytes_eq text (codes "1") then Some 1 else (if bytes_eq text (codes "2") then Some 2 else None)
+
+-- what is wished by the word yes, the only one that is understood
+abbrev pub yes_in : List ℕ → Option Bool
+yes_in text = if bytes_eq text (codes "yes") then Some true else None
 
 -- a file has one byte or more
 abbrev pub file_in : List ℕ → Option (List ℕ)
@@ -98,9 +102,11 @@ is_input word = bytes_eq word (codes "-")
 abbrev pub inputs_in : List (List ℕ) → ℕ
 inputs_in words = count_by is_input words
 
--- the sources of a monitor: 1 to 8, each a file or the standard input, which is there at most once
+-- words are the sources of a monitor: 1 to 8, each a file or the standard input, which is there at most once
+abbrev pub are_sources : List (List ℕ) → Bool
+are_sources words =
+    nat_lt 0 (length words) && nat_le (length words) 8 && list_all (λ word. nat_lt 0 (length word)) words && nat_le (inputs_in words) 1
+
+-- the sources of a monitor that are written
 abbrev pub sources_in : List (List ℕ) → Option (List (List ℕ))
-sources_in words =
-    if nat_lt 0 (length words) && nat_le (length words) 8 && list_all (λ word. nat_lt 0 (length word)) words && nat_le (inputs_in words) 1
-    then Some words
-    else None
+sources_in words = if are_sources words then Some words else None

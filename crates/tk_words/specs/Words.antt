@@ -1,12 +1,12 @@
 -- What the words of the program ask for.
-use Rattle.std.specs.Prelude.{ℕ, List, [], ◌∷◌, Option, Some, None, option_map, option_and_then, bytes_eq, codes, if◌then◌else◌}
+use Rattle.std.specs.Prelude.{ℕ, Bool, false, List, [], ◌∷◌, Option, Some, None, option_map, option_and_then, bytes_eq, codes, if◌then◌else◌}
 use Rattle.std.specs.Option.{option_map_or}
 use Rattle.clap.specs.Words.{Row, all_of, first_of}
 use Rattle.tk_base.specs.Digits.{digits_in, short_in}
 use Rattle.tk_words.specs.declared.verb.Verb.{Verb}
 use Rattle.tk_words.specs.declared.verb.Verb.TheVariants.{Replay, Generate, Live, Window, Multi, Sessions, Trace, Check, Coordinate, Monitor, Help, Version}
 use Rattle.tk_words.specs.Clap.{app_named, found_in}
-use Rattle.tk_words.specs.Forms.{connect_in, file_in, listen_in, logs_in, milliseconds_in, monitor_in, piece_in, seconds_in, sources_in, times_in, version_in}
+use Rattle.tk_words.specs.Forms.{connect_in, file_in, listen_in, logs_in, milliseconds_in, monitor_in, piece_in, seconds_in, sources_in, times_in, version_in, yes_in}
 
 -- where a run finds its input: the numbers of the settings, the files with their logs' monitors, and the width of the
 -- window over them, where there is one
@@ -64,7 +64,7 @@ pub record CoordinateWords : Type 0 where
   pub sessions : Option ℕ
 
 -- what a monitor asks for that does: its number, the file of its objects, its run, where it connects, the version of its frames,
--- the milliseconds of a pause, after how many tries it gives up, where it does, and its sources
+-- the milliseconds of a pause, after how many tries it gives up, where it does, whether it passes over bad lines, and its sources
 pub record MonitorWords : Type 0 where
   pub number : ℕ
   pub objects : List ℕ
@@ -73,6 +73,7 @@ pub record MonitorWords : Type 0 where
   pub frames : ℕ
   pub pause : ℕ
   pub tries : Option ℕ
+  pub skip_bad : Bool
   pub sources : List (List ℕ)
 
 -- what words ask for: a replay, a generated run, a live run, a replay of several queries, a replay with restarts, the
@@ -209,11 +210,11 @@ coordinate_of rows =
 abbrev pub sources_of : List Row → Option (List (List ℕ))
 sources_of rows = option_and_then sources_in (all_of (codes "source") rows)
 
--- the values of a monitor
+-- the values of a monitor, where bad lines end it if nothing else is said
 abbrev pub monitor_of : List Row → Option MonitorWords
 monitor_of rows =
-    option_and_then (λ sources. option_and_then (λ number. option_and_then (λ objects. option_and_then (λ run. option_and_then (λ connect.
-    option_and_then (λ frames. option_and_then (λ pause. option_map (λ tries. record {
+    option_and_then (λ number. option_and_then (λ objects. option_and_then (λ run. option_and_then (λ connect. option_and_then (λ frames.
+    option_and_then (λ pause. option_and_then (λ tries. option_and_then (λ skip_bad. option_map (λ sources. record {
       number = number;
       objects = objects;
       run = run;
@@ -221,16 +222,18 @@ monitor_of rows =
       frames = frames;
       pause = pause;
       tries = tries;
+      skip_bad = skip_bad;
       sources = sources;
     })
+    (sources_of rows))
+    (optional yes_in (codes "skip-bad") false rows))
     (times_of (codes "tries") rows))
     (optional milliseconds_in (codes "pause") 500 rows))
     (optional version_in (codes "frames") 1 rows))
     (required connect_in (codes "connect") rows))
     (required short_in (codes "run") rows))
     (required file_in (codes "objects") rows))
-    (required monitor_in (codes "number") rows))
-    (sources_of rows)
+    (required monitor_in (codes "number") rows)
 
 -- the command that a word names
 abbrev pub verb_named : List ℕ → Option Verb

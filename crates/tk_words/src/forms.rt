@@ -1,6 +1,6 @@
-ghost use Rattle.std.specs.Prelude.{◌≡◌, ◌⊎◌, ◌≤◌, IfSome, is_some, length, map, nat_lt, option_map, true};
+ghost use Rattle.std.specs.Prelude.{◌≡◌, ◌⊎◌, ◌≤◌, IfSome, length, map, nat_lt, option_map, true};
 ghost use Rattle.std.specs.List.{list_all};
-ghost use Rattle.tk_words.specs.Forms.{connect_in, file_in, from_one_to, inputs_in, listen_in, log_in, milliseconds_in, monitor_in, piece_in, port_in, port_of as port_of_address, seconds_in, sources_in, times_in, version_in};
+ghost use Rattle.tk_words.specs.Forms.{are_sources as are_such_sources, connect_in, file_in, from_one_to, inputs_in, listen_in, log_in, milliseconds_in, monitor_in, piece_in, port_in, port_of as port_of_address, seconds_in, times_in, version_in, yes_in};
 ghost use Rattle.tk_base.specs.Digits.{digits_in, short_in};
 
 use tk_base::{Mon, digits_of, short_of};
@@ -117,6 +117,13 @@ pub fn version(text: &str) -> Option<u8>
     }
 }
 
+/// The word yes, the only one that is understood.
+pub fn yes(text: &str) -> Option<bool>
+    ensures { result ≡ yes_in text.now }
+{
+    if text == "yes" { Some(true) } else { None }
+}
+
 /// The word of a file, which has at least one byte.
 pub fn file(word: &str) -> Option<&str>
     ensures { option_map (λ s. s.now) result ≡ file_in word.now }
@@ -190,10 +197,13 @@ fn inputs(words: &[&str]) -> usize
 
 /// Whether these are the sources of a monitor: 1 to 8 files, of which the standard input is one at most once.
 pub fn are_sources(words: &[&str]) -> bool
-    ensures value { result ≡ is_some (sources_in (map (λ s. s.now) words.now)) }
+    ensures value { result ≡ are_such_sources (map (λ s. s.now) words.now) }
     ensures count { result ≡ true → (1 ≤ length words.now) × (length words.now ≤ 8) }
 {
-    if words.is_empty() || words.len() > MAX_SOURCES {
+    if words.is_empty() {
+        return false;
+    }
+    if words.len() > MAX_SOURCES {
         return false;
     }
     if !are_named(words) {

@@ -192,7 +192,7 @@ topk coordinate --monitors 2 --k 1 --epsilon 0 --objects objects.csv --run 5\n\
 /// The options of `monitor`, and an example.
 const MONITOR: &[u8] = b"\
 topk monitor --number J --objects FILE --run N --connect HOST:PORT\n\
-\x20            [--frames V] [--pause T] [--tries C] SOURCE ..\n\
+\x20            [--frames V] [--pause T] [--tries C] [--skip-bad yes] SOURCE ..\n\
 \n\
 Counts the objects of its sources, and reports to its coordinator.\n\
 \n\
@@ -205,8 +205,9 @@ Counts the objects of its sources, and reports to its coordinator.\n\
 \x20                 60000; 500 if left out\n\
 \x20 --tries C       after how many tries in a row that nobody answered it ends:\n\
 \x20                 1 or more; never if left out\n\
-\x20 SOURCE          a log, 1 to 8 of them: lines as a,5 and a,-5; - is the\n\
-\x20                 standard input, once at most\n\
+\x20 --skip-bad yes  a bad line of a source is passed over and counted\n\
+\x20 SOURCE          a stream, 1 to 8 of them, read line by line until it ends:\n\
+\x20                 lines as a,5 and a,-5; - is the standard input, once at most\n\
 \n\
 topk monitor --number 1 --objects objects.csv --run 5 --connect host:7070 a.csv\n";
 

@@ -1,13 +1,13 @@
-ghost use Rattle.std.specs.Prelude.{◌≡◌, ◌≤◌, Some, None, IfOk, IfSome, IsErrOf, codes, length, map, option_map};
+ghost use Rattle.std.specs.Prelude.{◌≡◌, ◌≤◌, false, Some, None, IfOk, IfSome, IsErrOf, codes, length, map, option_map};
 ghost use Rattle.clap.specs.Words.{app_of, found_of, rows_of};
 ghost use Rattle.tk_words.specs.Asked.{IsWatched, asked_monitor};
 ghost use Rattle.tk_words.specs.Clap.{monitor_app};
-ghost use Rattle.tk_words.specs.Forms.{connect_in, milliseconds_in, monitor_in};
+ghost use Rattle.tk_words.specs.Forms.{connect_in, milliseconds_in, monitor_in, yes_in};
 ghost use Rattle.tk_words.specs.Words.{monitor_of, optional, required, sources_of};
 
 use crate::carriage::frames;
 use crate::fault::WordsFault;
-use crate::forms::{are_sources, connected, milliseconds, monitor};
+use crate::forms::{are_sources, connected, milliseconds, monitor, yes};
 use crate::options::{option, source_words};
 use crate::parsing::{further, named_file, short, times, value};
 use clap::{ArgMatches, Command};
@@ -32,6 +32,8 @@ pub struct Watched<'a> {
     pub pause: u64,
     /// After how many tries in a row that nobody answered it ends, where it does.
     pub tries: Option<u64>,
+    /// Whether bad lines of its sources are passed over and counted.
+    pub skip_bad: bool,
     /// Its streams 1, 2, .. in order, 1 to 8: each a file, or once `-`, the standard input.
     pub sources: Vec<&'a str>,
 }
@@ -48,6 +50,7 @@ pub fn command<'a>(alloc: Global) -> Result<Command<'a>, AllocError>
         .arg(option(alloc, "frames", false))?
         .arg(option(alloc, "pause", false))?
         .arg(option(alloc, "tries", false))?
+        .arg(option(alloc, "skip-bad", false))?
         .arg(source_words(alloc))
 }
 
@@ -77,6 +80,16 @@ fn pause(matches: &ArgMatches<'_>) -> Option<u64>
     }
 }
 
+/// Whether bad lines are passed over, which they are not where nothing is said.
+fn skip_bad(matches: &ArgMatches<'_>) -> Option<bool>
+    ensures { result ≡ optional yes_in (codes "skip-bad") false (rows_of (found_of matches.now)) }
+{
+    match value(matches, "skip-bad") {
+        None => Some(false),
+        Some(text) => yes(text),
+    }
+}
+
 /// The sources that are named.
 fn sources<'a>(alloc: Global, matches: &ArgMatches<'a>) -> Result<Vec<&'a str>, WordsFault>
     ensures ok { IfOk result (λ some. sources_of (rows_of (found_of matches.now)) ≡ Some (map (λ s. s.now) some.items)) }
@@ -92,33 +105,21 @@ fn sources<'a>(alloc: Global, matches: &ArgMatches<'a>) -> Result<Vec<&'a str>, 
     Ok(Vec::from_slice(alloc, words)?)
 }
 
-/// The values of a monitor with these sources.
-fn with_sources<'a>(matches: &ArgMatches<'a>, sources: Vec<&'a str>) -> Option<Watched<'a>>
-    requires { (1 ≤ length sources.items) × (length sources.items ≤ 8) }
-    ensures value { sources_of (rows_of (found_of matches.now)) ≡ Some (map (λ s. s.now) sources.entry.items)
-        → option_map asked_monitor result ≡ monitor_of (rows_of (found_of matches.now)) }
-    ensures range { IfSome result IsWatched }
-{
-    Some(Watched {
-        number: number(matches)?,
-        objects: named_file(matches, "objects")?,
-        run: short(matches, "run")?,
-        connect: coordinator(matches)?,
-        frames: frames(matches)?,
-        pause: pause(matches)?,
-        tries: times(matches, "tries")?,
-        sources,
-    })
-}
-
 /// What they ask for by what clap found.
 pub fn values<'a>(alloc: Global, matches: &ArgMatches<'a>) -> Result<Watched<'a>, WordsFault>
     ensures ok { IfOk result (λ w. monitor_of (rows_of (found_of matches.now)) ≡ Some (asked_monitor w)) }
     ensures usage { IsErrOf result WordsFault.Usage → monitor_of (rows_of (found_of matches.now)) ≡ None }
     ensures range { IfOk result IsWatched }
 {
-    match with_sources(matches, sources(alloc, matches)?) {
-        Some(watched) => Ok(watched),
-        None => Err(WordsFault::Usage),
-    }
+    Ok(Watched {
+        number: number(matches).ok_or(WordsFault::Usage)?,
+        objects: named_file(matches, "objects").ok_or(WordsFault::Usage)?,
+        run: short(matches, "run").ok_or(WordsFault::Usage)?,
+        connect: coordinator(matches).ok_or(WordsFault::Usage)?,
+        frames: frames(matches).ok_or(WordsFault::Usage)?,
+        pause: pause(matches).ok_or(WordsFault::Usage)?,
+        tries: times(matches, "tries").ok_or(WordsFault::Usage)?,
+        skip_bad: skip_bad(matches).ok_or(WordsFault::Usage)?,
+        sources: sources(alloc, matches)?,
+    })
 }

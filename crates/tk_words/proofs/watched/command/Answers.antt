@@ -12,4 +12,5 @@ returns c =
     let frames = c.in_ok-arg-5.ensures.shape c.option-5.ensures.local ∙ ap₂ with_rule connect c.option-5.ensures.rule in
     let pause = c.in_ok-arg-6.ensures.shape c.option-6.ensures.local ∙ ap₂ with_rule frames c.option-6.ensures.rule in
     let tries = c.in_ok-arg-7.ensures.shape c.option-7.ensures.local ∙ ap₂ with_rule pause c.option-7.ensures.rule in
-    IfOk-weaker c.arg-8.result _ _ (λ r added. added.shape c.source_words.ensures.local ∙ ap₂ with_rule tries c.source_words.ensures.rule) c.arg-8.ensures
+    let skip_bad = c.in_ok-arg-8.ensures.shape c.option-8.ensures.local ∙ ap₂ with_rule tries c.option-8.ensures.rule in
+    IfOk-weaker c.arg-9.result _ _ (λ r added. added.shape c.source_words.ensures.local ∙ ap₂ with_rule skip_bad c.source_words.ensures.rule) c.arg-9.ensures

@@ -1,0 +1,14 @@
+use Rattle.std.proofs.Common.{◌∙◌}
+use Rattle.tk_watch.proofs.NamedLemmas.{goes_on_as, has_ended}
+use Rattle.tk_watch.proofs.TurningLemmas.{turned_named}
+use Rattle.tk_watch.proofs.cell.Watched.look.Goals as goal
+
+pub invariant_of-self : goal.invariant_of-self
+invariant_of-self g c = record { named_is = turned_named c.turn.result c.args.self.now.watch c.turn.new.self c.turn.ensures.turns ∙ c.args.self.now.named_is }
+
+pub returns-in-Quiet : goal.returns-in-Quiet
+returns-in-Quiet g c = goes_on_as _ _ c.args.self.now.watch c.turn.new.self c.args.self.now.named_is c.turn.ensures.kept c.turn.ensures.turns
+
+pub returns-in_ok-from_slice-in-Stopped : goal.returns-in_ok-from_slice-in-Stopped
+returns-in_ok-from_slice-in-Stopped g c =
+    has_ended _ c.args.self.now.watch c.turn.new.self _ c.args.self.now.named_is c.turn.ensures.kept (rw c.in-Stopped.is at c.turn.ensures.turns) (c.in_ok-from_slice-in-Stopped.ensures.items ∙ c.counts.ensures.value)

@@ -1,0 +1,179 @@
+//! A watch under a lock, named so that proofs know which watch is found behind it.
+
+ghost use Rattle.std.specs.Prelude.{◌≡◌, ◌≤◌, None, false, IfErr, IfOk, OnErr, OnOk};
+ghost use Rattle.tk_input.specs.Logs.{IsObject};
+ghost use Rattle.tk_watch.specs.Connections.{HasJoined, IsOver};
+ghost use Rattle.tk_watch.specs.Names.{nobody};
+ghost use Rattle.tk_watch.specs.Told.{Closes, Tells};
+ghost use Rattle.tk_watch.specs.Watch.{Named, named_of};
+ghost use Rattle.tk_wire.specs.Net.{IsNew};
+
+use crate::attended::Attended;
+use crate::cause::Cause;
+use crate::fault::FeedFault;
+use crate::told::Told;
+use crate::turned::Turned;
+use crate::watch::Watch;
+use std::alloc::Global;
+use std::marker::{Brand, PhantomData};
+use std::sync::Mutex;
+use tk_base::{Feeder, NoMemory};
+use tk_input::Change;
+use tk_monitor::Raised;
+use tk_wire::{Bell, Dialed, Wire};
+
+/// Which watch lies under a lock. A name has no calls: it exists in proofs alone, and the call that locks a watch picks it.
+pub trait WatchName {
+    /// What no call changes of it.
+    ghost named: { Named };
+}
+
+impl WatchName for Brand {
+    ghost named = { nobody };
+}
+
+/// A watch that has what its name says, whenever its lock is got, with what its threads tell one another.
+#[derive(Drop)]
+pub struct Watched<W: Wire, B, N: WatchName> {
+    pub watch: Watch<W>,
+    // Wakes the one who serves the connection.
+    bell: Option<B>,
+    // The first fault of a stream.
+    fault: Option<FeedFault>,
+    // How many lines of all streams were passed over.
+    skipped: u64,
+    of: PhantomData<N>,
+    pub ghost named_is: { named_of watch ≡ N.named },
+}
+
+/// A watch under a lock.
+pub type WatchCell<W, B, N> = Mutex<Watched<W, B, N>>;
+
+impl<W: Wire + Drop, B: Bell + Drop, N: WatchName> Watched<W, B, N> {
+    /// A watch behind a lock that nobody holds.
+    pub fn new(watch: Watch<W>) -> Watched<W, B, N>
+        requires { named_of watch ≡ N.named }
+        ensures { result.watch ≡ watch }
+    {
+        Watched {
+            watch,
+            bell: None,
+            fault: None,
+            skipped: 0,
+            of: PhantomData,
+        }
+    }
+
+    /// Wakes the one who serves the connection.
+    fn ring(&self) {
+        if let Some(bell) = &self.bell {
+            bell.ring();
+        }
+    }
+
+    /// Wakes that one where something broke, or where the monitor began anew.
+    fn ring_for(&self, told: Told, was_broken: bool) {
+        match told {
+            Told::Done { broken, fresh } => {
+                if fresh || broken && !was_broken {
+                    self.ring();
+                }
+            }
+            Told::Closed => {}
+            Told::TooGreat => {}
+            Told::NoMemory => {}
+        }
+    }
+
+    /// Counts a record of a stream. The bell rings where something broke, or where the monitor began anew.
+    pub fn tell(&mut self, f: Feeder, change: Change) -> Told
+        requires from_one { 1 ≤ f.0 }
+        requires stream { f.0 ≤ N.named.streams }
+        requires object { IsObject N.named.objects change.obj.0 }
+        ensures { Tells self.old.watch f (change.obj.0, change.by) result self.new.watch }
+    {
+        let was_broken = self.watch.monitor().broken();
+        let told = self.watch.tell(f, change);
+        self.ring_for(told, was_broken);
+        told
+    }
+
+    /// Raises the closing record of a stream, and rings.
+    pub fn close(&mut self, f: Feeder) -> Raised
+        requires from_one { 1 ≤ f.0 }
+        requires stream { f.0 ≤ N.named.streams }
+        ensures { Closes self.old.watch f result self.new.watch }
+    {
+        let raised = self.watch.close(f);
+        self.ring();
+        raised
+    }
+
+    /// Notes that lines were passed over.
+    pub(crate) fn note_skipped(&mut self, count: u64)
+        ensures { self.new.watch ≡ self.old.watch }
+    {
+        self.skipped = self.skipped.saturating_add(count);
+    }
+
+    /// Notes the fault of a stream, unless another was noted before, and rings.
+    pub(crate) fn note_fault(&mut self, fault: FeedFault)
+        ensures { self.new.watch ≡ self.old.watch }
+    {
+        if self.fault.is_none() {
+            self.fault = Some(fault);
+        }
+        self.ring();
+    }
+
+    /// The first fault of a stream.
+    pub(crate) fn fault(&self) -> Option<FeedFault> {
+        self.fault
+    }
+
+    /// Whether a feeder has nothing to do any more: Stop was taken, or a stream ends the process.
+    pub(crate) fn is_over(&self) -> bool {
+        self.fault.is_some() || self.watch.monitor().stopped()
+    }
+
+    /// Shuts the connection.
+    pub(crate) fn leave(&mut self)
+        ensures { self.new.watch.monitor ≡ self.old.watch.monitor }
+    {
+        self.watch.leave();
+        self.bell = None;
+    }
+
+    /// One look at the connection.
+    pub(crate) fn look(&mut self, alloc: Global) -> Result<Attended, NoMemory>
+        ensures { IfOk result (λ attended. IsOver W N.named attended) }
+    {
+        if let Some(fault) = self.fault {
+            return Ok(Attended::Fed(fault));
+        }
+        match self.watch.turn() {
+            Turned::More => Ok(Attended::More),
+            Turned::Quiet => Ok(Attended::Quiet),
+            Turned::Left(cause) => Ok(Attended::Left(cause)),
+            Turned::Stopped => Ok(Attended::Stopped {
+                counts: Vec::from_slice(alloc, self.watch.counts())?,
+                skipped: self.skipped,
+            }),
+        }
+    }
+}
+
+impl<W: Dialed + Drop, B: Bell + Drop, N: WatchName> Watched<W, B, N> {
+    /// Begins a connection over a link that was dialed, with the bell of the one who serves it, and answers how many records
+    /// each stream gave.
+    pub(crate) fn begin(&mut self, alloc: Global, link: W, bell: B) -> Result<Vec<u64>, NoMemory>
+        requires new { IsNew W.Wire.tells (W.Wire.traffic link) (W.Wire.counts link) }
+        requires once { W.greeted link ≡ false }
+        ensures { IfOk result (λ counts. HasJoined W N.named counts.items) }
+    {
+        let counts = Vec::from_slice(alloc, self.watch.counts())?;
+        self.watch.begin(alloc, link)?;
+        self.bell = Some(bell);
+        Ok(counts)
+    }
+}

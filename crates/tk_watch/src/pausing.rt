@@ -1,0 +1,28 @@
+//! The pause between two connections.
+
+use crate::cell::{WatchCell, WatchName};
+use crate::fault::FeedFault;
+use std::sync::Wait;
+use std::thread;
+use std::time::{Clock, Duration};
+use tk_wire::{Bell, Wire};
+
+/// For how many milliseconds the fault of a stream may wait in a pause.
+const STEP: u64 = 20;
+
+/// Lets so many milliseconds pass, unless a stream ends the process before.
+pub(crate) fn pause<R: Wait + Clock, W: Wire + Drop, B: Bell + Drop, N: WatchName>(
+    rt: &R,
+    cell: &WatchCell<W, B, N>,
+    milliseconds: u64,
+) -> Option<FeedFault> {
+    for _ in 0..milliseconds / STEP {
+        let fault = cell.lock(rt).fault();
+        if fault.is_some() {
+            return fault;
+        }
+        thread::sleep(rt, Duration::from_millis(STEP));
+    }
+    thread::sleep(rt, Duration::from_millis(milliseconds % STEP));
+    cell.lock(rt).fault()
+}
