@@ -7,7 +7,7 @@ use Rattle.clap.specs.declared.error.kind.ErrorKind.TheVariants as kind
 use Rattle.tk_words.specs.Clap.{app_named, found_in, unless_any}
 use Rattle.tk_words.specs.Words.{Asked, asked_under, verb_of, words_of}
 use Rattle.tk_words.specs.declared.verb.Verb.{Verb}
-use Rattle.tk_words.specs.declared.verb.Verb.TheVariants.{Replay, Generate, Live, Window, Multi, Sessions, Trace, Check, Coordinate, Monitor, Help, Version}
+use Rattle.tk_words.specs.declared.verb.Verb.TheVariants.{Replay, Generate, Live, Window, Multi, Sessions, Trace, Check, Show, Coordinate, Monitor, Help, Version}
 
 -- the first of two tests that both hold
 pub first_holds : (a b : Bool) → (a && b) ≡ true → a ≡ true
@@ -42,6 +42,7 @@ each_is_free Multi = refl
 each_is_free Sessions = refl
 each_is_free Trace = refl
 each_is_free Check = refl
+each_is_free Show = refl
 each_is_free Coordinate = refl
 each_is_free Monitor = refl
 each_is_free Help = refl

@@ -2,13 +2,14 @@
 use Rattle.std.specs.Prelude.{ℕ, ◌≡◌, ◌⊎◌, ◌≤◌, All, IfSome, List, length, map, Option, option_map}
 use Rattle.std.specs.Borrow.{Bor}
 use Rattle.tk_base.specs.declared.ids.Mon.{Mon}
-use Rattle.tk_words.specs.Words.{Asked, CarriageWords, CoordinateWords, GenerateWords, LiveWords, MonitorWords, MultiWords, ReplayWords, SourceWords}
-use Rattle.tk_words.specs.Words.Asked.{Replays, Generates, Lives, Queries, Restarts, Traces, Checks, Coordinates, Monitors, Helps, Versions}
+use Rattle.tk_words.specs.Words.{Asked, CarriageWords, CoordinateWords, GenerateWords, LiveWords, MonitorWords, MultiWords, RecentWords, ReplayWords, SourceWords}
+use Rattle.tk_words.specs.Words.Asked.{Replays, Generates, Lives, Queries, Restarts, Traces, Checks, Shows, Coordinates, Monitors, Helps, Versions}
 use Rattle.tk_words.specs.declared.command.Command.{Command}
-use Rattle.tk_words.specs.declared.command.Command.TheVariants.{Replay as Replayed, Generate as Generated, Live as Lived, Multi as Queried, Sessions as Restarted, Trace as Traced, Check as Checked, Coordinate as Coordinated, Monitor as Monitored, Help as Helped, Version as Versioned}
+use Rattle.tk_words.specs.declared.command.Command.TheVariants.{Replay as Replayed, Generate as Generated, Live as Lived, Multi as Queried, Sessions as Restarted, Trace as Traced, Check as Checked, Show as Shown, Coordinate as Coordinated, Monitor as Monitored, Help as Helped, Version as Versioned}
 use Rattle.tk_words.specs.declared.sources.Sources.{Sources}
 use Rattle.tk_words.specs.declared.carriage.Carriage.{Carriage}
 use Rattle.tk_words.specs.declared.coordinate.Coordinate.{Coordinate}
+use Rattle.tk_words.specs.declared.recent.Recent.{Recent}
 use Rattle.tk_words.specs.declared.replay.Replay.{Replay}
 use Rattle.tk_words.specs.declared.generate.Generate.{Generate}
 use Rattle.tk_words.specs.declared.live.Live.{Live}
@@ -79,7 +80,12 @@ asked_coordinate c = record {
   listen = c.listen.now;
   silence = c.silence;
   sessions = c.sessions;
+  missing = c.missing;
 }
+
+-- the window that a monitor asks for
+abbrev pub asked_recent : Recent → RecentWords
+asked_recent r = record { width = r.width; tick = r.tick }
 
 -- what a monitor asks for that does
 abbrev pub asked_monitor : Watched → MonitorWords
@@ -90,8 +96,10 @@ asked_monitor w = record {
   connect = w.connect.now;
   frames = w.frames;
   pause = w.pause;
+  silence = w.silence;
   tries = w.tries;
   skip_bad = w.skip_bad;
+  window = option_map asked_recent w.window;
   sources = map (λ s. s.now) w.sources.items;
 }
 
@@ -104,6 +112,7 @@ asked_by (Queried m) = Queries (asked_multi m)
 asked_by (Restarted r) = Restarts (asked_sources r)
 asked_by (Traced r) = Traces (asked_replay r)
 asked_by (Checked file) = Checks file.now
+asked_by (Shown file) = Shows file.now
 asked_by (Coordinated c) = Coordinates (asked_coordinate c)
 asked_by (Monitored w) = Monitors (asked_monitor w)
 asked_by (Helped command) = Helps command
@@ -122,6 +131,7 @@ HasMonitors (Queried m) = AreOfMonitors m.logs.items
 HasMonitors (Restarted r) = AreOfMonitors r.logs.items
 HasMonitors (Traced r) = AreOfMonitors r.sources.logs.items
 HasMonitors (Checked file) = Unit
+HasMonitors (Shown file) = Unit
 HasMonitors (Coordinated c) = Unit
 HasMonitors (Monitored w) = Unit
 HasMonitors (Helped command) = Unit
@@ -142,6 +152,7 @@ HasCarriage (Queried m) = Unit
 HasCarriage (Restarted r) = Unit
 HasCarriage (Traced r) = IsCarriage r.carriage
 HasCarriage (Checked file) = Unit
+HasCarriage (Shown file) = Unit
 HasCarriage (Coordinated c) = Unit
 HasCarriage (Monitored w) = (w.frames ≡ 1) ⊎ (w.frames ≡ 2)
 HasCarriage (Helped command) = Unit
@@ -151,13 +162,21 @@ HasCarriage Versioned = Unit
 pub record IsCoordinate (c : Coordinate) : Type 0 where
   pub silence : (1 ≤ c.silence) × (c.silence ≤ 3600)
   pub sessions : IfSome c.sessions (λ n. 1 ≤ n)
+  pub missing : IfSome c.missing (λ n. (1 ≤ n) × (n ≤ 3600))
 
--- the number, the version, the times and the sources of a monitor are in their ranges
+-- the width of a window, and the seconds of a tick, where it has such
+pub record IsRecent (r : Recent) : Type 0 where
+  pub width : (1 ≤ r.width) × (r.width ≤ 1000000)
+  pub tick : IfSome r.tick (λ n. (1 ≤ n) × (n ≤ 3600))
+
+-- the number, the version, the times, the window and the sources of a monitor are in their ranges
 pub record IsWatched (w : Watched) : Type 0 where
   pub number : (1 ≤ w.number.0) × (w.number.0 ≤ 64)
   pub frames : (w.frames ≡ 1) ⊎ (w.frames ≡ 2)
   pub pause : (1 ≤ w.pause) × (w.pause ≤ 60000)
+  pub silence : (1 ≤ w.silence) × (w.silence ≤ 3600)
   pub tries : IfSome w.tries (λ n. 1 ≤ n)
+  pub window : IfSome w.window IsRecent
   pub sources : (1 ≤ length w.sources.items) × (length w.sources.items ≤ 8)
 
 -- so are those of a command that runs as a process of its own
@@ -169,6 +188,7 @@ IsRanged (Queried m) = Unit
 IsRanged (Restarted r) = Unit
 IsRanged (Traced r) = Unit
 IsRanged (Checked file) = Unit
+IsRanged (Shown file) = Unit
 IsRanged (Coordinated c) = IsCoordinate c
 IsRanged (Monitored w) = IsWatched w
 IsRanged (Helped command) = Unit

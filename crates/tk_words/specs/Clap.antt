@@ -3,7 +3,7 @@ use Rattle.std.specs.Prelude.{ℕ, Bool, true, false, List, [], ◌∷◌, Optio
 use Rattle.clap.specs.Words.{App, Row, Rule, fault_of, matches_of, new_app, new_rule, with_rule}
 use Rattle.clap.specs.declared.builder.action.ArgAction.TheVariants.{Append, Set}
 use Rattle.tk_words.specs.declared.verb.Verb.{Verb}
-use Rattle.tk_words.specs.declared.verb.Verb.TheVariants.{Replay, Generate, Live, Window, Multi, Sessions, Trace, Check, Coordinate, Monitor, Help, Version}
+use Rattle.tk_words.specs.declared.verb.Verb.TheVariants.{Replay, Generate, Live, Window, Multi, Sessions, Trace, Check, Show, Coordinate, Monitor, Help, Version}
 
 -- an option that takes one value
 abbrev pub option_rule : List ℕ → Bool → Rule
@@ -54,13 +54,13 @@ multi_app =
     (option_rule (codes "queries") true)))
     logs_rule
 
--- the file that `check` reads
+-- the file that `check` and `show` read
 abbrev pub file_rule : Rule
 file_rule = record (new_rule (codes "file")) { required = true; action = Some Set }
 
--- `check`
-abbrev pub check_app : App
-check_app = with_rule (new_app (codes "check")) file_rule
+-- `check`, and `show` with the same word
+abbrev pub file_app : List ℕ → App
+file_app name = with_rule (new_app name) file_rule
 
 -- `gen`
 abbrev pub gen_app : App
@@ -76,12 +76,13 @@ gen_app =
 -- `coordinate`
 abbrev pub coordinate_app : App
 coordinate_app =
-    with_rule (with_rule (with_rule (with_rule (with_rule (with_source_rules (new_app (codes "coordinate")))
+    with_rule (with_rule (with_rule (with_rule (with_rule (with_rule (with_source_rules (new_app (codes "coordinate")))
     (option_rule (codes "monitors") true))
     (option_rule (codes "run") true))
     (option_rule (codes "listen") true))
     (option_rule (codes "silence") false))
-    (option_rule (codes "sessions") false)
+    (option_rule (codes "sessions") false))
+    (option_rule (codes "missing") false)
 
 -- the sources of a monitor, at least one
 abbrev pub sources_rule : Rule
@@ -90,15 +91,19 @@ sources_rule = record (new_rule (codes "source")) { required = true; action = So
 -- `monitor`
 abbrev pub monitor_app : App
 monitor_app =
-    with_rule (with_rule (with_rule (with_rule (with_rule (with_rule (with_rule (with_rule (with_rule (new_app (codes "monitor"))
+    with_rule (with_rule (with_rule (with_rule (with_rule (with_rule (with_rule (with_rule (with_rule (with_rule (with_rule (with_rule
+    (new_app (codes "monitor"))
     (option_rule (codes "number") true))
     (option_rule (codes "objects") true))
     (option_rule (codes "run") true))
     (option_rule (codes "connect") true))
     (option_rule (codes "frames") false))
     (option_rule (codes "pause") false))
+    (option_rule (codes "silence") false))
     (option_rule (codes "tries") false))
     (option_rule (codes "skip-bad") false))
+    (option_rule (codes "width") false))
+    (option_rule (codes "tick") false))
     sources_rule
 
 -- the command of which help is wished, where one is named
@@ -122,7 +127,8 @@ app_named Window = window_app
 app_named Multi = multi_app
 app_named Sessions = sessions_app
 app_named Trace = replay_app (codes "trace")
-app_named Check = check_app
+app_named Check = file_app (codes "check")
+app_named Show = file_app (codes "show")
 app_named Coordinate = coordinate_app
 app_named Monitor = monitor_app
 app_named Help = help_app

@@ -31,6 +31,10 @@ seconds_in text = from_one_to 3600 (short_in text)
 abbrev pub milliseconds_in : List ℕ → Option ℕ
 milliseconds_in text = from_one_to 60000 (short_in text)
 
+-- the width of a window that is written, in ticks: 1 to 1,000,000
+abbrev pub width_in : List ℕ → Option ℕ
+width_in text = from_one_to 1000000 (short_in text)
+
 -- a number as that of some times: 1 or more
 abbrev pub times_from : Option ℕ → Option ℕ
 times_from None = None

@@ -1,6 +1,6 @@
 -- The texts of `help` and `version`, by the names that they have in the code.
 use Rattle.std.specs.Prelude.{ℕ, List, Option, Some, None}
-use Rattle.tk_words.specs.declared.manual.TheConstants.{OVERVIEW, REPLAY, WINDOW, MULTI, SESSIONS, TRACE, CHECK, LIVE, GENERATE, COORDINATE, MONITOR, HELP, VERSION, NUMBER}
+use Rattle.tk_words.specs.declared.manual.TheConstants.{OVERVIEW, REPLAY, WINDOW, MULTI, SESSIONS, TRACE, CHECK, SHOW, LIVE, GENERATE, COORDINATE, MONITOR, HELP, VERSION, NUMBER}
 use Rattle.tk_words.specs.declared.verb.Verb.{Verb}
 use Rattle.tk_words.specs.declared.verb.Verb.TheVariants as v
 
@@ -15,6 +15,7 @@ manual_text (Some v.Multi) = MULTI.now
 manual_text (Some v.Sessions) = SESSIONS.now
 manual_text (Some v.Trace) = TRACE.now
 manual_text (Some v.Check) = CHECK.now
+manual_text (Some v.Show) = SHOW.now
 manual_text (Some v.Coordinate) = COORDINATE.now
 manual_text (Some v.Monitor) = MONITOR.now
 manual_text (Some v.Help) = HELP.now

@@ -4,9 +4,9 @@ use Rattle.std.specs.Option.{option_map_or}
 use Rattle.clap.specs.Words.{Row, all_of, first_of}
 use Rattle.tk_base.specs.Digits.{digits_in, short_in}
 use Rattle.tk_words.specs.declared.verb.Verb.{Verb}
-use Rattle.tk_words.specs.declared.verb.Verb.TheVariants.{Replay, Generate, Live, Window, Multi, Sessions, Trace, Check, Coordinate, Monitor, Help, Version}
+use Rattle.tk_words.specs.declared.verb.Verb.TheVariants.{Replay, Generate, Live, Window, Multi, Sessions, Trace, Check, Show, Coordinate, Monitor, Help, Version}
 use Rattle.tk_words.specs.Clap.{app_named, found_in}
-use Rattle.tk_words.specs.Forms.{connect_in, file_in, listen_in, logs_in, milliseconds_in, monitor_in, piece_in, seconds_in, sources_in, times_in, version_in, yes_in}
+use Rattle.tk_words.specs.Forms.{connect_in, file_in, listen_in, logs_in, milliseconds_in, monitor_in, piece_in, seconds_in, sources_in, times_in, version_in, width_in, yes_in}
 
 -- where a run finds its input: the numbers of the settings, the files with their logs' monitors, and the width of the
 -- window over them, where there is one
@@ -51,7 +51,8 @@ pub record MultiWords : Type 0 where
   pub logs : List (ℕ × List ℕ)
 
 -- what a coordinator asks for that runs as a process of its own: the numbers of its settings, the file of its objects, its run,
--- where it listens, how many seconds a link may be silent, and after how many sessions it ends, where it does
+-- where it listens, how many seconds a link may be silent, after how many sessions it ends, where it does, and for how many seconds
+-- it waits for a monitor, where it does not wait for ever
 pub record CoordinateWords : Type 0 where
   pub monitors : ℕ
   pub k : ℕ
@@ -62,9 +63,16 @@ pub record CoordinateWords : Type 0 where
   pub listen : List ℕ
   pub silence : ℕ
   pub sessions : Option ℕ
+  pub missing : Option ℕ
+
+-- the window of a monitor: its width in ticks, and how many seconds a tick takes, where no lines end ticks
+pub record RecentWords : Type 0 where
+  pub width : ℕ
+  pub tick : Option ℕ
 
 -- what a monitor asks for that does: its number, the file of its objects, its run, where it connects, the version of its frames,
--- the milliseconds of a pause, after how many tries it gives up, where it does, whether it passes over bad lines, and its sources
+-- the milliseconds of a pause, how many seconds a link may be silent, after how many tries it gives up, where it does, whether it
+-- passes over bad lines, its window, where it has one, and its sources
 pub record MonitorWords : Type 0 where
   pub number : ℕ
   pub objects : List ℕ
@@ -72,13 +80,15 @@ pub record MonitorWords : Type 0 where
   pub connect : List ℕ
   pub frames : ℕ
   pub pause : ℕ
+  pub silence : ℕ
   pub tries : Option ℕ
   pub skip_bad : Bool
+  pub window : Option RecentWords
   pub sources : List (List ℕ)
 
 -- what words ask for: a replay, a generated run, a live run, a replay of several queries, a replay with restarts, the
--- trace of a replay, whether a file is a trace, a coordinator or a monitor as a process of its own, help, of one command where
--- it is named, and the version
+-- trace of a replay, whether a file is a trace, what a trace tells, a coordinator or a monitor as a process of its own, help, of one
+-- command where it is named, and the version
 pub data Asked : Type 0 where
   Replays : ReplayWords → Asked
   Generates : GenerateWords → Asked
@@ -87,6 +97,7 @@ pub data Asked : Type 0 where
   Restarts : SourceWords → Asked
   Traces : ReplayWords → Asked
   Checks : List ℕ → Asked
+  Shows : List ℕ → Asked
   Coordinates : CoordinateWords → Asked
   Monitors : MonitorWords → Asked
   Helps : Option Verb → Asked
@@ -161,9 +172,9 @@ multi_of rows =
     (required file_in (codes "queries") rows))
     (required file_in (codes "objects") rows)
 
--- the file that is checked
-abbrev pub check_of : List Row → Option (List ℕ)
-check_of rows = required file_in (codes "file") rows
+-- the file that is read
+abbrev pub file_of : List Row → Option (List ℕ)
+file_of rows = required file_in (codes "file") rows
 
 -- the values of a generated run
 abbrev pub generate_of : List Row → Option GenerateWords
@@ -181,11 +192,20 @@ generate_of rows =
 abbrev pub times_of : List ℕ → List Row → Option (Option ℕ)
 times_of name rows = optional (λ text. option_map Some (times_in text)) name None rows
 
+-- a number of seconds, where it is written
+abbrev pub seconds_of : List ℕ → List Row → Option (Option ℕ)
+seconds_of name rows = optional (λ text. option_map Some (seconds_in text)) name None rows
+
+-- how many seconds a link may be silent
+abbrev pub silence_of : List Row → Option ℕ
+silence_of rows = optional seconds_in (codes "silence") 20 rows
+
 -- the values of a coordinator
 abbrev pub coordinate_of : List Row → Option CoordinateWords
 coordinate_of rows =
     option_and_then (λ monitors. option_and_then (λ k. option_and_then (λ epsilon. option_and_then (λ own_weight. option_and_then (λ objects.
-    option_and_then (λ run. option_and_then (λ listen. option_and_then (λ silence. option_map (λ sessions. record {
+    option_and_then (λ run. option_and_then (λ listen. option_and_then (λ silence. option_and_then (λ sessions.
+    option_map (λ missing. record {
       monitors = monitors;
       k = k;
       epsilon = epsilon;
@@ -195,9 +215,11 @@ coordinate_of rows =
       listen = listen;
       silence = silence;
       sessions = sessions;
+      missing = missing;
     })
+    (seconds_of (codes "missing") rows))
     (times_of (codes "sessions") rows))
-    (optional seconds_in (codes "silence") 20 rows))
+    (silence_of rows))
     (required listen_in (codes "listen") rows))
     (required short_in (codes "run") rows))
     (required file_in (codes "objects") rows))
@@ -210,24 +232,43 @@ coordinate_of rows =
 abbrev pub sources_of : List Row → Option (List (List ℕ))
 sources_of rows = option_and_then sources_in (all_of (codes "source") rows)
 
+-- the width of a window, where it is written
+abbrev pub width_of : List Row → Option (Option ℕ)
+width_of rows = optional (λ text. option_map Some (width_in text)) (codes "width") None rows
+
+-- a window of this width, where there is one: without it no tick has a length
+abbrev pub recent_with : Option ℕ → Option ℕ → Option (Option RecentWords)
+recent_with None None = Some None
+recent_with None (Some tick) = None
+recent_with (Some width) tick = Some (Some (record { width = width; tick = tick }))
+
+-- the window of a monitor
+abbrev pub recent_of : List Row → Option (Option RecentWords)
+recent_of rows = option_and_then (λ width. option_and_then (λ tick. recent_with width tick) (seconds_of (codes "tick") rows)) (width_of rows)
+
 -- the values of a monitor, where bad lines end it if nothing else is said
 abbrev pub monitor_of : List Row → Option MonitorWords
 monitor_of rows =
     option_and_then (λ number. option_and_then (λ objects. option_and_then (λ run. option_and_then (λ connect. option_and_then (λ frames.
-    option_and_then (λ pause. option_and_then (λ tries. option_and_then (λ skip_bad. option_map (λ sources. record {
+    option_and_then (λ pause. option_and_then (λ silence. option_and_then (λ tries. option_and_then (λ skip_bad. option_and_then (λ window.
+    option_map (λ sources. record {
       number = number;
       objects = objects;
       run = run;
       connect = connect;
       frames = frames;
       pause = pause;
+      silence = silence;
       tries = tries;
       skip_bad = skip_bad;
+      window = window;
       sources = sources;
     })
     (sources_of rows))
+    (recent_of rows))
     (optional yes_in (codes "skip-bad") false rows))
     (times_of (codes "tries") rows))
+    (silence_of rows))
     (optional milliseconds_in (codes "pause") 500 rows))
     (optional version_in (codes "frames") 1 rows))
     (required connect_in (codes "connect") rows))
@@ -242,9 +283,10 @@ verb_named word =
     else (if bytes_eq word (codes "gen") then Some Generate else (if bytes_eq word (codes "live") then Some Live
     else (if bytes_eq word (codes "window") then Some Window else (if bytes_eq word (codes "multi") then Some Multi
     else (if bytes_eq word (codes "sessions") then Some Sessions else (if bytes_eq word (codes "trace") then Some Trace
-    else (if bytes_eq word (codes "check") then Some Check else (if bytes_eq word (codes "coordinate") then Some Coordinate
+    else (if bytes_eq word (codes "check") then Some Check else (if bytes_eq word (codes "show") then Some Show
+    else (if bytes_eq word (codes "coordinate") then Some Coordinate
     else (if bytes_eq word (codes "monitor") then Some Monitor else (if bytes_eq word (codes "help") then Some Help
-    else (if bytes_eq word (codes "version") then Some Version else None)))))))))))
+    else (if bytes_eq word (codes "version") then Some Version else None))))))))))))
 
 -- the command of which help is wished, where one is named
 abbrev pub help_of : List Row → Option (Option Verb)
@@ -259,7 +301,8 @@ asked_with Window rows = option_map Replays (window_of rows)
 asked_with Multi rows = option_map Queries (multi_of rows)
 asked_with Sessions rows = option_map Restarts (sessions_of rows)
 asked_with Trace rows = option_map Traces (replay_of rows)
-asked_with Check rows = option_map Checks (check_of rows)
+asked_with Check rows = option_map Checks (file_of rows)
+asked_with Show rows = option_map Shows (file_of rows)
 asked_with Coordinate rows = option_map Coordinates (coordinate_of rows)
 asked_with Monitor rows = option_map Monitors (monitor_of rows)
 asked_with Help rows = option_map Helps (help_of rows)

@@ -35,6 +35,8 @@ pub enum Command<'a> {
     Trace(Replay<'a>),
     /// Whether a file is the trace of a legal run.
     Check(&'a str),
+    /// What happened in the run that a trace tells.
+    Show(&'a str),
     /// A coordinator as a process of its own.
     Coordinate(Coordinate<'a>),
     /// A monitor as a process of its own.
@@ -66,6 +68,10 @@ fn asked<'a>(alloc: Global, verb: Verb, matches: &ArgMatches<'a>) -> Result<Comm
         Verb::Trace => Ok(Command::Trace(replay_with(alloc, matches, None)?)),
         Verb::Check => match named_file(matches, "file") {
             Some(file) => Ok(Command::Check(file)),
+            None => Err(WordsFault::Usage),
+        },
+        Verb::Show => match named_file(matches, "file") {
+            Some(file) => Ok(Command::Show(file)),
             None => Err(WordsFault::Usage),
         },
         Verb::Coordinate => match coordinate::values(matches) {

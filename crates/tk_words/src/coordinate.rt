@@ -1,19 +1,14 @@
-ghost use Rattle.std.specs.Prelude.{◌≡◌, ◌≤◌, IfOk, IfSome, codes, option_map};
+ghost use Rattle.std.specs.Prelude.{◌≡◌, IfOk, IfSome, option_map};
 ghost use Rattle.clap.specs.Words.{app_of, found_of, rows_of};
 ghost use Rattle.tk_words.specs.Asked.{IsCoordinate, asked_coordinate};
 ghost use Rattle.tk_words.specs.Clap.{coordinate_app};
-ghost use Rattle.tk_words.specs.Forms.{seconds_in};
-ghost use Rattle.tk_words.specs.Words.{coordinate_of, optional};
+ghost use Rattle.tk_words.specs.Words.{coordinate_of};
 
-use crate::forms::seconds;
 use crate::options::{option, with_sources};
-use crate::parsing::{listen_address, long, named_file, short, times, value};
+use crate::parsing::{listen_address, long, named_file, seconds, short, silence, times};
 use crate::sources::own_weight;
 use clap::{ArgMatches, Command};
 use std::alloc::{AllocError, Global};
-
-/// How many seconds a link may be silent where nothing else is said.
-const USUAL_SILENCE: u64 = 20;
 
 /// What the words of a coordinator ask for that runs as a process of its own.
 #[derive(Clone, Copy, Debug, PartialEq, Eq)]
@@ -31,6 +26,8 @@ pub struct Coordinate<'a> {
     pub silence: u64,
     /// After how many sessions it ends, where it does.
     pub sessions: Option<u64>,
+    /// For how many seconds a session waits for a monitor, where it does not wait for ever, 1 to 3,600.
+    pub missing: Option<u64>,
 }
 
 /// What clap reads the words of `coordinate` by.
@@ -42,18 +39,8 @@ pub fn command<'a>(alloc: Global) -> Result<Command<'a>, AllocError>
         .arg(option(alloc, "run", true))?
         .arg(option(alloc, "listen", true))?
         .arg(option(alloc, "silence", false))?
-        .arg(option(alloc, "sessions", false))
-}
-
-/// The optional silence, 20 seconds where there is none.
-fn silence(matches: &ArgMatches<'_>) -> Option<u64>
-    ensures value { result ≡ optional seconds_in (codes "silence") 20 (rows_of (found_of matches.now)) }
-    ensures range { IfSome result (λ n. (1 ≤ n) × (n ≤ 3600)) }
-{
-    match value(matches, "silence") {
-        None => Some(USUAL_SILENCE),
-        Some(text) => seconds(text),
-    }
+        .arg(option(alloc, "sessions", false))?
+        .arg(option(alloc, "missing", false))
 }
 
 /// What they ask for by what clap found.
@@ -71,5 +58,6 @@ pub fn values<'a>(matches: &ArgMatches<'a>) -> Option<Coordinate<'a>>
         listen: listen_address(matches)?,
         silence: silence(matches)?,
         sessions: times(matches, "sessions")?,
+        missing: seconds(matches, "missing")?,
     })
 }

@@ -1,6 +1,6 @@
 ghost use Rattle.std.specs.Prelude.{◌≡◌, ◌⊎◌, ◌≤◌, IfSome, length, map, nat_lt, option_map, true};
 ghost use Rattle.std.specs.List.{list_all};
-ghost use Rattle.tk_words.specs.Forms.{are_sources as are_such_sources, connect_in, file_in, from_one_to, inputs_in, listen_in, log_in, milliseconds_in, monitor_in, piece_in, port_in, port_of as port_of_address, seconds_in, times_in, version_in, yes_in};
+ghost use Rattle.tk_words.specs.Forms.{are_sources as are_such_sources, connect_in, file_in, from_one_to, inputs_in, listen_in, log_in, milliseconds_in, monitor_in, piece_in, port_in, port_of as port_of_address, seconds_in, times_in, version_in, width_in, yes_in};
 ghost use Rattle.tk_base.specs.Digits.{digits_in, short_in};
 
 use tk_base::{Mon, digits_of, short_of};
@@ -12,6 +12,8 @@ const MAX_PIECE: u64 = 65_536;
 const MAX_SECONDS: u64 = 3_600;
 
 const MAX_MILLISECONDS: u64 = 60_000;
+
+const MAX_WIDTH: u64 = 1_000_000;
 
 const PORT_DIGITS: usize = 5;
 
@@ -92,6 +94,14 @@ pub fn milliseconds(text: &str) -> Option<u64>
     ensures range { IfSome result (λ n. (1 ≤ n) × (n ≤ 60000)) }
 {
     from_one(text, MAX_MILLISECONDS)
+}
+
+/// The width of a window in ticks: 1 to 1,000,000.
+pub fn window_width(text: &str) -> Option<u64>
+    ensures value { result ≡ width_in text.now }
+    ensures range { IfSome result (λ n. (1 ≤ n) × (n ≤ 1000000)) }
+{
+    from_one(text, MAX_WIDTH)
 }
 
 /// How many times: 1 or more.

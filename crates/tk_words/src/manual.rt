@@ -20,8 +20,8 @@ topk sessions --k N --epsilon N --objects FILE [OPTIONS] MON=FILE ..\n\
 \x20   a run whose coordinator may restart\n\
 topk trace [THE WORDS OF replay]\n\
 \x20   runs, and writes the run itself in bytes\n\
-topk check FILE\n\
-\x20   tells whether a file is such a trace, and prints its sets\n\
+topk check FILE         tells whether a file is such a trace, with its sets\n\
+topk show FILE          prints what happened in the run that it tells\n\
 topk live --k N --epsilon N --objects FILE [OPTIONS] MON=FILE ..\n\
 \x20   runs in threads of its own, over sockets of this machine\n\
 topk gen --seed N --monitors N --objects N --updates N --k N --epsilon N\n\
@@ -134,6 +134,17 @@ it is legal and came to its end, it prints the published sets and yes.\n\
 \n\
 topk check run.trace\n";
 
+/// The options of `show`, and an example.
+const SHOW: &[u8] = b"\
+topk show FILE\n\
+\n\
+Prints what happened in the run that a trace tells, whoever made it: each event\n\
+in a legal order, with what the node took and what it sent.\n\
+\n\
+\x20 FILE            a trace, as topk trace writes it\n\
+\n\
+topk show run.trace\n";
+
 /// The options of `live`, and an example.
 const LIVE: &[u8] = b"\
 topk live --k N --epsilon N --objects FILE [--own-weight N] [--frames V]\n\
@@ -170,7 +181,7 @@ topk gen --seed 7 --monitors 8 --objects 256 --updates 20000 --k 10 --epsilon 50
 const COORDINATE: &[u8] = b"\
 topk coordinate --monitors M --k K --epsilon E --objects FILE --run N\n\
 \x20               --listen ADDRESS:PORT [--own-weight W] [--silence S]\n\
-\x20               [--sessions C]\n\
+\x20               [--sessions C] [--missing T]\n\
 \n\
 Listens for its monitors, which run on other hosts, and prints each new set.\n\
 \n\
@@ -185,6 +196,8 @@ Listens for its monitors, which run on other hosts, and prints each new set.\n\
 \x20                 out\n\
 \x20 --sessions C    after how many sessions it ends: 1 or more; only behind a\n\
 \x20                 final set if left out\n\
+\x20 --missing T     for how many seconds it waits for a monitor: 1 to 3600; then it\n\
+\x20                 goes on without it; for ever if left out\n\
 \n\
 topk coordinate --monitors 2 --k 1 --epsilon 0 --objects objects.csv --run 5\n\
 \x20               --listen 0.0.0.0:7070\n";
@@ -192,7 +205,8 @@ topk coordinate --monitors 2 --k 1 --epsilon 0 --objects objects.csv --run 5\n\
 /// The options of `monitor`, and an example.
 const MONITOR: &[u8] = b"\
 topk monitor --number J --objects FILE --run N --connect HOST:PORT\n\
-\x20            [--frames V] [--pause T] [--tries C] [--skip-bad yes] SOURCE ..\n\
+\x20            [--frames V] [--pause T] [--silence S] [--tries C]\n\
+\x20            [--skip-bad yes] [--width D] [--tick S] SOURCE ..\n\
 \n\
 Counts the objects of its sources, and reports to its coordinator.\n\
 \n\
@@ -203,9 +217,14 @@ Counts the objects of its sources, and reports to its coordinator.\n\
 \x20 --frames V      the form of messages: 1 or 2; 1 if left out\n\
 \x20 --pause T       how many milliseconds it waits before it connects again: 1 to\n\
 \x20                 60000; 500 if left out\n\
+\x20 --silence S     how many seconds a link may be silent: 1 to 3600; 20 if left\n\
+\x20                 out\n\
 \x20 --tries C       after how many tries in a row that nobody answered it ends:\n\
 \x20                 1 or more; never if left out\n\
 \x20 --skip-bad yes  a bad line of a source is passed over and counted\n\
+\x20 --width D       it counts the last D ticks alone: 1 to 1000000; all if left out\n\
+\x20 --tick S        a tick takes S seconds, 1 to 3600; if left out, a line tick\n\
+\x20                 ends one\n\
 \x20 SOURCE          a stream, 1 to 8 of them, read line by line until it ends:\n\
 \x20                 lines as a,5 and a,-5; - is the standard input, once at most\n\
 \n\
@@ -218,8 +237,8 @@ topk help [COMMAND]\n\
 Prints each command in short, or the options of one. So do topk --help and\n\
 topk -h.\n\
 \n\
-\x20 COMMAND         replay, window, multi, sessions, trace, check, live, gen,\n\
-\x20                 coordinate, monitor, help or version\n\
+\x20 COMMAND         replay, window, multi, sessions, trace, check, show, live,\n\
+\x20                 gen, coordinate, monitor, help or version\n\
 \n\
 topk help monitor\n";
 
@@ -249,6 +268,7 @@ pub fn manual_of(command: Option<Verb>) -> &'static [u8]
         Some(Verb::Sessions) => SESSIONS,
         Some(Verb::Trace) => TRACE,
         Some(Verb::Check) => CHECK,
+        Some(Verb::Show) => SHOW,
         Some(Verb::Coordinate) => COORDINATE,
         Some(Verb::Monitor) => MONITOR,
         Some(Verb::Help) => HELP,

@@ -3,12 +3,17 @@ ghost use Rattle.clap.specs.Words.{all_of, app_of, first_of, found_of, is_simple
 ghost use Rattle.tk_words.specs.Clap.{found_in};
 ghost use Rattle.tk_words.specs.Forms.{file_in, listen_in};
 ghost use Rattle.tk_base.specs.Digits.{digits_in, short_in};
-ghost use Rattle.tk_words.specs.Words.{required, times_of};
+ghost use Rattle.tk_words.specs.Words.{required, seconds_of, silence_of, times_of};
 
 use crate::fault::WordsFault;
-use crate::forms::{file, listened, long_number, short_number, times as times_written};
+use crate::forms::{
+    file, listened, long_number, seconds as seconds_written, short_number, times as times_written,
+};
 use clap::error::ErrorKind;
 use clap::{ArgMatches, Command, Error};
+
+/// How many seconds a link may be silent where nothing else is said.
+const USUAL_SILENCE: u64 = 20;
 
 fn fault_of(error: Error) -> WordsFault
     ensures { result ≡ WordsFault.Usage → kind_of error ≢ ErrorKind.OutOfMemory }
@@ -75,6 +80,28 @@ pub fn times(matches: &ArgMatches<'_>, name: &str) -> Option<Option<u64>>
     match value(matches, name) {
         None => Some(None),
         Some(text) => Some(Some(times_written(text)?)),
+    }
+}
+
+/// The value of an option, a time in seconds, where it is written.
+pub fn seconds(matches: &ArgMatches<'_>, name: &str) -> Option<Option<u64>>
+    ensures value { result ≡ seconds_of name.now (rows_of (found_of matches.now)) }
+    ensures range { IfSome result (λ written. IfSome written (λ n. (1 ≤ n) × (n ≤ 3600))) }
+{
+    match value(matches, name) {
+        None => Some(None),
+        Some(text) => Some(Some(seconds_written(text)?)),
+    }
+}
+
+/// The optional silence, 20 seconds where there is none.
+pub fn silence(matches: &ArgMatches<'_>) -> Option<u64>
+    ensures value { result ≡ silence_of (rows_of (found_of matches.now)) }
+    ensures range { IfSome result (λ n. (1 ≤ n) × (n ≤ 3600)) }
+{
+    match value(matches, "silence") {
+        None => Some(USUAL_SILENCE),
+        Some(text) => seconds_written(text),
     }
 }
 

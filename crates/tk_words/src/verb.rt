@@ -12,6 +12,7 @@ pub enum Verb {
     Sessions,
     Trace,
     Check,
+    Show,
     Coordinate,
     Monitor,
     Help,
@@ -38,6 +39,8 @@ pub fn verb_named(word: &str) -> Option<Verb>
         Some(Verb::Trace)
     } else if word == "check" {
         Some(Verb::Check)
+    } else if word == "show" {
+        Some(Verb::Show)
     } else if word == "coordinate" {
         Some(Verb::Coordinate)
     } else if word == "monitor" {

@@ -9,7 +9,8 @@ use crate::carriage::frames;
 use crate::fault::WordsFault;
 use crate::forms::{are_sources, connected, milliseconds, monitor, yes};
 use crate::options::{option, source_words};
-use crate::parsing::{further, named_file, short, times, value};
+use crate::parsing::{further, named_file, short, silence, times, value};
+use crate::recent::{Recent, recent_window};
 use clap::{ArgMatches, Command};
 use std::alloc::{AllocError, Global};
 use tk_base::Mon;
@@ -30,10 +31,14 @@ pub struct Watched<'a> {
     pub frames: u8,
     /// How many milliseconds it waits before it connects again, 1 to 60,000.
     pub pause: u64,
+    /// How many seconds a link may be silent, 1 to 3,600.
+    pub silence: u64,
     /// After how many tries in a row that nobody answered it ends, where it does.
     pub tries: Option<u64>,
     /// Whether bad lines of its sources are passed over and counted.
     pub skip_bad: bool,
+    /// The window over its streams, where it has one.
+    pub window: Option<Recent>,
     /// Its streams 1, 2, .. in order, 1 to 8: each a file, or once `-`, the standard input.
     pub sources: Vec<&'a str>,
 }
@@ -49,8 +54,11 @@ pub fn command<'a>(alloc: Global) -> Result<Command<'a>, AllocError>
         .arg(option(alloc, "connect", true))?
         .arg(option(alloc, "frames", false))?
         .arg(option(alloc, "pause", false))?
+        .arg(option(alloc, "silence", false))?
         .arg(option(alloc, "tries", false))?
         .arg(option(alloc, "skip-bad", false))?
+        .arg(option(alloc, "width", false))?
+        .arg(option(alloc, "tick", false))?
         .arg(source_words(alloc))
 }
 
@@ -118,8 +126,10 @@ pub fn values<'a>(alloc: Global, matches: &ArgMatches<'a>) -> Result<Watched<'a>
         connect: coordinator(matches).ok_or(WordsFault::Usage)?,
         frames: frames(matches).ok_or(WordsFault::Usage)?,
         pause: pause(matches).ok_or(WordsFault::Usage)?,
+        silence: silence(matches).ok_or(WordsFault::Usage)?,
         tries: times(matches, "tries").ok_or(WordsFault::Usage)?,
         skip_bad: skip_bad(matches).ok_or(WordsFault::Usage)?,
+        window: recent_window(matches).ok_or(WordsFault::Usage)?,
         sources: sources(alloc, matches)?,
     })
 }
