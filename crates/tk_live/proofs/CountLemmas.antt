@@ -13,7 +13,7 @@ use Rattle.tk_live.specs.Hosting.{IsOfNet}
 use Rattle.tk_live.specs.Joined.{joined_as}
 use Rattle.tk_live.specs.Joining.{printed_as}
 use Rattle.tk_live.specs.Parting.{faults_of, of_turn}
-use Rattle.tk_live.specs.Serving.{faults_told}
+use Rattle.tk_load.specs.Surroundings.{faults_told}
 use Rattle.tk_live.specs.declared.parting.Parting.{Parting}
 use Rattle.tk_live.specs.declared.parting.Parting.TheVariants as p
 use Rattle.tk_live.specs.declared.outcome.Outcome.{Outcome}

@@ -1,11 +1,9 @@
 -- How the words of a live run end.
 use Rattle.std.specs.Prelude.{ℕ, ◌≡◌, List, Option, Some, None, Ok, Err}
-use Rattle.tk_input.specs.Files.{one_more}
 use Rattle.tk_words.specs.Words.{Asked, LiveWords, words_of}
-use Rattle.tk_words.specs.Words.Asked.{Checks, Coordinates, Generates, Helps, Lives, Monitors, Queries, Replays, Restarts, Traces, Versions}
+use Rattle.tk_words.specs.Words.Asked.{Checks, Coordinates, Generates, Helps, Lives, Monitors, Queries, Replays, Restarts, Shows, Traces, Versions}
 use Rattle.tk_load.specs.Reads.{Loads}
 use Rattle.tk_load.specs.declared.input.Input.{Input}
-use Rattle.tk_load.specs.declared.status.Status.{Status}
 use Rattle.tk_load.specs.declared.status.Status.TheVariants as s
 use Rattle.tk_load.specs.Surroundings.{IsUnwritten}
 use Rattle.tk_live.specs.Lived.{Concludes}
@@ -22,23 +20,11 @@ served (Some (Queries words)) = None
 served (Some (Restarts words)) = None
 served (Some (Traces words)) = None
 served (Some (Checks file)) = None
+served (Some (Shows file)) = None
 served (Some (Coordinates words)) = None
 served (Some (Monitors words)) = None
 served (Some (Helps command)) = None
 served (Some Versions) = None
-
--- how many puts of the output have failed after a live run: one more exactly where its status tells so
-abbrev pub faults_told : Status → ℕ → ℕ
-faults_told s.WriteFault faults = one_more faults
-faults_told s.Done faults = faults
-faults_told s.Usage faults = faults
-faults_told (s.ReadFault file) faults = faults
-faults_told (s.BadInput file line kind) faults = faults
-faults_told (s.TooGreat mon obj) faults = faults
-faults_told s.NoMemory faults = faults
-faults_told s.LinkFault faults = faults
-faults_told (s.LinkDiffers difference) faults = faults
-faults_told (s.BadTrace file fault) faults = faults
 
 -- no worker was started: nothing was written, and no byte was taken from a link
 pub record IsUnstarted (traffic : Traffic) (outcome : Outcome) : Type 0 where

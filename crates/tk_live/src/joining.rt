@@ -2,11 +2,10 @@
 
 ghost use Rattle.std.specs.Prelude.{◌≡◌, OnOk, OnErr};
 ghost use Rattle.tk_input.specs.Sink.{Grows, GrowsByFront};
-ghost use Rattle.tk_load.specs.Surroundings.{output_by};
+ghost use Rattle.tk_load.specs.Surroundings.{faults_told, output_by};
 ghost use Rattle.tk_story.specs.Ends.{AreOfOneRun};
 ghost use Rattle.tk_ledger.specs.Printing.{print_faults};
 ghost use Rattle.tk_live.specs.Joining.{ConcludesEnds, ConcludesStory, ledger_lines, printed_as};
-ghost use Rattle.tk_live.specs.Serving.{faults_told};
 ghost use Rattle.tk_load.specs.declared.status.Status.TheVariants.{LinkFault as Unlinked};
 
 use crate::faults::of_join;

@@ -12,8 +12,7 @@ ghost use Rattle.tk_live.specs.Left.{ConcludesLeft, TellsOdd};
 ghost use Rattle.tk_live.specs.Lived.{AreOfInput, EndsOver};
 ghost use Rattle.tk_live.specs.Made.{all_made};
 ghost use Rattle.tk_live.specs.Parting.{faults_of};
-ghost use Rattle.tk_live.specs.Serving.{faults_told};
-ghost use Rattle.tk_load.specs.Surroundings.{output_by};
+ghost use Rattle.tk_load.specs.Surroundings.{faults_told, output_by};
 ghost use Rattle.tk_load.specs.declared.status.Status.TheVariants.{LinkFault as Unlinked};
 
 use crate::ending::{Choice, choose, is_odd};

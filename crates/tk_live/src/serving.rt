@@ -2,7 +2,8 @@
 
 ghost use Rattle.std.specs.Prelude.{◌≡◌, false, map, string_bytes};
 ghost use Rattle.tk_input.specs.Files.{HasRisen};
-ghost use Rattle.tk_live.specs.Serving.{EndsWords, faults_told};
+ghost use Rattle.tk_live.specs.Serving.{EndsWords};
+ghost use Rattle.tk_load.specs.Surroundings.{faults_told};
 ghost use Rattle.tk_live.specs.Traffic.{all_met};
 ghost use Rattle.tk_load.specs.Reads.{AreKept};
 ghost use Rattle.tk_load.specs.declared.status.Status.TheVariants.{LinkFault as Unlinked};
@@ -50,6 +51,7 @@ pub fn live<R: Threads + Wait + Sync, F: Files, N: Net, G: Gate + Sync, O: Sink>
         Ok(Command::Sessions(_)) => return Outcome::unstarted(Status::Usage),
         Ok(Command::Trace(_)) => return Outcome::unstarted(Status::Usage),
         Ok(Command::Check(_)) => return Outcome::unstarted(Status::Usage),
+        Ok(Command::Show(_)) => return Outcome::unstarted(Status::Usage),
         Ok(Command::Coordinate(_)) => return Outcome::unstarted(Status::Usage),
         Ok(Command::Monitor(_)) => return Outcome::unstarted(Status::Usage),
         Ok(Command::Help(_)) => return Outcome::unstarted(Status::Usage),

@@ -1,9 +1,9 @@
 //! A text that is the same whatever there is: help, and the version.
 
 ghost use Rattle.std.specs.Prelude.{◌≡◌};
-ghost use Rattle.tk_load.specs.Surroundings.{output_by};
+ghost use Rattle.tk_load.specs.Surroundings.{faults_told, output_by};
 ghost use Rattle.tk_run.specs.Constant.{EndsTold, HasTold};
-ghost use Rattle.tk_run.specs.Outcome.{IfDone, IsWithout, faults_told};
+ghost use Rattle.tk_run.specs.Outcome.{IfDone, IsWithout};
 
 use crate::outcome::Outcome;
 use std::alloc::Global;

@@ -3,9 +3,9 @@
 ghost use Rattle.std.specs.Prelude.{◌≡◌, IfSome};
 ghost use Rattle.tk_load.specs.declared.status.Status.TheVariants.{Done};
 ghost use Rattle.tk_run.specs.Ends.{EndsGenerated, RunsGenerated};
-ghost use Rattle.tk_run.specs.Outcome.{IfDone, IsWithout, faults_told};
+ghost use Rattle.tk_run.specs.Outcome.{IfDone, IsWithout};
+ghost use Rattle.tk_load.specs.Surroundings.{faults_told, output_by};
 ghost use Rattle.tk_story.specs.Headline.{IsSound};
-ghost use Rattle.tk_load.specs.Surroundings.{output_by};
 ghost use Rattle.tk_words.specs.Asked.{asked_generate};
 
 use crate::outcome::Outcome;

@@ -8,8 +8,8 @@ ghost use Rattle.tk_load.specs.Reads.{AreKept, FailsAsTold, reads_by};
 ghost use Rattle.tk_load.specs.declared.status.Status.TheVariants.{Done};
 ghost use Rattle.tk_run.specs.Ends.{EndsAsked, RunsAsked};
 ghost use Rattle.tk_run.specs.Multi.{queries_text, query_title};
-ghost use Rattle.tk_run.specs.Outcome.{IfDone, IsWithout, faults_told};
-ghost use Rattle.tk_load.specs.Surroundings.{met_by};
+ghost use Rattle.tk_run.specs.Outcome.{IfDone, IsWithout};
+ghost use Rattle.tk_load.specs.Surroundings.{faults_told, met_by};
 ghost use Rattle.tk_words.specs.Asked.{AreOfMonitors, asked_multi};
 ghost use Rattle.tk_words.specs.Words.Asked.{Queries as Asks};
 

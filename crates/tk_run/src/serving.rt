@@ -6,8 +6,8 @@ ghost use Rattle.tk_load.specs.declared.status.Status.TheVariants.{Done, Usage};
 ghost use Rattle.tk_run.specs.Ends.{EndsWords, RunsWords, serves};
 ghost use Rattle.tk_words.specs.Words.{verb_of as verb_named_by};
 ghost use Rattle.tk_story.specs.Headline.{IsSound};
-ghost use Rattle.tk_run.specs.Outcome.{IfDone, IsWithout, faults_told};
-ghost use Rattle.tk_load.specs.Surroundings.{met_by};
+ghost use Rattle.tk_run.specs.Outcome.{IfDone, IsWithout};
+ghost use Rattle.tk_load.specs.Surroundings.{faults_told, met_by};
 
 use crate::check::serve_check;
 use crate::constant::serve_text;
@@ -73,6 +73,7 @@ pub fn run<R: Threads + Sync, F: Files, O: Sink>(
         Ok(Command::Sessions(words)) => serve_sessions(rt, alloc, &words, files, out),
         Ok(Command::Trace(words)) => serve_trace(rt, alloc, &words, files, out),
         Ok(Command::Check(file)) => serve_check(alloc, file, files, out),
+        Ok(Command::Show(_)) => Outcome::ended(alloc, Status::Usage),
         Ok(Command::Coordinate(_)) => Outcome::ended(alloc, Status::Usage),
         Ok(Command::Monitor(_)) => Outcome::ended(alloc, Status::Usage),
         Ok(Command::Help(command)) => serve_text(alloc, manual_of(command), out),

@@ -15,7 +15,7 @@ use Rattle.tk_window.specs.Window.{SumsToWindow, changes_at, end_of, expansion, 
 use Rattle.tk_window.proofs.SumLemmas.{sum_for-append, sum_for-withdrawn}
 
 -- one more number of a range
-range_more : (a n : ℕ) → range_with_len a (n + 1) ≡ range_with_len a n ++ (a + n) ∷ []
+pub range_more : (a n : ℕ) → range_with_len a (n + 1) ≡ range_with_len a n ++ (a + n) ∷ []
 range_more a n =
     sym (map-id (range_with_len a (n + 1)))
     ∙ map-range_with_len_more (λ x. x) a n (a + n) refl

@@ -18,4 +18,4 @@ pub use expanding::expand;
 pub use fault::ExpandFault;
 pub use laws::{a_valid_set_is_valid_for_the_windows, totals_are_those_of_the_windows};
 pub use tick_ends::TickEnds;
-pub use ticked::Ticked;
+pub use ticked::{Ticked, is_mark};

@@ -34,7 +34,8 @@ impl Model for Ticked {
     ghost invariant = { λ t. AreTicks t.ticks.items };
 }
 
-fn is_mark(row: &ByteRecord) -> bool
+/// Whether a record is the mark that ends a tick.
+pub fn is_mark(row: &ByteRecord) -> bool
     ensures { result ≡ is_mark_of (fields_of row.now) }
 {
     if row.len() != 1 {

@@ -4,7 +4,7 @@ use Rattle.tk_story.specs.Kept.{KeptStory}
 use Rattle.tk_story.specs.Story.{IsStory}
 use Rattle.tk_live.specs.Joining.{ledger_lines}
 use Rattle.tk_live.specs.Lived.{Concludes, TellsEnds}
-use Rattle.tk_live.specs.Serving.{faults_told}
+use Rattle.tk_load.specs.Surroundings.{faults_told}
 use Rattle.tk_live.specs.declared.outcome.Outcome.{Outcome}
 use Rattle.tk_load.specs.declared.status.Status.TheVariants as st
 use Rattle.tk_live.specs.Traffic.{traffic_of}

@@ -1,7 +1,7 @@
 use Rattle.std.proofs.Common.{◌≡◌, sym, ap, ◌∙◌}
 use Rattle.tk_story.specs.Ends.{joined, kept_by}
 use Rattle.tk_live.specs.Joined.{joined_as}
-use Rattle.tk_live.specs.Serving.{faults_told}
+use Rattle.tk_load.specs.Surroundings.{faults_told}
 use Rattle.tk_live.specs.declared.outcome.Outcome.{Outcome}
 use Rattle.tk_live.proofs.CountLemmas.{joined_spared}
 use Rattle.tk_live.proofs.TellLemmas.{complete_story, concludes_joined, kept_as, of_run, of_story}

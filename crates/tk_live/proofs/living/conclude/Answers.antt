@@ -7,7 +7,7 @@ use Rattle.tk_live.specs.Odd.{IsSomeOdd}
 use Rattle.tk_load.specs.declared.status.Status.TheVariants as st
 use Rattle.tk_live.specs.Lived.{Concludes}
 use Rattle.tk_live.specs.Parting.{faults_of}
-use Rattle.tk_live.specs.Serving.{faults_told}
+use Rattle.tk_load.specs.Surroundings.{faults_told}
 use Rattle.tk_live.specs.Traffic.{traffic_of}
 use Rattle.tk_live.specs.declared.outcome.Outcome.{Outcome}
 use Rattle.tk_live.proofs.ChoiceLemmas.{join_means, linked_means, nothing_odd, spared, written_means}

@@ -1,6 +1,6 @@
 use Rattle.std.proofs.Common.{None, ap, sym, subst, refl}
 use Rattle.tk_live.specs.Lived.{Concludes}
-use Rattle.tk_live.specs.Serving.{faults_told}
+use Rattle.tk_load.specs.Surroundings.{faults_told}
 use Rattle.tk_live.specs.Traffic.{traffic_of}
 use Rattle.tk_live.specs.declared.outcome.Outcome.{Outcome}
 use Rattle.tk_live.proofs.CountLemmas.{unstarted_spared}
