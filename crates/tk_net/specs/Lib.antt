@@ -1,3 +1,5 @@
+pub mod Cables
+pub mod Chunks
 pub mod Counting
 pub mod Hosting
 pub mod Memory

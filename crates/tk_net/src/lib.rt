@@ -2,14 +2,20 @@
 //!
 //! Both are proved against `tk_wire::Net`, `Host` and `Dialer`, and tell nothing of the bytes that pass. A net or a host in
 //! memory is for tests: it fails the calls that it is told to fail and no other, and may turn one byte.
-//! It stands on tk_base, tk_wire, mio and rtrb. No other crate names sockets, or rings between threads.
+//! Between hosts, bytes go in chunks with check sums, and pulses tell that a peer is there.
+//! It stands on tk_base, tk_wire, byteorder, mio and rtrb. No other crate names sockets, or rings between threads.
 #![tactic(auto)]
 
 mod attach;
+mod cable;
 mod caller;
+mod carrier;
+mod check_sum;
+mod chunk;
 mod dialed_link;
 mod door;
 mod host_faults;
+mod inlet;
 mod link_counts;
 mod lobby;
 mod loop_net;
@@ -21,6 +27,7 @@ mod mem_net;
 mod mem_rest;
 mod mem_source;
 mod net_counts;
+mod outlet;
 mod plan;
 mod ring;
 mod socket;
@@ -30,7 +37,9 @@ mod socket_host;
 mod socket_link;
 mod socket_rest;
 mod source;
+mod vigil;
 
+pub use cable::Cable;
 pub use dialed_link::DialedLink;
 pub use loop_net::LoopNet;
 pub use mem_bell::MemBell;

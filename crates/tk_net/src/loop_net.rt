@@ -46,7 +46,8 @@ fn connect<H: std::net::Net>(
     ensures rest { IfOk result (λ made. made.1 ≡ 0) }
 {
     let stream = TcpStream::connect(handle, to)?;
-    attach(handle, alloc, stream)
+    let (socket, rest, bell) = attach(handle, alloc, stream)?;
+    Ok((SocketLink::new(socket), rest, bell))
 }
 
 impl<'a, H: std::net::Net> LoopNet<'a, H> {

@@ -1,16 +1,17 @@
 ghost use Rattle.std.specs.Prelude.{◌≡◌, IfOk, IfSome};
 ghost use Rattle.tk_wire.specs.Host.{IsOfOurs};
+ghost use Rattle.tk_net.specs.Counting.{no_counts};
 ghost use Rattle.tk_net.specs.Hosting.{TurnsAway, new_host};
 
+use crate::cable::Cable;
 use crate::door::{Door, fault_of};
 use crate::host_faults::counted;
 use crate::lobby::Lobby;
 use crate::socket::Socket;
-use crate::socket_link::SocketLink;
 use std::alloc::Global;
 use std::io;
 use std::io::ErrorKind;
-use std::marker::Model;
+use std::marker::{Model, Send};
 use std::net::ToSocketAddrs;
 use std::time::{Clock, Duration, Instant};
 use tk_wire::{Greeting, Host, NetFault};
@@ -20,18 +21,18 @@ const MOST_AT_ONCE: u32 = 64;
 
 /// A host over sockets. At most 64 are held without a whole greeting, and a further one is turned away.
 #[derive(Drop)]
-pub struct SocketHost<'a, H: std::net::Net + Clock> {
+pub struct SocketHost<'a, H: std::net::Net + Clock + Copy + Send> {
     handle: &'a H,
     alloc: Global,
-    // How long a greeting may take.
-    silence: Duration,
+    // How many seconds a greeting may take, and a peer may be silent.
+    silence: u64,
     // None until it listens.
     door: Option<(Door, String)>,
     lobby: Lobby<Socket>,
     faults: u64,
 }
 
-impl<'a, H: std::net::Net + Clock> Model for SocketHost<'a, H> {
+impl<'a, H: std::net::Net + Clock + Copy + Send> Model for SocketHost<'a, H> {
     ghost use Rattle.std.specs.Prelude.{is_some};
     ghost use Rattle.tk_net.specs.Hosting.{HostView};
 
@@ -81,13 +82,15 @@ fn let_in(
     Ok(())
 }
 
-// The first of those who came in whose greeting is whole, if there is one.
-fn admit<H: Clock>(
+// The first of those who came in whose greeting is whole, if there is one, and the cable behind the greeting.
+fn admit<H: Clock + Copy>(
     clock: &H,
-    silence: Duration,
+    alloc: Global,
+    silence: u64,
     door: &mut Door,
     lobby: &mut Lobby<Socket>,
-) -> Result<Option<(Socket, Greeting)>, NetFault>
+) -> Result<Option<(Cable<H>, Greeting)>, NetFault>
+    ensures link { IfOk result (λ got. IfSome got (λ came. came.0.counts ≡ no_counts)) }
     ensures whose { IfOk result (λ got. IfSome got (λ came. IsOfOurs lobby.old.run lobby.old.monitors came.1)) }
     ensures kept { TurnsAway lobby.old lobby.new }
 {
@@ -95,16 +98,21 @@ fn admit<H: Clock>(
         Ok(now) => now,
         Err(error) => return Err(fault_of(error)),
     };
-    let_in(door, lobby, now.checked_add(silence))?;
-    match lobby.next(Some(now)) {
-        Ok(got) => Ok(got),
+    let_in(door, lobby, now.checked_add(Duration::from_secs(silence)))?;
+    let (socket, greeting) = match lobby.next(Some(now)) {
+        Ok(Some(came)) => came,
+        Ok(None) => return Ok(None),
+        Err(_) => return Err(NetFault::NoMemory),
+    };
+    match Cable::new(alloc, socket, *clock, silence, true) {
+        Ok(cable) => Ok(Some((cable, greeting))),
         Err(_) => Err(NetFault::NoMemory),
     }
 }
 
-impl<'a, H: std::net::Net + Clock> SocketHost<'a, H> {
+impl<'a, H: std::net::Net + Clock + Copy + Send> SocketHost<'a, H> {
     /// A host of a run with so many monitors, which has opened nothing yet. A greeting that is not whole within `silence`
-    /// seconds is a stranger's.
+    /// seconds is a stranger's, and a link over which nothing comes for so long has failed.
     pub fn new(
         alloc: Global,
         handle: &'a H,
@@ -117,7 +125,7 @@ impl<'a, H: std::net::Net + Clock> SocketHost<'a, H> {
         Ok(SocketHost {
             handle,
             alloc,
-            silence: Duration::from_secs(silence),
+            silence,
             door: None,
             lobby: Lobby::new(alloc, run, monitors),
             faults: 0,
@@ -125,8 +133,8 @@ impl<'a, H: std::net::Net + Clock> SocketHost<'a, H> {
     }
 }
 
-impl<'a, H: std::net::Net + Clock> Host for SocketHost<'a, H> {
-    type Link = SocketLink;
+impl<'a, H: std::net::Net + Clock + Copy + Send> Host for SocketHost<'a, H> {
+    type Link = Cable<H>;
 
     ghost state = { λ h. h.state };
 
@@ -159,13 +167,12 @@ impl<'a, H: std::net::Net + Clock> Host for SocketHost<'a, H> {
         name.as_str()
     }
 
-    fn accept(&mut self) -> Result<Option<(SocketLink, Greeting)>, NetFault> {
+    fn accept(&mut self) -> Result<Option<(Cable<H>, Greeting)>, NetFault> {
         let Some((door, _)) = &mut self.door else {
             unreachable!();
         };
-        match admit(self.handle, self.silence, door, &mut self.lobby) {
-            Ok(Some((socket, greeting))) => Ok(Some((SocketLink::new(socket), greeting))),
-            Ok(None) => Ok(None),
+        match admit(self.handle, self.alloc, self.silence, door, &mut self.lobby) {
+            Ok(came) => Ok(came),
             Err(fault) => Err(counted(&mut self.faults, fault)),
         }
     }
@@ -180,5 +187,5 @@ impl<'a, H: std::net::Net + Clock> Host for SocketHost<'a, H> {
         }
     }
 
-    fn back(&mut self, _link: SocketLink) {}
+    fn back(&mut self, _link: Cable<H>) {}
 }

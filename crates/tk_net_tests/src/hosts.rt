@@ -14,10 +14,10 @@ use tk_wire::{Beginning, Bell, Dialed, Dialer, Greeting, Host, Rest, Took, Wire}
 const LOOKS: u32 = 20;
 
 /// Run 5 with the objects a, b.
-const RUN: u64 = 0xa9b3_079e_17e9_d80d;
+pub(crate) const RUN: u64 = 0xa9b3_079e_17e9_d80d;
 
 /// The mark of a greeting.
-const MARK: [u8; 4] = [0x54, 0x4b, 0x43, 0x31];
+pub(crate) const MARK: [u8; 4] = [0x54, 0x4b, 0x43, 0x31];
 
 /// Writes bytes over those from a place on.
 fn write(bytes: &mut [u8; 113], at: usize, part: &[u8])
@@ -27,7 +27,7 @@ fn write(bytes: &mut [u8; 113], at: usize, part: &[u8])
 }
 
 /// The bytes of a greeting whose first stream has given 1,000 records and starts at place 37.
-fn bytes_of(mark: [u8; 4], run: u64, mon: u32, streams: u8) -> [u8; 113] {
+pub(crate) fn bytes_of(mark: [u8; 4], run: u64, mon: u32, streams: u8) -> [u8; 113] {
     let mut bytes = [0; 113];
     write(&mut bytes, 0, &mark);
     write(&mut bytes, 4, &run.to_be_bytes());
@@ -43,7 +43,7 @@ fn bytes_of(mark: [u8; 4], run: u64, mon: u32, streams: u8) -> [u8; 113] {
 
 /// Whom a host met: a monitor with the count and the place of its first stream, a stranger, or nobody.
 #[derive(Clone, Copy, Debug, PartialEq, Eq)]
-enum Met {
+pub(crate) enum Met {
     Monitor(u32, u64, u32),
     Stranger,
     Nobody,
@@ -88,7 +88,12 @@ fn say<R: Net>(rt: &R, at: &str, bytes: &[u8]) -> Option<()> {
 }
 
 /// Whom a host of run 5 with two monitors meets behind these bytes.
-fn whom_it_meets<R: Net + Clock>(rt: &R, alloc: Global, silence: u64, bytes: &[u8]) -> Option<Met> {
+fn whom_it_meets<R: Net + Clock + Copy + Send>(
+    rt: &R,
+    alloc: Global,
+    silence: u64,
+    bytes: &[u8],
+) -> Option<Met> {
     let mut host = SocketHost::new(alloc, rt, RUN, 2, silence).ok()?;
     let Ok(()) = host.listen("127.0.0.1:0") else {
         drop(host);
@@ -163,7 +168,7 @@ fn crowded<R: Net, H: Host>(rt: &R, alloc: Global, host: &mut H) -> Option<(u64,
 }
 
 /// The same over a host of its own.
-fn crowded_host<R: Net + Clock>(rt: &R, alloc: Global) -> Option<(u64, u64, Met)> {
+fn crowded_host<R: Net + Clock + Copy + Send>(rt: &R, alloc: Global) -> Option<(u64, u64, Met)> {
     let mut host = SocketHost::new(alloc, rt, RUN, 2, 20).ok()?;
     let Ok(()) = host.listen("127.0.0.1:0") else {
         drop(host);
@@ -181,7 +186,7 @@ fn a_hundred_strangers_keep_nobody_out_for_long(rt: HostRuntime) {
 }
 
 /// How many strangers there are where a greeting may take no time.
-fn silent<R: Net + Clock>(rt: &R, alloc: Global) -> Option<u64> {
+fn silent<R: Net + Clock + Copy + Send>(rt: &R, alloc: Global) -> Option<u64> {
     let mut host = SocketHost::new(alloc, rt, RUN, 2, 0).ok()?;
     let Ok(()) = host.listen("127.0.0.1:0") else {
         drop(host);
@@ -200,7 +205,7 @@ fn who_says_nothing_is_a_stranger_in_the_end(rt: HostRuntime) {
 }
 
 /// The greeting of monitor 2 whose stream has given 1,000 records and starts at place 37.
-fn greeting(alloc: Global) -> Option<Greeting>
+pub(crate) fn greeting(alloc: Global) -> Option<Greeting>
     ensures monitor { IfSome result NamesMonitor }
     ensures streams { IfSome result TellsStreams }
 {
@@ -234,7 +239,7 @@ fn a_greeting_has_its_bytes(rt: HostRuntime) {
 }
 
 /// Whose the next link is and the link, once a greeting is whole.
-fn accepted<H: Host>(host: &mut H) -> Option<(Met, H::Link)>
+pub(crate) fn accepted<H: Host>(host: &mut H) -> Option<(Met, H::Link)>
     requires { (H.state host.old).listens ≡ true }
     ensures { (H.state host.new).listens ≡ true }
 {
@@ -289,7 +294,7 @@ fn whole() -> (Met, [u8; 4], [u8; 4]) {
 }
 
 /// The exchange over sockets.
-fn over_sockets<R: Net<Stream = TcpStream> + Clock>(
+fn over_sockets<R: Net<Stream = TcpStream> + Clock + Copy + Send>(
     rt: &R,
     alloc: Global,
 ) -> Option<(Met, [u8; 4], [u8; 4])> {
@@ -299,7 +304,7 @@ fn over_sockets<R: Net<Stream = TcpStream> + Clock>(
         drop(host);
         return None;
     };
-    let dialer = SocketDialer::new(alloc, rt, host.address());
+    let dialer = SocketDialer::new(alloc, rt, host.address(), 20);
     let exchanged = match dialer {
         Ok(mut dialer) => exchanged(&mut host, &mut dialer, &greeting),
         Err(_) => None,

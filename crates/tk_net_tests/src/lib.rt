@@ -2,6 +2,8 @@
 #![tactic(auto)]
 
 #[cfg(test)]
+mod cables;
+#[cfg(test)]
 mod hosts;
 #[cfg(test)]
 mod tests;
