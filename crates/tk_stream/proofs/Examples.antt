@@ -8,6 +8,7 @@ use Rattle.tk_stream.specs.First.{first_of}
 use Rattle.tk_stream.specs.Line.{line_change, line_of}
 use Rattle.tk_stream.specs.Lines.{behind_feed}
 use Rattle.tk_stream.specs.declared.line_fault.LineFault.TheVariants as l
+use Rattle.tk_window.specs.Ticks.Entry.{Made, Mark}
 
 -- the names a and b
 abbrev names : List (List ℕ)
@@ -30,43 +31,43 @@ pub passed : behind_feed (codes "aaa\nb,3\n") ≡ codes "b,3\n"
 passed = refl
 
 -- the first line is a record
-pub first : first_of names true 0 0 (codes "a,5" ∷ [] ∷ codes "\"b\",3" ∷ rest)
-    ≡ record { what = Ok (Some (1, pos 5)); number = 1; skipped = 0; left = [] ∷ codes "\"b\",3" ∷ rest }
+pub first : first_of false names true 0 0 (codes "a,5" ∷ [] ∷ codes "\"b\",3" ∷ rest)
+    ≡ record { what = Ok (Some (Made (1, pos 5))); number = 1; skipped = 0; left = [] ∷ codes "\"b\",3" ∷ rest }
 unfolding csv_on_literals through first_of
 first = refl
 
 -- an empty line is passed over, and counts
-pub behind_empty : first_of names true 1 0 ([] ∷ codes "\"b\",3" ∷ rest) ≡ record { what = Ok (Some (2, pos 3)); number = 3; skipped = 0; left = rest }
+pub behind_empty : first_of false names true 1 0 ([] ∷ codes "\"b\",3" ∷ rest) ≡ record { what = Ok (Some (Made (2, pos 3))); number = 3; skipped = 0; left = rest }
 unfolding csv_on_literals through first_of
 behind_empty = refl
 
 -- three bad lines are skipped
-pub skipped : first_of names true 3 0 rest ≡ record { what = Ok (Some (2, neg_ℤ (pos 1))); number = 7; skipped = 3; left = [] }
+pub skipped : first_of false names true 3 0 rest ≡ record { what = Ok (Some (Made (2, neg_ℤ (pos 1)))); number = 7; skipped = 3; left = [] }
 unfolding csv_on_literals through first_of
 skipped = refl
 
 -- or the first of them is a fault
-pub unknown_name : first_of names false 3 0 rest
+pub unknown_name : first_of false names false 3 0 rest
     ≡ record { what = Err l.UnknownName; number = 4; skipped = 0; left = codes "b;2" ∷ codes "a,x" ∷ codes "b,-1" ∷ [] }
 unfolding csv_on_literals through first_of
 unknown_name = refl
 
 -- as the others are behind it
-pub bad_row : line_of names (codes "b;2") ≡ Some (Err l.BadRow)
+pub bad_row : line_of false names (codes "b;2") ≡ Some (Err l.BadRow)
 unfolding csv_on_literals through
 bad_row = refl
 
-pub bad_number : line_of names (codes "a,x") ≡ Some (Err l.BadNumber)
+pub bad_number : line_of false names (codes "a,x") ≡ Some (Err l.BadNumber)
 unfolding csv_on_literals through
 bad_number = refl
 
 -- a quoted field ends with its line
-pub open_quote : first_of names false 0 0 (lines (codes "\"a,5\nb,3\n")) ≡ record { what = Err l.BadRow; number = 1; skipped = 0; left = codes "b,3" ∷ [] }
+pub open_quote : first_of false names false 0 0 (lines (codes "\"a,5\nb,3\n")) ≡ record { what = Err l.BadRow; number = 1; skipped = 0; left = codes "b,3" ∷ [] }
 unfolding csv_on_literals through first_of
 open_quote = refl
 
 -- so it does not reach the next one
-pub behind_quote : first_of names true 0 0 (lines (codes "\"a,5\nb,3\n")) ≡ record { what = Ok (Some (2, pos 3)); number = 2; skipped = 1; left = [] }
+pub behind_quote : first_of false names true 0 0 (lines (codes "\"a,5\nb,3\n")) ≡ record { what = Ok (Some (Made (2, pos 3))); number = 2; skipped = 1; left = [] }
 unfolding csv_on_literals through first_of
 behind_quote = refl
 
@@ -79,3 +80,27 @@ two_records = refl
 pub mark : line_change names (0xEF ∷ 0xBB ∷ 0xBF ∷ codes "a,1") ≡ Ok (1, pos 1)
 unfolding csv_on_literals through
 mark = refl
+
+-- a line of the single field `tick` ends a tick, also where it is quoted
+pub tick : first_of true names false 0 0 (codes "tick" ∷ codes "a,5" ∷ []) ≡ record { what = Ok (Some Mark); number = 1; skipped = 0; left = codes "a,5" ∷ [] }
+unfolding csv_on_literals through first_of
+tick = refl
+
+pub quoted_tick : line_of true names (codes "\"tick\"") ≡ Some (Ok Mark)
+unfolding csv_on_literals through
+quoted_tick = refl
+
+-- without ticks it is a bad row
+pub no_tick : line_of false names (codes "tick") ≡ Some (Err l.BadRow)
+unfolding csv_on_literals through
+no_tick = refl
+
+-- two marks in a line are a bad row
+pub two_ticks : line_of true names (codes "tick\rtick") ≡ Some (Err l.BadRow)
+unfolding csv_on_literals through
+two_ticks = refl
+
+-- an object of that name is counted by two fields
+pub named_tick : line_of true (codes "tick" ∷ []) (codes "tick,5") ≡ Some (Ok (Made (1, pos 5)))
+unfolding csv_on_literals through
+named_tick = refl

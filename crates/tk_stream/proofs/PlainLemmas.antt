@@ -14,7 +14,7 @@ use Rattle.tk_input.specs.Catalog.{object_of}
 use Rattle.tk_input.specs.Log.{change_added, change_of}
 use Rattle.tk_input.specs.Number.{whole_number}
 use Rattle.tk_input.specs.Records.{and_then, records_in, through}
-use Rattle.tk_stream.specs.Line.{line_change, meant_by}
+use Rattle.tk_stream.specs.Line.{are_tick, line_change, meant_by}
 use Rattle.tk_stream.specs.Plain.{IsPlain, is_mark}
 use Rattle.tk_stream.specs.declared.line_fault.LineFault.{LineFault}
 use Rattle.tk_stream.specs.declared.line_fault.LineFault.TheVariants as l
@@ -115,17 +115,26 @@ log_of_one : (names : List (List ℕ)) (name text : List ℕ) → meant_by (thro
 unfolding through
 log_of_one names name text = meant (object_of names name) (whole_number text)
 
--- what a plain line is
-pub plain_line : (names : List (List ℕ)) (line : List ℕ) (place : ℕ) → IsPlain line place → line_change names line ≡ plain_of (object_of names (take place line)) (whole_number (drop (place + 1) line))
-plain_line names line place is =
+-- the one record of a plain line
+plain_records : (line : List ℕ) (place : ℕ) → IsPlain line place → records_in line ≡ (take place line ∷ drop (place + 1) line ∷ []) ∷ []
+plain_records line place is =
     let next : suc place ≡ place + 1 = omega arith in
     let behind : drop place line ≡ 44 ∷ drop (place + 1) line =
     drop-cons line place 0 is.within ∙ ap (λ b. b ∷ drop (suc place) line) is.comma ∙ ap (λ n. 44 ∷ drop n line) next in
     let whole : line ≡ take place line ++ (44 ∷ drop (place + 1) line) =
     sym (take-append-drop place line) ∙ ap (λ xs. take place line ++ xs) behind in
     let some : 0 < length (take place line) = omega (arith, length-take-le place line (omega (arith, is.within)), is.some) in
-    ap (λ rows. meant_by (through (change_added names) [] rows)) (fields_of_plain (take place line) (drop (place + 1) line) line whole some is.start is.name is.text)
+    fields_of_plain (take place line) (drop (place + 1) line) line whole some is.start is.name is.text
+
+-- what a plain line is
+pub plain_line : (names : List (List ℕ)) (line : List ℕ) (place : ℕ) → IsPlain line place → line_change names line ≡ plain_of (object_of names (take place line)) (whole_number (drop (place + 1) line))
+plain_line names line place is =
+    ap (λ rows. meant_by (through (change_added names) [] rows)) (plain_records line place is)
     ∙ log_of_one names (take place line) (drop (place + 1) line)
+
+-- it is no tick
+pub plain_is_no_tick : (line : List ℕ) (place : ℕ) → IsPlain line place → are_tick (records_in line) ≡ false
+plain_is_no_tick line place is = ap are_tick (plain_records line place is)
 
 -- in front of the first mark there is none
 none_before : (p : ℕ → Bool) (xs : List ℕ) → list_any p (take (position_or_len p xs) xs) ≡ false

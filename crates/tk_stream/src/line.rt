@@ -2,10 +2,12 @@
 
 ghost use Rattle.std.specs.Prelude.{◌≡◌, Ok, Err, IfOk, IfErr, IfSome, length};
 ghost use Rattle.tk_input.specs.Logs.{IsObject};
-ghost use Rattle.tk_stream.specs.Line.{judged_as, IsOfObject, OfFault, line_change, line_of, record_as, single};
+ghost use Rattle.tk_stream.specs.Line.{IsItemOf, IsJudgedOf, OfFault, entry_as, judged_as, line_change, line_entry, line_of, made_of, record_as, single};
 
+use crate::item::Item;
 use crate::line_fault::LineFault;
 use crate::plain::{comma_in, plain_record};
+use crate::tick::is_tick;
 use std::alloc::Global;
 use tk_base::NoMemory;
 use tk_input::{Catalog, Change, Part, PartFault};
@@ -18,7 +20,7 @@ pub const MAX_LINE: usize = 65_536;
 pub enum Judged {
     /// It is passed over.
     Empty,
-    Record(Change),
+    Found(Item),
     Bad(LineFault),
 }
 
@@ -77,10 +79,36 @@ pub fn record_of(
     }
 }
 
+/// What a record that was read is to a reader of items.
+fn item_of(read: Result<Change, LineFault>) -> Result<Item, LineFault>
+    ensures { entry_as result ≡ made_of (record_as read) }
+{
+    match read {
+        Ok(change) => Ok(Item::Record(change)),
+        Err(fault) => Err(fault),
+    }
+}
+
+/// What a line is, read as a log of its own, where ticks are known or not.
+fn item_in(
+    alloc: Global,
+    line: &[u8],
+    names: &Catalog,
+    ticks: bool,
+) -> Result<Result<Item, LineFault>, NoMemory>
+    ensures ok { IfOk result (λ read. entry_as read ≡ line_entry ticks names.now line.now) }
+    ensures object { IfOk result (λ read. IfOk read (IsItemOf ticks (length names.now))) }
+{
+    if ticks && is_tick(alloc, line)? {
+        return Ok(Ok(Item::Tick));
+    }
+    Ok(item_of(record_of(alloc, line, names)?))
+}
+
 /// What a line is, whatever its length.
-pub fn judge(alloc: Global, line: &[u8], names: &Catalog) -> Result<Judged, NoMemory>
-    ensures ok { IfOk result (λ judged. judged_as judged ≡ line_of names.now line.now) }
-    ensures object { IfOk result (IsOfObject (length names.now)) }
+pub fn judge(alloc: Global, line: &[u8], names: &Catalog, ticks: bool) -> Result<Judged, NoMemory>
+    ensures ok { IfOk result (λ judged. judged_as judged ≡ line_of ticks names.now line.now) }
+    ensures object { IfOk result (IsJudgedOf ticks (length names.now)) }
 {
     if line.is_empty() {
         return Ok(Judged::Empty);
@@ -88,8 +116,8 @@ pub fn judge(alloc: Global, line: &[u8], names: &Catalog) -> Result<Judged, NoMe
     if line.len() > MAX_LINE {
         return Ok(Judged::Bad(LineFault::TooLong));
     }
-    match record_of(alloc, line, names)? {
-        Ok(change) => Ok(Judged::Record(change)),
+    match item_in(alloc, line, names, ticks)? {
+        Ok(item) => Ok(Judged::Found(item)),
         Err(fault) => Ok(Judged::Bad(fault)),
     }
 }

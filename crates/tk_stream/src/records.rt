@@ -1,14 +1,16 @@
-//! The records of a stream, line by line.
+//! The records and ticks of a stream, line by line.
 
 ghost use Rattle.std.specs.Prelude.{◌≡◌, ◌<◌, [], true, false, IfOk, IfErr, IfSome, length};
 ghost use Rattle.tk_input.specs.Logs.{IsObject};
 ghost use Rattle.tk_stream.specs.First.{next_number};
+ghost use Rattle.tk_stream.specs.Line.{IsItemOf};
 ghost use Rattle.tk_stream.specs.LineBuffer.{left_in};
-ghost use Rattle.tk_stream.specs.Records.{Fails, Finds, MayEnd, faults_after, unread_of};
+ghost use Rattle.tk_stream.specs.Records.{Fails, FailsItem, Finds, FindsItem, MayEnd, faults_after, unread_of};
 ghost use Rattle.tk_stream.specs.Turn.{Counts, IsTurnOf, Turns};
 ghost use Rattle.tk_stream.specs.declared.records.Turn.TheVariants.{More};
 
 use crate::front::feed_in;
+use crate::item::Item;
 use crate::line::Judged;
 use crate::line_buffer::LineBuffer;
 use crate::line_fault::LineFault;
@@ -46,7 +48,7 @@ impl Error for StreamFault {}
 enum Turn {
     /// A line was passed over, or bytes were read.
     More,
-    Record(Change),
+    Found(Item),
     End,
 }
 
@@ -95,7 +97,7 @@ fn count(
     *number = number.saturating_add(1);
     match judged {
         Judged::Empty => Ok(Turn::More),
-        Judged::Record(change) => Ok(Turn::Record(change)),
+        Judged::Found(item) => Ok(Turn::Found(item)),
         Judged::Bad(_) if skips => {
             *skipped = skipped.saturating_add(1);
             Ok(Turn::More)
@@ -169,10 +171,44 @@ impl<S: Source + Drop> Records<S> {
         ensures skips { self.new.skips ≡ self.old.skips }
         ensures tells { self.new.tells ≡ self.old.tells }
     {
+        match self.go_on(names, false) {
+            Ok(Some(Item::Record(change))) => Ok(Some(change)),
+            Ok(Some(Item::Tick)) => unreachable!(),
+            Ok(None) => Ok(None),
+            Err(fault) => Err(fault),
+        }
+    }
+
+    /// As `next`, but a line that is a tick, the single field `tick`, is one; to `next` it is a bad row. So where an object is
+    /// named `tick`, a line of that name and a number is a record.
+    pub fn next_item(&mut self, names: &Catalog) -> Result<Option<Item>, StreamFault>
+        // What comes is the first record, tick or fault of the lines that were left, and leaves those behind it.
+        ensures ok { IfOk result (λ came. FindsItem true names.now came self.old self.new) }
+        ensures err { IfErr result (λ fault. FailsItem true names.now fault self.old self.new) }
+        // Whatever the source: a record is of the catalogue, and a bad line is an error only where none is skipped.
+        ensures object { IfOk result (λ came. IfSome came (IsItemOf true (length names.now))) }
+        ensures strict { IfErr result (λ fault. MayEnd fault self.old.skips) }
+        ensures counted { self.new.faults ≡ faults_after result self.old.faults }
+        ensures skips { self.new.skips ≡ self.old.skips }
+        ensures tells { self.new.tells ≡ self.old.tells }
+    {
+        self.go_on(names, true)
+    }
+
+    /// The next item, where ticks are known or not.
+    fn go_on(&mut self, names: &Catalog, ticks: bool) -> Result<Option<Item>, StreamFault>
+        ensures ok { IfOk result (λ came. FindsItem ticks names.now came self.old self.new) }
+        ensures err { IfErr result (λ fault. FailsItem ticks names.now fault self.old self.new) }
+        ensures object { IfOk result (λ came. IfSome came (IsItemOf ticks (length names.now))) }
+        ensures strict { IfErr result (λ fault. MayEnd fault self.old.skips) }
+        ensures counted { self.new.faults ≡ faults_after result self.old.faults }
+        ensures skips { self.new.skips ≡ self.old.skips }
+        ensures tells { self.new.tells ≡ self.old.tells }
+    {
         for _ in 0..u64::MAX {
-            match self.turn(names) {
+            match self.turn(names, ticks) {
                 Ok(Turn::More) => {}
-                Ok(Turn::Record(change)) => return Ok(Some(change)),
+                Ok(Turn::Found(item)) => return Ok(Some(item)),
                 Ok(Turn::End) => return Ok(None),
                 Err(fault) => return Err(fault),
             }
@@ -182,16 +218,16 @@ impl<S: Source + Drop> Records<S> {
     }
 
     /// Takes the line at the front, or reads once.
-    fn turn(&mut self, names: &Catalog) -> Result<Turn, StreamFault>
-        ensures ok { IfOk result (λ turn. Turns names.now turn self.old self.new) }
-        ensures err { IfErr result (λ fault. Fails names.now fault self.old self.new) }
-        ensures object { IfOk result (IsTurnOf (length names.now)) }
+    fn turn(&mut self, names: &Catalog, ticks: bool) -> Result<Turn, StreamFault>
+        ensures ok { IfOk result (λ turn. Turns ticks names.now turn self.old self.new) }
+        ensures err { IfErr result (λ fault. FailsItem ticks names.now fault self.old self.new) }
+        ensures object { IfOk result (IsTurnOf ticks (length names.now)) }
         ensures strict { IfErr result (λ fault. MayEnd fault self.old.skips) }
         ensures counted { self.new.faults ≡ faults_after result self.old.faults }
         ensures skips { self.new.skips ≡ self.old.skips }
         ensures tells { self.new.tells ≡ self.old.tells }
     {
-        match take_front(self.alloc, &mut self.buffer, self.ended, names) {
+        match take_front(self.alloc, &mut self.buffer, self.ended, names, ticks) {
             Ok(Met::Line(judged)) => count(judged, self.skips, &mut self.number, &mut self.skipped),
             Ok(Met::Part) => read_more(&mut self.buffer, &mut self.source, &mut self.ended),
             Ok(Met::Nothing) => Ok(Turn::End),

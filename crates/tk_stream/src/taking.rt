@@ -27,14 +27,15 @@ pub fn take_front(
     buffer: &mut LineBuffer,
     ended: bool,
     names: &Catalog,
+    ticks: bool,
 ) -> Result<Met, NoMemory>
-    ensures ok { IfOk result (λ met. Meets names.now met buffer.old buffer.new ended) }
+    ensures ok { IfOk result (λ met. Meets ticks names.now met buffer.old buffer.new ended) }
     ensures err { OnErr result (buffer.new ≡ buffer.old) }
-    ensures object { IfOk result (IsMetOf (length names.now)) }
+    ensures object { IfOk result (IsMetOf ticks (length names.now)) }
 {
     match front_of(buffer.held(), ended) {
         Front::Line(line, taken) => {
-            let judged = judge(alloc, line, names)?;
+            let judged = judge(alloc, line, names, ticks)?;
             buffer.remove(taken);
             Ok(Met::Line(judged))
         }

@@ -1,0 +1,3 @@
+pub mod SumsLemmas
+pub mod KeptLemmas
+pub mod RunLemmas
