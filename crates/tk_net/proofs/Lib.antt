@@ -1,1 +1,3 @@
 mod CableLemmas
+mod Examples
+mod LawLemmas

@@ -16,6 +16,7 @@ mod dialed_link;
 mod door;
 mod host_faults;
 mod inlet;
+mod laws;
 mod link_counts;
 mod lobby;
 mod loop_net;
@@ -41,6 +42,7 @@ mod vigil;
 
 pub use cable::Cable;
 pub use dialed_link::DialedLink;
+pub use laws::chunks_are_read_back;
 pub use loop_net::LoopNet;
 pub use mem_bell::MemBell;
 pub use mem_dialer::MemDialer;
