@@ -2,12 +2,14 @@
 
 The folder examples/three_processes has the words of each process; what stands for the address is filled in. A set is right where
 plain sums over the places printed beside it make it so. Besides: monitors fed by pipes at once, whose coordinator is ended and
-begun anew; one that begins first, one of another run, of another catalogue, or that nobody answers; lines that are no records;
-and strangers, who change nothing.
+begun anew; one that begins first, one of another run, of another catalogue, or that nobody answers; lines that are no records; logs
+of web servers, routers and caches through the scripts that make streams of them; the units for systemd; and strangers, who change
+nothing.
 """
 import os
 import pathlib
 import random
+import shutil
 import socket
 import struct
 import subprocess
@@ -210,6 +212,49 @@ def odd_lines():
     assert lines[-1].endswith(" cut 1:4 members a"), f"the last set: {lines}"
 
 
+# Logs as they are written, and the script of their folder that makes a stream of one.
+SOURCES = {"access_log": "web{}.log", "flow_records": "edge{}.flows", "cache_keys": "node{}.txt"}
+
+
+def three_sources():
+    """Three monitors behind a pipe of each kind of log, whose final set plain sums over the logs find right."""
+    for name, log in SOURCES.items():
+        folder = plain.ROOT / "examples" / name
+        objects = ["--objects", str(folder / "objects.csv"), "--run", "3"]
+        coordinator = Process(["coordinate", "--monitors", "3", "--k", "3", "--epsilon", "5", *objects, "--listen", "127.0.0.1:0"])
+        address, monitors = coordinator.address(), []
+        for number in (1, 2, 3):
+            pipe = subprocess.run(["awk", "-f", folder / "to_stream.awk", folder / log.format(number)], capture_output=True, check=True)
+            monitors.append(Process(["monitor", "--number", str(number), *objects, "--connect", address, "--skip-bad", "yes", "-"],
+                                    pipe.stdout.decode()))
+        for monitor in monitors:
+            monitor.ended(0)
+        lines = coordinator.ended(0)
+        names = plain.catalogue_of(folder, {"objects": "objects.csv"})
+        records = {number: [c for tick in plain.ticks_of(folder / f"{number}.csv") for c in tick] for number in (1, 2, 3)}
+        whole = {number: [len(some) + 1] for number, some in records.items()}
+        last = lines[-1].split()
+        assert plain.cut_of(last[3:last.index("members")]) == whole, f"{name}: the last set: {lines[-1]}"
+        fault = is_right_over(names, {number: [some] for number, some in records.items()}, lines, 3, 5)
+        if fault:
+            return f"{name}: {fault}"
+    return None
+
+
+def units():
+    """The units are as systemd wants them, where it is there to say so."""
+    verify = shutil.which("systemd-analyze")
+    if not verify:
+        return None
+    with tempfile.TemporaryDirectory() as folder:
+        room = pathlib.Path(folder)
+        for unit in ("topk-coordinate.service", "topk-monitor@.service"):
+            text = (plain.ROOT / "examples" / "units" / unit).read_text()
+            (room / unit).write_text(text.replace("/usr/local/bin/topk", str(PROGRAM)))
+        said = subprocess.run([verify, "verify", room / "topk-coordinate.service", room / "topk-monitor@.service"], capture_output=True)
+        return said.stderr.decode() if said.returncode else None
+
+
 def others_are_strangers():
     """A monitor of another run, and one with other objects, join nothing; nobody answers one that dials elsewhere."""
     coordinator = Process(words("coordinate", "127.0.0.1:0"))
@@ -258,7 +303,8 @@ def main():
     if not PROGRAM.exists():
         print("processes: the program is not built")
         return 1
-    for case in (in_order, monitors_first, alone, fed_at_once, odd_lines, others_are_strangers, lambda: in_order(knock)):
+    for case in (in_order, monitors_first, alone, fed_at_once, odd_lines, three_sources, units, others_are_strangers,
+                 lambda: in_order(knock)):
         fault = case()
         if fault:
             print(f"processes: {fault}")

@@ -5,8 +5,7 @@
 
 Streams come by pipes from this script, which keeps every record of every incarnation of each monitor. A set is right where plain
 sums over exactly the prefixes printed beside it make it so. Monitors reach their coordinator through small proxies of this
-script, or, as root and with --namespaces, from network namespaces of their own. A peer that is silent while its connection
-stands may hold a session, so a half-open link is closed in the end.
+script, or, as root and with --namespaces, from network namespaces of their own.
 """
 import argparse
 import collections
@@ -99,6 +98,16 @@ def half_open(nodes):
     gate.lost = nodes.pick.choice(({"up"}, {"down"}, {"up", "down"}))
     time.sleep(0.1 * 50 ** nodes.pick.random())
     gate.cut(hard=nodes.pick.random() < 0.5)
+    gate.lost = set()
+    return "joined again"
+
+
+def gone_silent(nodes):
+    """Loses all that goes both ways from now on, and closes nothing: pulses that do not come tell both ends."""
+    gate = nodes.monitor(nodes.pick.randint(1, nodes.count)).gate
+    gate.lost = {"up", "down"}
+    # Within this time a pulse goes each way.
+    time.sleep(nodes.silence / 4 + 0.5)
     gate.lost = set()
     return "joined again"
 
@@ -306,8 +315,8 @@ ANYWHERE = (kill_coordinator, kill_monitor, twin_monitor, second_coordinator, st
             restart_among_strangers, mute_coordinator, mute_monitor, bad_line, end_stream)
 # Behind these a new session begins.
 BREAKING = (kill_coordinator, kill_monitor, kill_kept, kill_behind_link, kill_apart, twin_monitor, restart_among_strangers, mute_coordinator,
-            mute_monitor, bad_line, cut_link, half_open, cut_all)
-GATED = (kill_kept, cut_link, half_open, delay_link, cut_all)
+            mute_monitor, bad_line, cut_link, half_open, gone_silent, cut_all)
+GATED = (kill_kept, cut_link, half_open, gone_silent, delay_link, cut_all)
 HOSTED = (link_down, kill_behind_link, kill_apart)
 
 
@@ -372,17 +381,19 @@ class Table:
 def hurt(nodes, options, table):
     """Hurts a world as often as was asked for, spread over the seconds."""
     gap = options.seconds / (options.faults + 1)
+    # The session behind which another must begin before all is well.
+    owed = (0, 0)
     for number in range(options.faults):
         kind = nodes.pick.choice(options.only or kinds(nodes))
         time.sleep(gap * (0.5 + nodes.pick.random()) if nodes.pick.random() < 0.8 else 0)
         if kind in CALM:
-            nodes.recovered()
+            nodes.recovered(owed)
         nodes.say(kind.__name__)
-        before = nodes.mark() if kind in BREAKING else (0, 0)
+        owed = max(owed, nodes.mark()) if kind in BREAKING else owed
         start = time.monotonic()
         outcome = kind(nodes)
         if nodes.pick.random() < 0.8 or number == options.faults - 1:
-            nodes.recovered(before)
+            nodes.recovered(owed)
             nodes.progressed()
             seconds = time.monotonic() - start
             nodes.within_bounds(options.megabytes)

@@ -120,7 +120,8 @@ class Monitor(Process):
                 self.paths.append(nodes.fifo(number))
                 opened.append(streams.opened_fifo(nodes.room / self.paths[-1]))
         words = [nodes.program, "monitor", "--number", str(number), "--objects", "objects.csv", "--run", str(RUN), "--connect",
-                 gate.address if gate else nodes.address, "--frames", str(pick.choice((1, 2))), "--pause", str(nodes.pause), *self.paths]
+                 gate.address if gate else nodes.address, "--frames", str(pick.choice((1, 2))), "--pause", str(nodes.pause),
+                 "--silence", str(nodes.silence), *self.paths]
         super().__init__(words, nodes.room, given, nodes.within(number))
         if given is not None:
             os.close(given)
