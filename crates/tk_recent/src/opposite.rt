@@ -1,21 +1,23 @@
 //! What takes some sums back.
 
-ghost use Rattle.std.specs.Prelude.{◌≡◌, ◌<◌, ◌≤◌, ◌^◌, ◌++◌, ◌∷◌, [], All, IfOk, OnOk, if◌then◌else◌, length, unsigned_abs};
-ghost use Rattle.tk_compact.specs.Compacted.{changes_something};
+ghost use Rattle.std.specs.Prelude.{◌≡◌, ◌<◌, ◌≤◌, ◌^◌, ◌++◌, All, IfOk, OnOk, length, unsigned_abs};
+ghost use Rattle.tk_recent.specs.Fields.{undone};
 ghost use Rattle.tk_recent.specs.Kept.{opposite as opposite_of};
 
 use std::alloc::Global;
 use tk_base::{NoMemory, Obj};
 use tk_input::{Change, Changes};
 
-/// Adds a change, where it changes something.
-fn add(changes: &mut Changes, obj: Obj, by: i128) -> Result<(), NoMemory>
-    ensures { OnOk result (changes.new ≡ changes.old ++ (if changes_something (obj.0, by) then (obj.0, by) ∷ [] else [])) }
+/// Adds what takes the sum of an object back, where it is not zero.
+fn undo(changes: &mut Changes, obj: Obj, sum: i128) -> Result<(), NoMemory>
+    requires { unsigned_abs sum < 2 ^ 127 }
+    ensures { OnOk result (changes.new ≡ changes.old ++ undone obj.0 sum) }
 {
-    if by.unsigned_abs() == 0 {
-        return Ok(());
+    let by = -sum;
+    match by.unsigned_abs() {
+        0 => Ok(()),
+        _ => changes.push(Change { obj, by }),
     }
-    changes.push(Change { obj, by })
 }
 
 /// What takes back the sums of all objects. Costs a look at each object, and memory for those whose sum is not zero.
@@ -26,7 +28,7 @@ pub(crate) fn opposite(alloc: Global, sums: &[i128]) -> Result<Changes, NoMemory
 {
     let mut changes = Changes::new(alloc);
     for i in 0..sums.len() {
-        add(&mut changes, Obj(i as u32 + 1), -sums[i])?;
+        undo(&mut changes, Obj(i as u32 + 1), sums[i])?;
     }
     changes.shrink_to_fit();
     Ok(changes)

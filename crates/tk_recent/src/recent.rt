@@ -81,7 +81,7 @@ impl Recent {
     }
 
     /// A record of the tick that runs, in constant time and without memory. Refused where the sum of its object in this tick has no
-    /// 127 bits. Where all values and records are within 2^100, as a watch has them, so great a sum takes over 2^27 records of one tick
+    /// 127 bits. Where all values and records are within 2^100, as a watch has them, so great a sum takes 2^27 records of one tick or more
     /// whose opposites other streams give.
     pub fn note(&mut self, change: Change) -> Result<(), TooGreat>
         requires { IsObject (length self.old.sums) change.obj.0 }

@@ -6,8 +6,8 @@ use Rattle.tk_recent.specs.Kept.{Kept, taken}
 
 -- what was told and what is left to tell are together what they were, and nothing else changed
 pub record Tells (told now : List (ℕ × ℤ)) (old new : Kept) : Type 0 where
-  together : now ++ new.back ≡ told ++ old.back
-  others : record new { back = [] } ≡ record old { back = [] }
+  pub together : now ++ new.back ≡ told ++ old.back
+  pub others : record new { back = [] } ≡ record old { back = [] }
 
 first_left : (back : List (ℕ × ℤ)) (c : ℕ × ℤ) → Some c ≡ slice_get back 0 → c ∷ drop 1 back ≡ back
 first_left [] c is = absurd (cc)

@@ -1,5 +1,5 @@
 use Rattle.std.proofs.Common.{◌≡◌, ℕ, ℤ, to_z, of_z, suc, ◌+◌, ◌<◌, ◌^◌, ◌∙◌, ◌++◌, ◌∷◌, [], List, cond, get_or, map, take, length, sym, ap, arith}
-use Rattle.std.specs.Prelude.{FitsSigned, neg_ℤ, pos, ◌-ℤ◌, unsigned_abs, filter}
+use Rattle.std.specs.Prelude.{FitsSigned, neg_ℤ, pos, unsigned_abs, filter}
 use Rattle.std.specs.Int.{w128}
 use Rattle.std.specs.List.{enumerate_from}
 use Rattle.std.proofs.lemmas.Int.{ints, to_z-of_z}
@@ -7,6 +7,7 @@ use Rattle.std.proofs.lemmas.List.{get_or-map, length-map, take_all}
 use Rattle.std.proofs.lemmas.List.Elements.{All-get_or}
 use Rattle.tk_compact.specs.Compacted.{changes_something, compacted}
 use Rattle.tk_compact.proofs.CompactedLemmas.{taken_more}
+use Rattle.tk_recent.specs.Fields.{undone}
 use Rattle.tk_recent.specs.Kept.{opposite}
 use Rattle.tk_recent.proofs.opposite.opposite.Goals as goal
 
@@ -23,15 +24,12 @@ loop-i-preserved c =
     let x : ℤ = get_or sums i (pos 0) in
     let small = All-get_or (λ (v : ℤ). unsigned_abs v < 2 ^ 127) sums i (pos 0) inside c.requires.sizes in
     let fits : FitsSigned w128 x = omega (arith, ints, small) in
-    let turned : FitsSigned w128 (pos 0 -ℤ x) = omega (arith, ints, small) in
-    let opposite_is : pos 0 -ℤ x ≡ neg_ℤ x = omega (arith, ints) in
-    let by : ℤ = to_z w128 (of_z w128 (pos 0 -ℤ to_z w128 (of_z w128 x))) in
-    let is : by ≡ neg_ℤ x = ap (λ (z : ℤ). to_z w128 (of_z w128 (pos 0 -ℤ z))) (to_z-of_z w128 x fits) ∙ to_z-of_z w128 (pos 0 -ℤ x) turned ∙ opposite_is in
     let same : i + 1 ≡ 1 + i = omega arith in
     let next : i + 1 ≡ suc i = omega arith in
-    c.in_ok-add.ensures
-    ∙ ap (λ (cs : List (ℕ × ℤ)). cs ++ cond (changes_something (i + 1, by)) ((i + 1, by) ∷ []) []) c.loop-i.invariant
-    ∙ ap (λ (v : ℤ). front ++ cond (changes_something (i + 1, v)) ((i + 1, v) ∷ []) []) (is ∙ sym value)
+    c.in_ok-undo.ensures
+    ∙ ap (λ (cs : List (ℕ × ℤ)). cs ++ undone (i + 1) (to_z w128 (of_z w128 x))) c.loop-i.invariant
+    ∙ ap (λ (v : ℤ). front ++ undone (i + 1) v) (to_z-of_z w128 x fits)
+    ∙ ap (λ (v : ℤ). front ++ cond (changes_something (i + 1, v)) ((i + 1, v) ∷ []) []) (sym value)
     ∙ ap (λ (n : ℕ). front ++ cond (changes_something (n, get_or values i (pos 0))) ((n, get_or values i (pos 0)) ∷ []) []) same
     ∙ sym more
     ∙ ap (λ (n : ℕ). filter changes_something (enumerate_from 1 (take n values))) (sym next)

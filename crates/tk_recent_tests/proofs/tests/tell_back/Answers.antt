@@ -1,9 +1,6 @@
-use Rattle.std.proofs.Common.{◌≡◌, refl, sym, ◌∙◌, ap, [], List, ◌++◌, None, Some, option_map, ◌×◌, ℕ}
-use Rattle.std.specs.Prelude.{slice_get}
-use Rattle.std.specs.Int.{w128}
-use Rattle.std.proofs.lemmas.List.{append-nil}
+use Rattle.std.proofs.Common.{refl}
 use Rattle.tk_input.specs.Changes.{pair_of}
-use Rattle.tk_recent_tests.proofs.TellingLemmas.{none_left, tells_more, told_all}
+use Rattle.tk_recent_tests.proofs.TellingLemmas.{tells_more, told_all}
 use Rattle.tk_recent_tests.proofs.tests.tell_back.Goals as goal
 
 pub loop-change-init : goal.loop-change-init
@@ -15,4 +12,4 @@ loop-change-preserved c =
     c.loop-change.invariant c.in-Some.ensures.value c.in_ok-push.ensures.ok c.take_back.ensures
 
 pub returns : goal.returns
-returns c = told_all c.args.told.now c.loop-change.told c.args.recent.now c.loop-change.recent c.loop-change.invariant ?
+returns c = told_all c.args.told.now c.loop-change.told c.args.recent.now c.loop-change.recent c.loop-change.invariant c.in_default.ensures.value
