@@ -2,4 +2,3 @@
 
 mod opening;
 mod reading;
-mod ticks;
