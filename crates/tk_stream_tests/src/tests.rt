@@ -2,3 +2,4 @@
 
 mod opening;
 mod reading;
+mod ticks;
