@@ -1,6 +1,6 @@
 -- Bytes between two places of a list, as those of a chunk are opened and taken, and as more come behind them.
 use Rattle.std.proofs.Common.{◌≡◌, ◌≤◌, ℕ, ◌+◌, ◌-◌, ◌++◌, [], List, length, take, drop, min, ap, sym, ◌∙◌, refl, arith}
-use Rattle.std.proofs.lemmas.List.{append-nil, append_assoc, drop-take, length-drop, length-take-le, take-append-drop, take-take, take_at}
+use Rattle.std.proofs.lemmas.List.{append-nil, append_assoc, length-drop, length-take-le, take-append-drop, take-take, take_at}
 use Rattle.std.specs.List.{slice_range}
 use Rattle.tk_wire.proofs.StoreLemmas.{filled_behind, nothing_behind, range_within, removed_front, slice_size}
 use Rattle.tk_net.specs.Cables.{Fills, HandsOut, InletView, Opens, Writes}
@@ -60,12 +60,6 @@ hands_out start middle end room count xs into copied held unread ordered within 
       held = removed_front start count middle xs (omega arith) ∙ ap (drop count) (sym (old_held ∙ held_is));
       unread = sym (old_unread ∙ unread_is);
     }
-
--- they are the end of a front
-as_front : (from to : ℕ) (xs : List ℕ) → from ≤ to → slice_range xs from to ≡ drop from (take to xs)
-as_front from to xs ordered =
-    let is : to ≡ from + (to - from) = omega arith in
-    sym (ap (λ (k : ℕ). drop from (take k xs)) is ∙ drop-take from (to - from) xs)
 
 -- what stands in a front that is as it was
 pub same_within : (from to end size : ℕ) (old new rest held : List ℕ) → from ≤ to → to ≤ end → length new ≡ size → take end new ≡ take end old
