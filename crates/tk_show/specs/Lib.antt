@@ -1,0 +1,4 @@
+pub mod Frames
+pub mod Text
+pub mod Told
+pub mod Turned
