@@ -2,7 +2,7 @@
 use Rattle.std.proofs.Common.{◌≡◌, ℕ, true, false, List, Some, Result, Err, is_ok, refl, sym, ap, subst, inl, inr}
 use Rattle.tk_words.specs.Manual.{manual_text, version_text}
 use Rattle.tk_words.specs.Words.{Asked, words_of}
-use Rattle.tk_words.specs.Words.Asked.{Checks, Coordinates, Generates, Helps, Lives, Monitors, Queries, Replays, Restarts, Traces, Versions}
+use Rattle.tk_words.specs.Words.Asked.{Checks, Coordinates, Generates, Helps, Lives, Monitors, Queries, Replays, Restarts, Shows, Traces, Versions}
 use Rattle.tk_load.specs.Faults.{Fault}
 use Rattle.tk_commands.specs.Generated.{generated_of}
 use Rattle.tk_load.specs.Input.{input_of}
@@ -18,7 +18,7 @@ use Rattle.tk_load.specs.declared.input.Input.{Input}
 use Rattle.tk_load.specs.declared.status.Status.{Status}
 use Rattle.tk_load.specs.declared.status.Status.TheVariants as s
 use Rattle.tk_run.specs.Constant.{EndsTold}
-use Rattle.tk_run.specs.Ends.{Ends, EndsAsked, EndsWords, IsDone, IsStoryOf, IsToldBy, check_text, replay_text, served, summary_text, trace_text}
+use Rattle.tk_run.specs.Ends.{Ends, EndsAsked, EndsWords, IsDone, IsStoryOf, IsShownBy, IsToldBy, check_text, replay_text, served, show_text, summary_text, trace_text}
 use Rattle.tk_run.specs.Laws.{GivesInput}
 use Rattle.tk_run.specs.Multi.{AreAnswersOf, multi_text}
 use Rattle.tk_run.specs.Sessions.{AreStoriesOf, sessions_text}
@@ -85,6 +85,8 @@ module _ (replay : WhatIsToldIsMeant input_of) (sessions : WhatIsToldIsMeant ses
       (λ other tells. meant_is_run (generated_of words) other given tells)
   asked_is_run met contents (Checks file) given = ended (LoadsTrace met.reads file) IsToldBy check_text met.output
       (λ other loads. memory_is_free other (trace met.reads file (contents file) other given.0 given.1 loads))
+  asked_is_run met contents (Shows file) given = ended (LoadsTrace met.reads file) IsShownBy show_text met.output
+      (λ other loads. memory_is_free other (trace met.reads file (contents file) other given.0 given.1 loads))
   asked_is_run met contents (Lives words) given = absurd given
   asked_is_run met contents (Coordinates words) given = absurd given
   asked_is_run met contents (Monitors words) given = absurd given
@@ -99,6 +101,7 @@ module _ (replay : WhatIsToldIsMeant input_of) (sessions : WhatIsToldIsMeant ses
   is_served met contents (Queries words) given = refl
   is_served met contents (Generates words) given = refl
   is_served met contents (Checks file) given = refl
+  is_served met contents (Shows file) given = refl
   is_served met contents (Lives words) given = absurd given
   is_served met contents (Coordinates words) given = absurd given
   is_served met contents (Monitors words) given = absurd given

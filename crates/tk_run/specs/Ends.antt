@@ -4,7 +4,7 @@ use Rattle.tk_input.specs.Logs.{beginnings}
 use Rattle.tk_input.specs.Sink.{Grows, GrowsByFront}
 use Rattle.tk_words.specs.Manual.{manual_text, version_text}
 use Rattle.tk_words.specs.Words.{Asked, GenerateWords, words_of}
-use Rattle.tk_words.specs.Words.Asked.{Checks, Coordinates, Generates, Helps, Lives, Monitors, Queries, Replays, Restarts, Traces, Versions}
+use Rattle.tk_words.specs.Words.Asked.{Checks, Coordinates, Generates, Helps, Lives, Monitors, Queries, Replays, Restarts, Shows, Traces, Versions}
 use Rattle.tk_words.specs.declared.verb.Verb.{Verb}
 use Rattle.tk_words.specs.declared.verb.Verb.TheVariants as v
 use Rattle.tk_commands.specs.Generated.{generated_of}
@@ -19,12 +19,14 @@ use Rattle.tk_story.specs.Kept.{KeptStory}
 use Rattle.tk_story.specs.Moments.{IsOver}
 use Rattle.tk_story.specs.Story.{StoryView}
 use Rattle.tk_world.specs.Events.{begin}
+use Rattle.tk_world.specs.Runs.{RunsBy}
 use Rattle.tk_drain.specs.Drive.{Drives, events_in}
 use Rattle.tk_drain.specs.Resting.{RunsFrom}
 use Rattle.tk_ledger.specs.Text.{sets_text, summary_of, text_of, ticked_text_of}
 use Rattle.tk_trace.specs.Recorded.{recorded_of}
 use Rattle.tk_trace.specs.Spelling.{IsRecorded, trace_of}
 use Rattle.tk_trace.specs.declared.trace.Trace.{Trace}
+use Rattle.tk_show.specs.Text.{shown_text}
 use Rattle.tk_run.specs.Constant.{EndsTold, HasTold}
 use Rattle.tk_run.specs.Multi.{AreAnswersOf, multi_text}
 use Rattle.tk_run.specs.Sessions.{AreStoriesOf, sessions_text}
@@ -82,6 +84,15 @@ yes_text names s = sets_text names s ++ codes "yes\n"
 abbrev pub check_text : Trace → KeptStory → List ℕ
 check_text trace kept = yes_text trace.names kept.story
 
+-- the story that a trace tells, with a list of events that it runs from its beginning
+pub record IsShownBy (trace : Trace) (kept : KeptStory) : Type 0 where
+  pub story : kept.story ≡ trace.story.story
+  pub runs : RunsBy kept.story kept.events
+
+-- the text of these events
+abbrev pub show_text : Trace → KeptStory → List ℕ
+show_text trace kept = shown_text trace.names kept
+
 -- ---- how a run ends, by what gives its input, what was made of it, and what the text of that is
 
 -- a run that is done: there is an input, what was made is of the input, and its text was written, where that is told
@@ -125,6 +136,7 @@ served (Some (Queries words)) = Some (Queries words)
 served (Some (Restarts words)) = Some (Restarts words)
 served (Some (Traces words)) = Some (Traces words)
 served (Some (Checks file)) = Some (Checks file)
+served (Some (Shows file)) = Some (Shows file)
 served (Some (Coordinates words)) = None
 served (Some (Monitors words)) = None
 served (Some (Helps command)) = Some (Helps command)
@@ -141,6 +153,7 @@ serves (Some v.Multi) = true
 serves (Some v.Sessions) = true
 serves (Some v.Trace) = true
 serves (Some v.Check) = true
+serves (Some v.Show) = true
 serves (Some v.Coordinate) = false
 serves (Some v.Monitor) = false
 serves (Some v.Help) = true
@@ -175,6 +188,7 @@ RunsAsked (Queries words) met = AreSeveral (HasRun (LoadsMulti met.reads words) 
 RunsAsked (Restarts words) met = AreSeveral (HasRun (LoadsSessions met.reads words) AreStoriesOf sessions_text met.output)
 RunsAsked (Traces words) met = IsOne (HasRun (Loads met.reads words.sources) IsTracedOf trace_text met.output)
 RunsAsked (Checks file) met = IsOne (HasRun (LoadsTrace met.reads file) IsToldBy check_text met.output)
+RunsAsked (Shows file) met = IsOne (HasRun (LoadsTrace met.reads file) IsShownBy show_text met.output)
 RunsAsked (Coordinates words) met = λ outcome. ⊥
 RunsAsked (Monitors words) met = λ outcome. ⊥
 RunsAsked (Helps command) met = HasTold (manual_text command) met.output
@@ -189,6 +203,7 @@ EndsAsked (Queries words) met = Ends (LoadsMulti met.reads words) AreAnswersOf m
 EndsAsked (Restarts words) met = Ends (LoadsSessions met.reads words) AreStoriesOf sessions_text met.output
 EndsAsked (Traces words) met = Ends (Loads met.reads words.sources) IsStoryOf trace_text met.output
 EndsAsked (Checks file) met = Ends (LoadsTrace met.reads file) IsToldBy check_text met.output
+EndsAsked (Shows file) met = Ends (LoadsTrace met.reads file) IsShownBy show_text met.output
 EndsAsked (Coordinates words) met = λ status. ⊥
 EndsAsked (Monitors words) met = λ status. ⊥
 EndsAsked (Helps command) met = EndsTold (manual_text command) met.output

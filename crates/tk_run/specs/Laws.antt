@@ -9,7 +9,7 @@ use Rattle.tk_verify.specs.declared.trace_fault.TraceFault.{TraceFault}
 use Rattle.tk_window.specs.TickEnds.{ticks_at}
 use Rattle.tk_window.specs.Validity.{IsWindowValid}
 use Rattle.tk_words.specs.Words.{Asked, words_of}
-use Rattle.tk_words.specs.Words.Asked.{Checks, Coordinates, Generates, Helps, Lives, Monitors, Queries, Replays, Restarts, Traces, Versions}
+use Rattle.tk_words.specs.Words.Asked.{Checks, Coordinates, Generates, Helps, Lives, Monitors, Queries, Replays, Restarts, Shows, Traces, Versions}
 use Rattle.tk_commands.specs.Generated.{generated_of}
 use Rattle.tk_load.specs.Input.{ReadWords, input_of}
 use Rattle.tk_commands.specs.MultiInput.{multi_input_of}
@@ -30,7 +30,7 @@ abbrev pub IsRight : List ℕ → Type 0
 IsRight bytes = (fault : TraceFault) → Faults bytes fault → ⊥
 
 -- the files of what is asked tell what they hold, no read of them failed, and with the words they give an input; the file of
--- a check tells a right trace; help and the version want none
+-- a check, and of what is shown, tells a right trace; help and the version want none
 abbrev pub GivesInput : FileReads → (List ℕ → List ℕ) → Asked → Type 0
 GivesInput reads contents (Replays words) = AreTold reads contents (files_of words.sources) × (is_ok (input_of (read_by contents words.sources)) ≡ true)
 GivesInput reads contents (Traces words) = AreTold reads contents (files_of words.sources) × (is_ok (input_of (read_by contents words.sources)) ≡ true)
@@ -38,6 +38,7 @@ GivesInput reads contents (Restarts words) = AreTold reads contents (files_of wo
 GivesInput reads contents (Queries words) = AreTold reads contents (multi_files_of words) × (is_ok (multi_input_of (multi_read_by contents words)) ≡ true)
 GivesInput reads contents (Generates words) = is_ok (generated_of words) ≡ true
 GivesInput reads contents (Checks file) = IsTold reads file (contents file) × IsRight (contents file)
+GivesInput reads contents (Shows file) = IsTold reads file (contents file) × IsRight (contents file)
 GivesInput reads contents (Lives words) = ⊥
 GivesInput reads contents (Coordinates words) = ⊥
 GivesInput reads contents (Monitors words) = ⊥

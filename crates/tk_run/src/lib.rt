@@ -2,8 +2,8 @@
 //!
 //! It promises that the story of a run that is done is sound: wherever nothing is under way and nothing is broken its
 //! members are valid, each set that it published is valid at its own cut, and the last one is over the whole logs; that it
-//! is the story of the input that the words and their files give, run by the drive of the order, or of `check` the one
-//! that the file tells; and that what was written is its text. Any other status tells the fault that there is, and what
+//! is the story of the input that the words and their files give, run by the drive of the order, or of `check` and
+//! `show` the one that the file tells; and that what was written is its text. Any other status tells the fault that there is, and what
 //! was written then is a front of that text.
 #![tactic(auto)]
 
@@ -17,6 +17,7 @@ mod playing;
 mod replay;
 mod serving;
 mod sessions;
+mod show;
 mod titled;
 mod trace;
 

@@ -16,6 +16,7 @@ use crate::multi::serve_queries;
 use crate::outcome::Outcome;
 use crate::replay::replay;
 use crate::sessions::serve_sessions;
+use crate::show::serve_show;
 use crate::trace::serve_trace;
 use std::alloc::Global;
 use std::marker::Sync;
@@ -73,7 +74,7 @@ pub fn run<R: Threads + Sync, F: Files, O: Sink>(
         Ok(Command::Sessions(words)) => serve_sessions(rt, alloc, &words, files, out),
         Ok(Command::Trace(words)) => serve_trace(rt, alloc, &words, files, out),
         Ok(Command::Check(file)) => serve_check(alloc, file, files, out),
-        Ok(Command::Show(_)) => Outcome::ended(alloc, Status::Usage),
+        Ok(Command::Show(file)) => serve_show(alloc, file, files, out),
         Ok(Command::Coordinate(_)) => Outcome::ended(alloc, Status::Usage),
         Ok(Command::Monitor(_)) => Outcome::ended(alloc, Status::Usage),
         Ok(Command::Help(command)) => serve_text(alloc, manual_of(command), out),

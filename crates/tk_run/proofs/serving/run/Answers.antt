@@ -1,7 +1,7 @@
 use Rattle.std.proofs.Common.{◌≡◌, ◌∙◌, Option, Some, ap, inl, inr, map, refl, string_bytes, subst, sym}
 use Rattle.tk_words.specs.Asked.{asked_by, asked_generate, asked_multi, asked_replay, asked_sources}
 use Rattle.tk_words.specs.Words.{Asked}
-use Rattle.tk_words.specs.Words.Asked.{Checks, Generates, Helps, Queries, Replays, Restarts, Traces, Versions}
+use Rattle.tk_words.specs.Words.Asked.{Checks, Generates, Helps, Queries, Replays, Restarts, Shows, Traces, Versions}
 use Rattle.tk_words.specs.declared.command.Command.{Command}
 use Rattle.tk_load.specs.Surroundings.{output_by}
 use Rattle.tk_run.specs.Constant.{EndsTold, HasTold}
@@ -72,6 +72,16 @@ pub returns-in-Ok-Check-clause-ends : goal.returns-in-Ok-Check-clause-ends
 returns-in-Ok-Check-clause-ends g c =
     let read = c.in-Ok-Check in
     inr (record { asked = Checks read.file.now; understood = here _ _ _ read.ensures.ok read.field-0-is; ends = c.serve_check.ensures.ends })
+
+pub returns-in-Ok-Show-clause-ran : goal.returns-in-Ok-Show-clause-ran
+returns-in-Ok-Show-clause-ran g c =
+    let read = c.in-Ok-Show in
+    λ done. record { asked = Shows read.file.now; understood = here _ _ _ read.ensures.ok read.field-0-is; ran = c.serve_show.ensures.ran done }
+
+pub returns-in-Ok-Show-clause-ends : goal.returns-in-Ok-Show-clause-ends
+returns-in-Ok-Show-clause-ends g c =
+    let read = c.in-Ok-Show in
+    inr (record { asked = Shows read.file.now; understood = here _ _ _ read.ensures.ok read.field-0-is; ends = c.serve_show.ensures.ends })
 
 -- the text of help
 pub returns-in-Ok-Help-clause-ran : goal.returns-in-Ok-Help-clause-ran
