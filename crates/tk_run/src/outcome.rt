@@ -64,18 +64,4 @@ impl Outcome {
             stories,
         }
     }
-
-    /// How the run ended, without its story.
-    pub fn into_status(self) -> Status
-        ensures { result ≡ self.status }
-    {
-        let Outcome {
-            status,
-            story,
-            stories,
-        } = self;
-        drop(story);
-        drop(stories);
-        status
-    }
 }
