@@ -12,7 +12,7 @@ use Rattle.tk_base.specs.Settings.{Setup}
 use Rattle.tk_coord.specs.Coordinator.{CoordinatorView}
 use Rattle.tk_end.proofs.HearingLemmas.{front_refl, front_trans}
 use Rattle.tk_frames.specs.declared.frame.Frame.TheVariants as f
-use Rattle.tk_hub.specs.Hub.{IsHub}
+use Rattle.tk_hub.specs.Hub.{HubView, IsHub}
 use Rattle.tk_hub.specs.Lines.{AreNamed}
 use Rattle.tk_hub.specs.Turn.{course_of}
 use Rattle.tk_hub.specs.declared.course.Course.TheVariants as cs
@@ -29,7 +29,10 @@ use Rattle.tk_ledger.proofs.SinkLemmas.{front_more, grows_more, grows_none}
 use Rattle.tk_story.proofs.JoinLemmas.{rest_of}
 use Rattle.tk_wire.specs.Host.{HostState}
 use Rattle.tk_wire.specs.declared.greeting.Greeting.{Greeting}
-use Rattle.tk_host.specs.Going.{IsGoing, IsOfHost, IsOfSession, IsOfTurn, IsStanding, IsTold, Leaves, Serves, Steps, TellsAll, Turns, WritesLeft, WritesStep, calls_failed, faults_left, going, published_by, step_faults}
+use Rattle.tk_host.specs.Going.{IsGoing, IsOfHost, IsOfSession, IsOfTurn, IsStanding, IsTold, Leaves, Serves, Steps, TellsAll, Turns, WritesLeft, WritesStep, calls_failed, faults_left, going, left, published_by, step_faults}
+use Rattle.tk_host.specs.Room.{IsFull}
+use Rattle.tk_host.specs.Tallying.{IsCounted}
+use Rattle.tk_host.proofs.TallyLemmas.{counted_grown, counted_none}
 use Rattle.tk_host.specs.Session.{Joined, Published, Told, joined_by, joined_in, set_in, sets_in}
 use Rattle.tk_host.specs.Text.{joined_text, line_of, set_text, told_text}
 use Rattle.tk_host.specs.declared.cause.Cause.TheVariants as c
@@ -112,6 +115,10 @@ module _ {W : Type 0} (names : List (List ℕ)) (s s' : SessionView W) (before n
         written = h.written;
       }
 
+  -- nothing changed but what is counted
+  pub told_kept : s'.hub ≡ s.hub → s'.roster ≡ s.roster → s'.told ≡ s.told → IsTold going names s' before now
+  told_kept hub = told_grown (subst (λ (x : HubView W). IsFront s.hub.coordinator.journal x.coordinator.journal) (sym hub) (front_refl s.hub.coordinator.journal))
+
   -- a monitor that joins is told
   pub told_joined : {A : Type 0} (result : Result A Over) (g : Greeting) (next : Option (List ℕ)) → s'.hub.coordinator ≡ s.hub.coordinator → s'.roster ≡ s.roster ++ g ∷ [] → s'.told ≡ s.told
       → WritesStep result now next (joined_text g) → IsTold result names s' before next
@@ -163,12 +170,29 @@ told_parted over (Err o) names s before now is h = record { told = h.told; joine
 pub turned_written : (over : Over) → IsOfTurn over → over ≡ o.WriteFailed → ⊥
 turned_written over is wrote = subst IsOfTurn wrote is
 
+pub turned_inside : (over : Over) → IsOfTurn over → IsOfSession over
+turned_inside o.Finished is = tt
+turned_inside (o.Ended cause) is = tt
+turned_inside o.HostFailed is = absurd is
+turned_inside o.WriteFailed is = absurd is
+
+pub turned_faults : (over : Over) (faults : ℕ) → IsOfTurn over → faults ≡ faults_left over faults
+turned_faults o.Finished faults is = refl
+turned_faults (o.Ended cause) faults is = refl
+turned_faults o.HostFailed faults is = refl
+turned_faults o.WriteFailed faults is = absurd is
+
 -- a session that begins goes on
-pub going_first : {W : Type 0} (s : SessionView W) (settings : Setup) → IsHub s.hub → s.hub.coordinator.settings ≡ settings → s.hub.coordinator.journal ≡ opened (start settings) → s.hub.course ≡ cs.Open → s.told ≡ 0 → IsGoing s
-going_first s settings kept given journal course told =
+pub going_first : {W : Type 0} (s : SessionView W) (settings : Setup) → IsHub s.hub → s.hub.coordinator.settings ≡ settings → s.hub.coordinator.journal ≡ opened (start settings) → s.hub.course ≡ cs.Open → s.told ≡ 0
+    → s.tally ≡ record { entries = 0; bytes = 0 } → IsGoing s
+going_first s settings kept given journal course told tally =
     let begun = journal ∙ ap (λ (x : Setup). opened (start x)) (sym given) in
     record {
-      standing = record { kept = kept; begins = subst (IsFront (opened (start s.hub.coordinator.settings))) (sym begun) (front_refl (opened (start s.hub.coordinator.settings))) };
+      standing = record {
+        kept = kept;
+        begins = subst (IsFront (opened (start s.hub.coordinator.settings))) (sym begun) (front_refl (opened (start s.hub.coordinator.settings)));
+        counted = counted_none s.hub.coordinator.journal s.tally tally;
+      };
       course = course;
       all = told ∙ sym (ap (λ (j : List Noted). length (publications j)) begun ∙ ap (λ (ps : List Publication). length ps) (opened_unpublished (start s.hub.coordinator.settings)));
     }
@@ -176,12 +200,16 @@ going_first s settings kept given journal course told =
 -- the hub takes a turn
 pub turned : {W : Type 0} (turn : HubTurn) (old s new : SessionView W) → s ≡ old → IsStanding old → IsHub new.hub → new.hub.coordinator.settings ≡ s.hub.coordinator.settings
     → IsFront s.hub.coordinator.journal new.hub.coordinator.journal → new.hub.course ≡ course_of turn → (turn ≡ t.WriteFailed → ⊥) → (turn ≡ t.Finished → is_stopped new.hub.coordinator.journal ≡ true)
-    → new.roster ≡ s.roster → new.told ≡ s.told → Turns turn old new
-turned turn old s new same standing kept settings grows course written finished roster told =
+    → new.roster ≡ s.roster → new.told ≡ s.told → new.tally ≡ s.tally → Turns turn old new
+turned turn old s new same standing kept settings grows course written finished roster told tally =
     let was : IsStanding s = subst IsStanding (sym same) standing in
     let begins = front_trans (opened (start s.hub.coordinator.settings)) s.hub.coordinator.journal new.hub.coordinator.journal was.begins grows in
     let turns : Turns turn s new = record {
-      standing = record { kept = kept; begins = subst (λ (x : Setup). IsFront (opened (start x)) new.hub.coordinator.journal) (sym settings) begins };
+      standing = record {
+        kept = kept;
+        begins = subst (λ (x : Setup). IsFront (opened (start x)) new.hub.coordinator.journal) (sym settings) begins;
+        counted = counted_grown s.hub.coordinator.journal new.hub.coordinator.journal s.tally new.tally grows tally was.counted;
+      };
       settings = settings;
       grows = grows;
       course = course;
@@ -189,6 +217,7 @@ turned turn old s new same standing kept settings grows course written finished 
       finished = finished;
       roster = roster;
       told = told;
+      tally = tally;
     } in
     subst (λ x. Turns turn x new) same turns
 
@@ -204,6 +233,7 @@ hosted_leaves s (o.Ended (c.Link mon)) is all = absurd is
 hosted_leaves s (o.Ended (c.Refused mon)) is all = absurd is
 hosted_leaves s (o.Ended (c.Bad mon)) is all = absurd is
 hosted_leaves s (o.Ended (c.Again mon)) is all = absurd is
+hosted_leaves s (o.Ended c.Full) is all = absurd is
 hosted_leaves s (o.Ended c.Memory) is all = tt
 hosted_leaves s o.HostFailed is all = all
 hosted_leaves s o.WriteFailed is all = absurd is
@@ -247,6 +277,37 @@ steps_parted over (Err o) s s' is h = record { standing = h.standing; going = tt
 pub steps_hosted : {W A B : Type 0} (x : A) (over : Over) (result : Result B Over) (s s' : SessionView W) → IsErrAnd result (λ o. o ≡ over) → IsOfHost over → Steps {A = A} (Ok x) s s' → Steps result s s'
 steps_hosted x over (Ok y) s s' parted is h = absurd parted
 steps_hosted x over (Err o) s s' parted is h = record { standing = h.standing; going = tt; leaves = subst (Leaves s') (sym parted) (hosted_leaves s' over is h.going.all); settings = h.settings }
+
+-- ---- weighing
+
+module _ {W : Type 0} (s s' : SessionView W) (on : IsGoing s) (hub : s'.hub ≡ s.hub) (roster : s'.roster ≡ s.roster) (told : s'.told ≡ s.told) (counted : IsCounted s.hub.coordinator.journal s'.tally) where
+  weighed_standing : IsStanding s'
+  weighed_standing = record {
+    kept = subst (λ (h : HubView W). IsHub h) (sym hub) on.standing.kept;
+    begins = subst (λ (h : HubView W). IsFront (opened (start h.coordinator.settings)) h.coordinator.journal) (sym hub) on.standing.begins;
+    counted = subst (λ (h : HubView W). IsCounted h.coordinator.journal s'.tally) (sym hub) counted;
+  }
+
+  weighed_all : TellsAll s'
+  weighed_all = told ∙ on.all ∙ sym (ap (λ (h : HubView W). length (publications h.coordinator.journal)) hub)
+
+  -- a session that has room goes on
+  pub weighed_on : Steps going s s'
+  weighed_on = record {
+    standing = weighed_standing;
+    going = record { standing = weighed_standing; course = ap (λ (h : HubView W). h.course) hub ∙ on.course; all = weighed_all };
+    leaves = tt;
+    settings = ap (λ (h : HubView W). h.coordinator.settings) hub;
+  }
+
+  -- one that has none is left
+  pub weighed_full : IsFull s.hub.coordinator.journal → Steps (left (o.Ended c.Full)) s s'
+  weighed_full full = record {
+    standing = weighed_standing;
+    going = tt;
+    leaves = (weighed_all, subst (λ (h : HubView W). IsFull h.coordinator.journal) (sym hub) full);
+    settings = ap (λ (h : HubView W). h.coordinator.settings) hub;
+  }
 
 -- ---- the host
 

@@ -62,16 +62,18 @@ all_told s (o.Ended (c.Link mon)) h none = h
 all_told s (o.Ended (c.Refused mon)) h none = h
 all_told s (o.Ended (c.Bad mon)) h none = h
 all_told s (o.Ended (c.Again mon)) h none = h.0
+all_told s (o.Ended c.Full) h none = h.0
 all_told s (o.Ended c.Memory) h none = absurd (cc)
 all_told s o.HostFailed h none = h
 all_told s o.WriteFailed h none = absurd (cc)
 
-caused_by : {W : Type 0} (s : SessionView W) (over : Over) → Leaves s over → IsCausedBy s.roster over
+caused_by : {W : Type 0} (s : SessionView W) (over : Over) → Leaves s over → IsCausedBy s.roster s.hub.coordinator.journal over
 caused_by s o.Finished h = tt
 caused_by s (o.Ended (c.Link mon)) h = tt
 caused_by s (o.Ended (c.Refused mon)) h = tt
 caused_by s (o.Ended (c.Bad mon)) h = tt
 caused_by s (o.Ended (c.Again mon)) h = h.1
+caused_by s (o.Ended c.Full) h = h.1
 caused_by s (o.Ended c.Memory) h = tt
 caused_by s o.HostFailed h = tt
 caused_by s o.WriteFailed h = tt
@@ -98,7 +100,7 @@ session_of s settings names line over before now standing leaves same t =
       legal = from_the_start s.hub.coordinator.settings j kept standing.begins;
       told_in_order = record { is = t.sets ∙ ap (λ (k : ℕ). take k (published_by s)) (sym long) };
       told_all = λ none. t.sets ∙ ap (λ (k : ℕ). take k (published_by s)) (all_told s over leaves none) ∙ take-length (published_by s);
-      caused = subst (λ js. IsCausedBy js over) (sym t.joined) (caused_by s over leaves);
+      caused = subst (λ js. IsCausedBy js j over) (sym t.joined) (caused_by s over leaves);
       ended = λ is. stopped_ended s.hub.coordinator.settings j kept (ended_by s over leaves is);
     })
 

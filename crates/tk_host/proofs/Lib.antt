@@ -1,4 +1,5 @@
 pub mod GoingLemmas
 pub mod HoldingLemmas
 pub mod LineLemmas
+pub mod TallyLemmas
 pub mod TextExamples

@@ -23,3 +23,8 @@ a_set = refl
 two_sessions : sessions_text names 1 (record { told = []; journal = []; over = o.Ended (c.Again (record { 0 = 1 })) } ∷ record { told = []; journal = []; over = o.Finished } ∷ []) ≡ codes "session 1\nended 1 again 1\nsession 2\n"
 unfolding digits
 two_sessions = refl
+
+-- a session that ended as its journal was full
+a_full_session : sessions_text names 1 (record { told = []; journal = []; over = o.Ended c.Full } ∷ []) ≡ codes "session 1\nended 1 full\n"
+unfolding digits
+a_full_session = refl

@@ -14,7 +14,9 @@ use Rattle.tk_journal.specs.Readings.{is_stopped}
 use Rattle.tk_journal.specs.declared.publication.Publication.{Publication}
 use Rattle.tk_wire.specs.Host.{HostState}
 use Rattle.tk_wire.specs.Meanings.{raised_by}
+use Rattle.tk_host.specs.Room.{IsFull}
 use Rattle.tk_host.specs.Session.{IsCausedBy, Told, joined_in, sets_in}
+use Rattle.tk_host.specs.Tallying.{IsCounted}
 use Rattle.tk_host.specs.Text.{told_text}
 use Rattle.tk_host.specs.declared.cause.Cause.{Cause}
 use Rattle.tk_host.specs.declared.cause.Cause.TheVariants as c
@@ -32,10 +34,11 @@ published_by s = publications s.hub.coordinator.journal
 abbrev pub TellsAll : {W : Type 0} → SessionView W → Type 0
 TellsAll s = s.told ≡ length (published_by s)
 
--- the hub is one, and its journal begins as that of these settings
+-- the hub is one, its journal begins as that of these settings, and the bytes of a front of it are counted
 pub record IsStanding {W : Type 0} (s : SessionView W) : Type 0 where
   pub kept : IsHub s.hub
   pub begins : IsFront (opened (start s.hub.coordinator.settings)) s.hub.coordinator.journal
+  pub counted : IsCounted s.hub.coordinator.journal s.tally
 
 -- a session goes on: its hub is open, and all sets are told
 pub record IsGoing {W : Type 0} (s : SessionView W) : Type 0 where
@@ -49,7 +52,8 @@ Leaves s o.Finished = TellsAll s × (is_stopped s.hub.coordinator.journal ≡ tr
 Leaves s (o.Ended (c.Link mon)) = TellsAll s
 Leaves s (o.Ended (c.Refused mon)) = TellsAll s
 Leaves s (o.Ended (c.Bad mon)) = TellsAll s
-Leaves s (o.Ended (c.Again mon)) = TellsAll s × IsCausedBy s.roster (o.Ended (c.Again mon))
+Leaves s (o.Ended (c.Again mon)) = TellsAll s × IsCausedBy s.roster s.hub.coordinator.journal (o.Ended (c.Again mon))
+Leaves s (o.Ended c.Full) = TellsAll s × IsFull s.hub.coordinator.journal
 Leaves s (o.Ended c.Memory) = ⊤
 Leaves s o.HostFailed = TellsAll s
 Leaves s o.WriteFailed = ⊤
@@ -71,6 +75,7 @@ pub record Turns {W : Type 0} (turn : HubTurn) (old new : SessionView W) : Type 
   pub finished : turn ≡ t.Finished → is_stopped new.hub.coordinator.journal ≡ true
   pub roster : new.roster ≡ old.roster
   pub told : new.told ≡ old.told
+  pub tally : new.tally ≡ old.tally
 
 -- behind a turn whose sets are told
 pub record EndsTurn {W : Type 0} (turn : HubTurn) (s : SessionView W) : Type 0 where
@@ -86,6 +91,7 @@ IsLink (c.Link mon) = ⊤
 IsLink (c.Refused mon) = ⊥
 IsLink (c.Bad mon) = ⊥
 IsLink (c.Again mon) = ⊥
+IsLink c.Full = ⊥
 IsLink c.Memory = ⊥
 
 -- ---- what is told
@@ -134,6 +140,7 @@ IsUntold (o.Ended (c.Link mon)) = ⊥
 IsUntold (o.Ended (c.Refused mon)) = ⊥
 IsUntold (o.Ended (c.Bad mon)) = ⊥
 IsUntold (o.Ended (c.Again mon)) = ⊥
+IsUntold (o.Ended c.Full) = ⊥
 IsUntold (o.Ended c.Memory) = ⊤
 IsUntold o.HostFailed = ⊥
 IsUntold o.WriteFailed = ⊤
@@ -145,6 +152,7 @@ IsOfHost (o.Ended (c.Link mon)) = ⊥
 IsOfHost (o.Ended (c.Refused mon)) = ⊥
 IsOfHost (o.Ended (c.Bad mon)) = ⊥
 IsOfHost (o.Ended (c.Again mon)) = ⊥
+IsOfHost (o.Ended c.Full) = ⊥
 IsOfHost (o.Ended c.Memory) = ⊤
 IsOfHost o.HostFailed = ⊤
 IsOfHost o.WriteFailed = ⊥

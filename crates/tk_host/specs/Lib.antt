@@ -3,6 +3,8 @@ pub mod Going
 pub mod Holding
 pub mod Origins
 pub mod Over
+pub mod Room
 pub mod Session
 pub mod Sitting
+pub mod Tallying
 pub mod Text

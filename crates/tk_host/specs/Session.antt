@@ -8,6 +8,7 @@ use Rattle.tk_journal.specs.Publishing.{publications}
 use Rattle.tk_journal.specs.declared.noted.Noted.{Noted}
 use Rattle.tk_journal.specs.declared.publication.Publication.{Publication}
 use Rattle.tk_wire.specs.declared.greeting.Greeting.{Greeting}
+use Rattle.tk_host.specs.Room.{IsFull}
 use Rattle.tk_host.specs.declared.cause.Cause.TheVariants as c
 use Rattle.tk_host.specs.declared.over.Over.{Over}
 use Rattle.tk_host.specs.declared.over.Over.TheVariants as o
@@ -53,6 +54,7 @@ leaves_out (o.Ended (c.Link mon)) = false
 leaves_out (o.Ended (c.Refused mon)) = false
 leaves_out (o.Ended (c.Bad mon)) = false
 leaves_out (o.Ended (c.Again mon)) = false
+leaves_out (o.Ended c.Full) = false
 leaves_out (o.Ended c.Memory) = true
 leaves_out o.HostFailed = false
 leaves_out o.WriteFailed = true
@@ -64,22 +66,23 @@ IsEnded (o.Ended cause) = ⊤
 IsEnded o.HostFailed = ⊥
 IsEnded o.WriteFailed = ⊥
 
--- by those who had joined: a monitor that greeted again had
-abbrev pub IsCausedBy : List Greeting → Over → Type 0
-IsCausedBy joined o.Finished = Unit {0}
-IsCausedBy joined (o.Ended (c.Link mon)) = Unit {0}
-IsCausedBy joined (o.Ended (c.Refused mon)) = Unit {0}
-IsCausedBy joined (o.Ended (c.Bad mon)) = Unit {0}
-IsCausedBy joined (o.Ended (c.Again mon)) = has_joined joined mon.0 ≡ true
-IsCausedBy joined (o.Ended c.Memory) = Unit {0}
-IsCausedBy joined o.HostFailed = Unit {0}
-IsCausedBy joined o.WriteFailed = Unit {0}
+-- by those who had joined and by the journal: a monitor that greeted again had joined, and a journal that was full is
+abbrev pub IsCausedBy : List Greeting → List Noted → Over → Type 0
+IsCausedBy joined journal o.Finished = Unit {0}
+IsCausedBy joined journal (o.Ended (c.Link mon)) = Unit {0}
+IsCausedBy joined journal (o.Ended (c.Refused mon)) = Unit {0}
+IsCausedBy joined journal (o.Ended (c.Bad mon)) = Unit {0}
+IsCausedBy joined journal (o.Ended (c.Again mon)) = has_joined joined mon.0 ≡ true
+IsCausedBy joined journal (o.Ended c.Full) = IsFull journal
+IsCausedBy joined journal (o.Ended c.Memory) = Unit {0}
+IsCausedBy joined journal o.HostFailed = Unit {0}
+IsCausedBy joined journal o.WriteFailed = Unit {0}
 
--- a session over these settings: its journal is legal from the start; the sets that it published are told, in order; and
--- where it is finished its journal has ended, with the final set
+-- a session over these settings: its journal is legal from the start; the sets that it published are told, in order; it was
+-- left by what it says; and where it is finished its journal has ended, with the final set
 pub record IsSession (settings : Setup) (s : PastSession) : Type 0 where
   pub legal : IsLegal (start settings) s.journal
   pub told_in_order : IsFront (sets_in s.told) (publications s.journal)
   pub told_all : leaves_out s.over ≡ false → sets_in s.told ≡ publications s.journal
-  pub caused : IsCausedBy (joined_in s.told) s.over
+  pub caused : IsCausedBy (joined_in s.told) s.journal s.over
   pub ended : s.over ≡ o.Finished → HasEnded settings s.journal

@@ -56,6 +56,7 @@ cause_text (c.Link mon) = codes "link " ++ decimal mon.0
 cause_text (c.Refused mon) = codes "refused " ++ decimal mon.0
 cause_text (c.Bad mon) = codes "bad " ++ decimal mon.0
 cause_text (c.Again mon) = codes "again " ++ decimal mon.0
+cause_text c.Full = codes "full"
 cause_text c.Memory = codes "memory"
 
 -- a session ended

@@ -11,6 +11,8 @@ pub enum Cause {
     Bad(Mon),
     /// This monitor had joined, and greeted again on another connection.
     Again(Mon),
+    /// The frames of its journal had too many bytes together.
+    Full,
     /// Memory was wanted.
     Memory,
 }

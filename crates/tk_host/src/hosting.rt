@@ -1,5 +1,6 @@
 ghost use Rattle.std.specs.Prelude.{◌≡◌, ◌≤◌, true, IfErr, length};
 ghost use Rattle.tk_host.specs.Going.{IsGoing, IsOfHost, IsOfSession, Serves, Steps, TellsMore, TellsOf, faults_left, left, step_faults};
+ghost use Rattle.tk_host.specs.Room.{HasRoom};
 
 use crate::knock::Knock;
 use crate::over::Over;
@@ -70,6 +71,28 @@ fn is_idle(more: bool, turn: HubTurn) -> bool {
 }
 
 /// A turn of the hub, and the sets that it published. Says whether nothing is left to do.
+fn play_turn<W: Wire + Drop, O: Sink>(
+    alloc: Global,
+    session: &mut Session<W>,
+    names: &Catalog,
+    more: bool,
+    out: &mut O,
+) -> Result<bool, Over>
+    requires going { IsGoing session.old }
+    requires room { HasRoom session.old.hub.coordinator.journal }
+    requires named { session.old.hub.coordinator.settings.objects ≤ length names.now }
+    ensures steps { Steps result session.old session.new }
+    ensures inside { IfErr result IsOfSession }
+    ensures tells { TellsOf names.now result session.old session.new (O.written out.old) (O.written out.new) }
+    ensures counted { O.fault_count out.new ≡ step_faults result (O.fault_count out.old) }
+{
+    let turn = session.turn(names);
+    session.tell(alloc, names, out)?;
+    session.after(turn)?;
+    Ok(is_idle(more, turn))
+}
+
+/// Plays a turn, where the session has room for it. Says whether nothing is left to do.
 fn play<W: Wire + Drop, O: Sink>(
     alloc: Global,
     session: &mut Session<W>,
@@ -84,10 +107,10 @@ fn play<W: Wire + Drop, O: Sink>(
     ensures tells { TellsOf names.now result session.old session.new (O.written out.old) (O.written out.new) }
     ensures counted { O.fault_count out.new ≡ step_faults result (O.fault_count out.old) }
 {
-    let turn = session.turn(names);
-    session.tell(alloc, names, out)?;
-    session.after(turn)?;
-    Ok(is_idle(more, turn))
+    match session.weigh() {
+        Ok(()) => play_turn(alloc, session, names, more, out),
+        Err(over) => Err(over),
+    }
 }
 
 /// Waits, lets monitors join, and plays a turn. Says whether nothing is left to do.

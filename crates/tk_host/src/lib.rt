@@ -18,6 +18,7 @@ mod over;
 mod putting;
 mod roster;
 mod session;
+mod tally;
 
 pub use coordinated::Coordinated;
 pub use coordinating::coordinate;

@@ -83,6 +83,7 @@ fn push_cause(line: &mut Vec<u8>, cause: Cause) -> Result<(), AllocError>
         Cause::Refused(mon) => push_named(line, b"refused ", mon.0),
         Cause::Bad(mon) => push_named(line, b"bad ", mon.0),
         Cause::Again(mon) => push_named(line, b"again ", mon.0),
+        Cause::Full => line.extend_from_slice(b"full"),
         Cause::Memory => line.extend_from_slice(b"memory"),
     }
 }

@@ -3,9 +3,11 @@ ghost use Rattle.tk_journal.specs.Legal.{opened, start};
 
 mod telling;
 mod turning;
+mod weighing;
 
 use crate::knock::Knock;
 use crate::roster::Roster;
+use crate::tally::Tally;
 use std::alloc::Global;
 use std::marker::Model;
 use tk_base::{NoMemory, Settings};
@@ -13,13 +15,14 @@ use tk_coord::Coordinator;
 use tk_hub::Hub;
 use tk_wire::Wire;
 
-/// One run of the protocol while it goes on: the hub, who has joined, how many sets are told, and a connection on which a
-/// monitor greeted again, with which the next session begins. Contracts see all but that.
+/// One run of the protocol while it goes on: the hub, who has joined, how many sets are told, how many bytes its frames have,
+/// and a connection on which a monitor greeted again, with which the next session begins. Contracts see all but that.
 #[derive(Drop)]
 pub struct Session<W: Wire> {
     hub: Hub<W>,
     roster: Roster,
     told: usize,
+    tally: Tally,
     again: Option<Knock<W>>,
 }
 
@@ -28,7 +31,7 @@ impl<W: Wire> Model for Session<W> {
 
     ghost Value = { SessionView W };
 
-    ghost view = { λ s. record { hub = s.hub; roster = s.roster; told = s.told } };
+    ghost view = { λ s. record { hub = s.hub; roster = s.roster; told = s.told; tally = s.tally } };
 }
 
 impl<W: Wire + Drop> Session<W> {
@@ -48,6 +51,7 @@ impl<W: Wire + Drop> Session<W> {
             hub,
             roster: Roster::new(alloc),
             told: 0,
+            tally: Tally::new(),
             again: None,
         })
     }

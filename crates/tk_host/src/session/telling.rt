@@ -22,6 +22,7 @@ impl<W: Wire + Drop> Session<W> {
         ensures tells { TellsMore result self.old self.new (O.written out.old) (O.written out.new) }
         ensures untold { IfErr result IsUntold }
         ensures told { self.new.told ≡ self.old.told }
+        ensures tally { self.new.tally ≡ self.old.tally }
         ensures counted { O.fault_count out.new ≡ step_faults result (O.fault_count out.old) }
     {
         let line = joined_line(alloc, &greeting)?;
@@ -64,6 +65,7 @@ impl<W: Wire + Drop> Session<W> {
         requires named { self.old.hub.coordinator.settings.objects ≤ length names.now }
         ensures hub { self.new.hub ≡ self.old.hub }
         ensures roster { self.new.roster ≡ self.old.roster }
+        ensures tally { self.new.tally ≡ self.old.tally }
         ensures told { OnOk result (self.new.told ≡ self.old.told + 1) }
         ensures tells { TellsOf names.now result self.old self.new (O.written out.old) (O.written out.new) }
         ensures untold { IfErr result IsUntold }
@@ -86,6 +88,7 @@ impl<W: Wire + Drop> Session<W> {
         requires named { self.old.hub.coordinator.settings.objects ≤ length names.now }
         requires within { self.old.told ≤ length (published_by self.old) }
         ensures hub { self.new.hub ≡ self.old.hub }
+        ensures tally { self.new.tally ≡ self.old.tally }
         ensures all { OnOk result (TellsAll self.new) }
         ensures tells { TellsOf names.now result self.old self.new (O.written out.old) (O.written out.new) }
         ensures untold { IfErr result IsUntold }

@@ -14,10 +14,12 @@ use tk_wire::Wire;
 
 impl<W: Wire + Drop> Session<W> {
     ghost use Rattle.tk_host.specs.Going.{EndsTurn, IsGoing, IsLink, IsOfTurn, IsStanding, Leaves, Turns};
+    ghost use Rattle.tk_host.specs.Room.{HasRoom};
 
     /// A turn of the hub, whose own lines are dropped.
     pub fn turn(&mut self, names: &Catalog) -> HubTurn
         requires going { IsGoing self.old }
+        requires room { HasRoom self.old.hub.coordinator.journal }
         requires named { self.old.hub.coordinator.settings.objects ≤ length names.now }
         ensures { Turns result self.old self.new }
     {
