@@ -7,7 +7,8 @@ use Rattle.tk_journal.specs.declared.noted.Noted.{Noted}
 use Rattle.tk_ledger.specs.Ledger.{bytes_in}
 use Rattle.tk_story.proofs.JoinLemmas.{rest_of}
 use Rattle.tk_host.specs.Room.{HasRoom, IsFull, bytes_of, most_bytes}
-use Rattle.tk_host.specs.Tallying.{IsCounted, capped}
+use Rattle.tk_input.specs.Rows.{capped}
+use Rattle.tk_host.specs.Tallying.{IsCounted}
 use Rattle.tk_host.specs.declared.tally.Tally.{Tally}
 
 -- at first nothing is

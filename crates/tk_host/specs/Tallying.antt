@@ -1,12 +1,9 @@
 -- How a session adds up the bytes of its frames. No public clause cites it.
-use Rattle.std.specs.Prelude.{ℕ, ◌≡◌, ◌≤◌, ◌-◌, ◌^◌, List, length, min, take}
+use Rattle.std.specs.Prelude.{◌≡◌, ◌≤◌, List, length, take}
+use Rattle.tk_input.specs.Rows.{capped}
 use Rattle.tk_journal.specs.declared.noted.Noted.{Noted}
 use Rattle.tk_host.specs.Room.{bytes_of}
 use Rattle.tk_host.specs.declared.tally.Tally.{Tally}
-
--- a number of bytes, as far as a tally counts
-abbrev pub capped : ℕ → ℕ
-capped bytes = min bytes (2 ^ 128 - 1)
 
 -- the frames of a front of a journal are counted
 pub record IsCounted (journal : List Noted) (tally : Tally) : Type 0 where

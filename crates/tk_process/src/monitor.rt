@@ -1,6 +1,6 @@
 //! The command `monitor`.
 
-ghost use Rattle.std.specs.Prelude.{◌≡◌, IfErr, IfOk, length};
+ghost use Rattle.std.specs.Prelude.{◌≡◌, IfErr, IfOk, length, option_map};
 ghost use Rattle.tk_load.specs.Reads.{AreKept};
 ghost use Rattle.tk_load.specs.Surroundings.{faults_told, met_by};
 ghost use Rattle.tk_process.specs.Monitoring.{EndsMonitor, FeedsAs, IsUnopened, TellsVerdict, kind_of};
@@ -17,9 +17,9 @@ use tk_commands::load_monitor;
 use tk_input::{Files, Sink};
 use tk_load::{InputKind, Status};
 use tk_stream::{LineFault, OpenFault, Records, Streams};
-use tk_watch::{FeedFault, FeedKind, Plan, Verdict, Watch, monitor};
+use tk_watch::{FeedFault, FeedKind, Plan, Verdict, Watch, Window, monitor};
 use tk_wire::{Bell, Dialed, Dialer, Rest};
-use tk_words::Watched as Words;
+use tk_words::{Recent, Watched as Words};
 
 /// What is wrong with a line of a stream, as an input has it.
 fn kind_by(fault: LineFault) -> InputKind
@@ -68,6 +68,16 @@ fn status_by(alloc: Global, words: &Words<'_>, verdict: Verdict) -> Status
                 None => Status::NoMemory,
             }
         }
+    }
+}
+
+/// The window that the words ask for, as the monitor has it.
+fn window_of(recent: Option<Recent>) -> Option<Window>
+    ensures { option_map (λ w. (w.width, w.tick)) result ≡ option_map (λ r. (r.width, r.tick)) recent }
+{
+    match recent {
+        Some(Recent { width, tick }) => Some(Window { width, tick }),
+        None => None,
     }
 }
 
@@ -146,6 +156,7 @@ pub fn serve_monitor<
     let plan = Plan {
         pause: words.pause,
         tries: words.tries,
+        window: window_of(words.window),
     };
     let verdict = monitor(
         rt,

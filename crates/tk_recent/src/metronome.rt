@@ -9,6 +9,7 @@ use std::marker::Model;
 use std::time::Instant;
 
 /// Ends a tick whenever so many seconds have passed, by a clock that never goes back. Ticks that were missed are due one by one.
+#[derive(Drop)]
 pub struct Metronome {
     begun: Instant,
     seconds: u32,

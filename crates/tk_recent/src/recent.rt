@@ -1,6 +1,6 @@
 //! The ticks of one stream that are still to be taken back.
 
-ghost use Rattle.std.specs.Prelude.{◌≡◌, ◌↔◌, ◌==◌, ◌<◌, ◌≤◌, ◌+◌, ◌^◌, ◌∷◌, [], pos, All, IfOk, IfSome, IsErr, OnOk, OnErr, flat_map, length, option_map, replicate, slice_get, unsigned_abs};
+ghost use Rattle.std.specs.Prelude.{◌≡◌, ◌↔◌, true, false, ◌==◌, ◌<◌, ◌≤◌, ◌+◌, ◌^◌, ◌∷◌, [], pos, All, IfOk, IfSome, IsErr, OnOk, OnErr, flat_map, length, option_map, replicate, slice_get, unsigned_abs};
 ghost use Rattle.tk_input.specs.Changes.{pair_of};
 ghost use Rattle.tk_input.specs.Logs.{IsObject};
 ghost use Rattle.tk_recent.specs.Kept.{fresh, leaving, noted, staying, sum_with, taken, ticked};
@@ -78,6 +78,19 @@ impl Recent {
         ensures { result ≡ length self.now.sums }
     {
         self.sums.len() as u32
+    }
+
+    /// Whether a record of the tick that runs can be noted: whether the sum of its object in this tick has 127 bits.
+    pub fn fits(&self, change: Change) -> bool
+        requires { IsObject (length self.now.sums) change.obj.0 }
+        ensures fits { result ≡ true → unsigned_abs (sum_with self.now.sums (pair_of change)) < 2 ^ 127 }
+        ensures refused { result ≡ false → 2 ^ 127 ≤ unsigned_abs (sum_with self.now.sums (pair_of change)) }
+    {
+        let place = change.obj.0 as usize - 1;
+        match sum_of(self.sums[place], change.by) {
+            Ok(_) => true,
+            Err(TooGreat) => false,
+        }
     }
 
     /// A record of the tick that runs, in constant time and without memory. Refused where the sum of its object in this tick has no

@@ -1,5 +1,11 @@
+mod BalanceLemmas
+mod BeginningLemmas
 mod CourseLemmas
+mod TakingLemmas
+mod EachLemmas
+mod HeldLemmas
 mod JoinLemmas
+mod LastTicksLemmas
 mod NamedLemmas
 mod PassingLemmas
 mod RoomLemmas
@@ -8,3 +14,5 @@ mod ToldLemmas
 mod TurningLemmas
 mod BegunLemmas
 mod FreshLemmas
+mod FeedingLemmas
+mod GreetingLemmas

@@ -1,5 +1,5 @@
 -- What no call changes of a watch, and what is known of its connections.
-use Rattle.std.proofs.Common.{◌≡◌, ℕ, Bool, true, false, List, inl, inr, refl, sym, ap, ◌∙◌}
+use Rattle.std.proofs.Common.{◌≡◌, ◌≤◌, ℕ, Bool, true, false, List, length, inl, inr, refl, sym, ap, ◌∙◌, subst}
 use Rattle.std.specs.Prelude.{ℤ}
 use Rattle.tk_base.specs.declared.ids.Feeder.{Feeder}
 use Rattle.tk_monitor.specs.declared.outcome.Raised.{Raised}
@@ -40,6 +40,10 @@ closes_named old new f o.Ended closes = ap named_of closes.1
 
 pub begins_named : {W : Type 0} (old new : WatchView W) → IsWatch old → Begins old new → named_of new ≡ named_of old
 begins_named old new is begins = ap named_of begins.joined ∙ refilled_named old is
+
+-- a stream of its name is one of it
+pub streams_of : {W : Type 0} (named : Named) (w : WatchView W) (g : ℕ) → named_of w ≡ named → g ≤ named.streams → g ≤ length w.monitor.setup.parts
+streams_of named w g is within = subst (λ (n : Named). g ≤ n.streams) (sym is) within
 
 -- ---- connections
 

@@ -1,4 +1,9 @@
 pub mod Connections
+pub mod Each
+pub mod Feeding
+pub mod Fresh
+pub mod Greeted
+pub mod Laws
 pub mod Leaving
 pub mod Names
 pub mod Passing
@@ -6,4 +11,6 @@ pub mod Standing
 pub mod StandingInside
 pub mod Told
 pub mod Turning
+pub mod Untold
 pub mod Watch
+pub mod Windows

@@ -9,11 +9,12 @@ use crate::cell::{WatchCell, WatchName};
 use crate::wish::Wish;
 use std::alloc::Global;
 use std::sync::Wait;
+use std::time::Clock;
 use tk_base::NoMemory;
 use tk_wire::{Bell, Rest, Wire};
 
-/// One look under the lock, for which the feeders make way.
-fn look<R: Wait, W: Wire + Drop, B: Bell + Drop, N: WatchName>(
+/// One look under the lock, for which the feeders make way. A tick that is due by the clock ends before it.
+fn look<R: Wait + Clock, W: Wire + Drop, B: Bell + Drop, N: WatchName>(
     rt: &R,
     alloc: Global,
     cell: &WatchCell<W, B, N>,
@@ -24,11 +25,12 @@ fn look<R: Wait, W: Wire + Drop, B: Bell + Drop, N: WatchName>(
     wish.set(true);
     let mut watched = cell.lock(rt);
     wish.set(false);
+    watched.keep_time(rt);
     watched.look(alloc)
 }
 
 /// Serves the connection until it is over: Stop was taken, the link failed, or a stream ended the process. It may wait.
-pub(crate) fn attend<R: Wait, W: Wire + Drop, B: Bell + Drop, N: WatchName, Q: Rest>(
+pub(crate) fn attend<R: Wait + Clock, W: Wire + Drop, B: Bell + Drop, N: WatchName, Q: Rest>(
     rt: &R,
     alloc: Global,
     cell: &WatchCell<W, B, N>,

@@ -3,23 +3,33 @@
 ghost use Rattle.std.specs.Prelude.{◌≡◌, ◌≤◌, None, false, IfErr, IfOk, OnErr, OnOk};
 ghost use Rattle.tk_input.specs.Logs.{IsObject};
 ghost use Rattle.tk_watch.specs.Connections.{HasJoined, IsOver};
+ghost use Rattle.tk_watch.specs.Fresh.{IsUncounted, windows_for};
 ghost use Rattle.tk_watch.specs.Names.{nobody};
 ghost use Rattle.tk_watch.specs.Told.{Closes, Tells};
-ghost use Rattle.tk_watch.specs.Watch.{Named, named_of};
+ghost use Rattle.tk_watch.specs.Watch.{IsWatch, Named, named_of};
+ghost use Rattle.tk_watch.specs.Windows.{AreBalanced, AreWindows, Notes, TellsWithin};
 ghost use Rattle.tk_wire.specs.Net.{IsNew};
+
+mod ticking;
 
 use crate::attended::Attended;
 use crate::cause::Cause;
+use crate::ended::Ended;
 use crate::fault::FeedFault;
+use crate::plan::Window;
+use crate::timing::{clock_of, windows_of};
 use crate::told::Told;
 use crate::turned::Turned;
 use crate::watch::Watch;
+use crate::windows::Windows;
 use std::alloc::Global;
 use std::marker::{Brand, PhantomData};
 use std::sync::Mutex;
+use std::time::Instant;
 use tk_base::{Feeder, NoMemory};
 use tk_input::Change;
 use tk_monitor::Raised;
+use tk_recent::Metronome;
 use tk_wire::{Bell, Dialed, Wire};
 
 /// Which watch lies under a lock. A name has no calls: it exists in proofs alone, and the call that locks a watch picks it.
@@ -32,10 +42,14 @@ impl WatchName for Brand {
     ghost named = { nobody };
 }
 
-/// A watch that has what its name says, whenever its lock is got, with what its threads tell one another.
+/// A watch that has what its name says, whenever its lock is got, and values that are what the windows of its streams hold, where
+/// there are windows; with what its threads tell one another.
 #[derive(Drop)]
 pub struct Watched<W: Wire, B, N: WatchName> {
     pub watch: Watch<W>,
+    pub windows: Windows,
+    // Ends the ticks of all streams, where a clock does.
+    clock: Option<Metronome>,
     // Wakes the one who serves the connection.
     bell: Option<B>,
     // The first fault of a stream.
@@ -44,24 +58,42 @@ pub struct Watched<W: Wire, B, N: WatchName> {
     skipped: u64,
     of: PhantomData<N>,
     pub ghost named_is: { named_of watch ≡ N.named },
+    pub ghost are_windows: { AreWindows N.named windows },
+    pub ghost balanced: { AreBalanced watch.monitor windows },
 }
 
 /// A watch under a lock.
 pub type WatchCell<W, B, N> = Mutex<Watched<W, B, N>>;
 
 impl<W: Wire + Drop, B: Bell + Drop, N: WatchName> Watched<W, B, N> {
-    /// A watch behind a lock that nobody holds.
-    pub fn new(watch: Watch<W>) -> Watched<W, B, N>
-        requires { named_of watch ≡ N.named }
-        ensures { result.watch ≡ watch }
+    /// A watch that has counted nothing, with the windows of its streams where one is asked for. Where a clock ends their ticks, the
+    /// first begin now.
+    pub fn new(
+        alloc: Global,
+        watch: Watch<W>,
+        window: Option<Window>,
+        now: Instant,
+    ) -> Result<Watched<W, B, N>, NoMemory>
+        requires named { named_of watch ≡ N.named }
+        requires uncounted { IsUncounted watch }
+        ensures watch { IfOk result (λ watched. watched.watch ≡ watch) }
+        ensures windows { IfOk result (λ watched. watched.windows ≡ windows_for window N.named.streams N.named.objects) }
     {
-        Watched {
+        let streams = watch.counts().len() as u32;
+        let objects = watch.monitor().settings().objects();
+        let Ok(windows) = windows_of(alloc, window, streams, objects) else {
+            drop(watch);
+            return Err(NoMemory);
+        };
+        Ok(Watched {
             watch,
+            windows,
+            clock: clock_of(window, now),
             bell: None,
             fault: None,
             skipped: 0,
             of: PhantomData,
-        }
+        })
     }
 
     /// Wakes the one who serves the connection.
@@ -85,40 +117,54 @@ impl<W: Wire + Drop, B: Bell + Drop, N: WatchName> Watched<W, B, N> {
         }
     }
 
-    /// Counts a record of a stream. The bell rings where something broke, or where the monitor began anew.
+    /// Counts a record of a stream, and notes it in its window, where there is one. The bell rings where something broke, or where
+    /// the monitor began anew.
     pub fn tell(&mut self, f: Feeder, change: Change) -> Told
         requires from_one { 1 ≤ f.0 }
         requires stream { f.0 ≤ N.named.streams }
         requires object { IsObject N.named.objects change.obj.0 }
-        ensures { Tells self.old.watch f (change.obj.0, change.by) result self.new.watch }
+        ensures tells { TellsWithin self.old.windows self.old.watch f (change.obj.0, change.by) result self.new.watch }
+        ensures notes { Notes self.old.windows f.0 (change.obj.0, change.by) result self.new.windows }
+        ensures kept { IsWatch self.new.watch }
     {
         let was_broken = self.watch.monitor().broken();
+        if !self.windows.fits(f, change) {
+            return Told::TooGreat;
+        }
         let told = self.watch.tell(f, change);
+        // It is read for its clause, that it is kept.
+        let _ = self.watch.monitor();
+        self.windows.note_told(f, change, told);
         self.ring_for(told, was_broken);
         told
     }
 
-    /// Raises the closing record of a stream, and rings.
-    pub fn close(&mut self, f: Feeder) -> Raised
-        requires from_one { 1 ≤ f.0 }
-        requires stream { f.0 ≤ N.named.streams }
-        ensures { Closes self.old.watch f result self.new.watch }
+    /// Raises the closing record of a stream that has ended, and rings.
+    pub fn close(&mut self, ended: Ended) -> Raised
+        requires from_one { 1 ≤ ended.stream.0 }
+        requires stream { ended.stream.0 ≤ N.named.streams }
+        ensures closes { Closes self.old.watch ended.stream result self.new.watch }
+        ensures windows { self.new.windows ≡ self.old.windows }
     {
-        let raised = self.watch.close(f);
+        // It is read for its clause, that it is kept.
+        let _ = self.watch.monitor();
+        let raised = self.watch.close(ended);
         self.ring();
         raised
     }
 
     /// Notes that lines were passed over.
     pub(crate) fn note_skipped(&mut self, count: u64)
-        ensures { self.new.watch ≡ self.old.watch }
+        ensures watch { self.new.watch ≡ self.old.watch }
+        ensures windows { self.new.windows ≡ self.old.windows }
     {
         self.skipped = self.skipped.saturating_add(count);
     }
 
     /// Notes the fault of a stream, unless another was noted before, and rings.
     pub(crate) fn note_fault(&mut self, fault: FeedFault)
-        ensures { self.new.watch ≡ self.old.watch }
+        ensures watch { self.new.watch ≡ self.old.watch }
+        ensures windows { self.new.windows ≡ self.old.windows }
     {
         if self.fault.is_none() {
             self.fault = Some(fault);

@@ -2,6 +2,7 @@
 
 ghost use Rattle.std.specs.Prelude.{◌≡◌, ◌≤◌, Err, IsSome, Some, length};
 ghost use Rattle.tk_watch.specs.Connections.{Writes, faults_told};
+ghost use Rattle.tk_watch.specs.Fresh.{IsUncounted};
 ghost use Rattle.tk_watch.specs.Passing.{Passes, faults_passed};
 ghost use Rattle.tk_watch.specs.Watch.{IsWatch, named_of};
 ghost use Rattle.tk_watch.specs.declared.verdict.Verdict.TheVariants.{LinkFault as Unlinked};
@@ -13,6 +14,7 @@ use crate::passing::pass;
 use crate::pausing::pause;
 use crate::plan::Plan;
 use crate::reaching::reach;
+use crate::timing::has_marks;
 use crate::verdict::Verdict;
 use crate::watch::Watch;
 use crate::wish::Wish;
@@ -20,7 +22,7 @@ use std::alloc::Global;
 use std::marker::{Brand, Send, Sync};
 use std::sync::{Arc, Mutex, Wait};
 use std::thread::Threads;
-use std::time::Clock;
+use std::time::{Clock, Instant};
 use tk_base::Feeder;
 use tk_input::{Catalog, Sink};
 use tk_stream::{Records, Source};
@@ -131,6 +133,44 @@ fn start_all<
     true
 }
 
+/// The watch with the windows of its streams, unless memory is wanted, or the clock, which no system refuses.
+fn watched_of<R: Clock, L: Dialed + Drop, B: Bell + Drop, N: WatchName>(
+    rt: &R,
+    alloc: Global,
+    watch: Watch<L>,
+    plan: &Plan,
+) -> Option<Watched<L, B, N>>
+    requires named { named_of watch ≡ N.named }
+    requires uncounted { IsUncounted watch }
+{
+    let Ok(now) = Instant::now(rt) else {
+        drop(watch);
+        return None;
+    };
+    Watched::new(alloc, watch, plan.window, now).ok()
+}
+
+/// What the feeders share.
+fn share<R: Clock, L: Dialed + Drop, B: Bell + Drop, N: WatchName>(
+    rt: &R,
+    alloc: Global,
+    watch: Watch<L>,
+    names: Catalog,
+    plan: &Plan,
+) -> Option<Arc<Shared<L, B, N>, Global>>
+    requires named { named_of watch ≡ N.named }
+    requires uncounted { IsUncounted watch }
+    requires names { length names ≡ N.named.objects }
+{
+    let made: Option<Watched<L, B, N>> = watched_of(rt, alloc, watch, plan);
+    let Some(watched) = made else {
+        drop(names);
+        return None;
+    };
+    let shared = Shared::new(watched, names, has_marks(plan.window));
+    Arc::new(alloc, shared).ok()
+}
+
 /// As `monitor`, for a watch of this name.
 fn monitor_as<
     R: Threads + Wait + Clock + Copy + Send + 'static,
@@ -155,12 +195,13 @@ fn monitor_as<
     requires names { length names ≡ N.named.objects }
     requires sources { length sources.items ≡ N.named.streams }
     requires few { N.named.streams ≤ 8 }
+    requires uncounted { IsUncounted watch }
     ensures writes { Writes L N.named result (O.written out.old) (O.written out.new) }
     ensures tries { result ≡ Unlinked → IsSome plan.now.tries }
     ensures counted { O.fault_count out.new ≡ faults_told result (O.fault_count out.old) }
 {
-    let shared: Shared<L, B, N> = Shared::new(Watched::new(watch), names);
-    let Ok(shared) = Arc::new(alloc, shared) else {
+    let made: Option<Arc<Shared<L, B, N>, Global>> = share(&rt, alloc, watch, names, plan);
+    let Some(shared) = made else {
         return Verdict::NoMemory;
     };
     if !start_all(rt, alloc, &shared, sources) {
@@ -171,7 +212,8 @@ fn monitor_as<
 
 /// Runs a monitor: each of its streams is read in a thread of its own, which lives as long as the process, and each record
 /// counts as it comes. Beside them it dials its coordinator, serves the connection, and where that is left it waits and dials
-/// again, until Stop is taken. It may wait, and what it promises holds if it returns.
+/// again, until Stop is taken. Where the plan has a window, what the ticks of its streams counted is taken back as they leave it,
+/// and the ticks end by lines or by the clock, whether it is connected or not. It may wait, and what it promises holds if it returns.
 pub fn monitor<
     R: Threads + Wait + Clock + Copy + Send + 'static,
     L: Dialed + Send + Drop + 'static,
@@ -193,6 +235,7 @@ pub fn monitor<
     requires names { length names ≡ (named_of watch).objects }
     requires sources { length sources.items ≡ (named_of watch).streams }
     requires few { (named_of watch).streams ≤ 8 }
+    requires uncounted { IsUncounted watch }
     // What is written are the lines of the connections, in order, each with its cause. Done says that Stop was taken.
     ensures writes { Writes L (named_of watch) result (O.written out.old) (O.written out.new) }
     // Nobody answered only where tries are counted, and a failed write is told just where there is one.

@@ -17,6 +17,7 @@ use crate::verdict::Verdict;
 use std::alloc::Global;
 use std::marker::{Send, Sync};
 use std::sync::Wait;
+use std::time::Clock;
 use tk_base::NoMemory;
 use tk_input::{PutFailed, Sink};
 use tk_wire::{Bell, Dialed, Rest, Wire};
@@ -113,7 +114,7 @@ fn tell_over<W: Wire, N: WatchName, O: Sink>(
 }
 
 /// Serves a connection whose line was written, and leaves it.
-fn serve<R: Wait, W: Wire + Drop, B: Bell + Drop, N: WatchName, Q: Rest, O: Sink>(
+fn serve<R: Wait + Clock, W: Wire + Drop, B: Bell + Drop, N: WatchName, Q: Rest, O: Sink>(
     rt: &R,
     alloc: Global,
     shared: &Shared<W, B, N>,
@@ -150,7 +151,7 @@ fn begin<R: Wait, L: Dialed + Drop, B: Bell + Drop, N: WatchName>(
 
 /// One connection, over a link that was dialed: its line, the connection served until it is over, and the line of that.
 pub(crate) fn pass<
-    R: Wait,
+    R: Wait + Clock,
     L: Dialed + Send + Drop,
     Q: Rest + Send + Drop,
     B: Bell + Send + Sync + Drop,

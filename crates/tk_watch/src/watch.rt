@@ -4,6 +4,7 @@ ghost use Rattle.std.specs.Prelude.{◌≡◌, ◌<◌, ◌≤◌, ◌∷◌, []
 ghost use Rattle.tk_base.specs.Settings.{IsWithinLimits};
 ghost use Rattle.tk_frames.specs.Spelling.{IsVersion};
 ghost use Rattle.tk_input.specs.Changes.{closing};
+ghost use Rattle.tk_watch.specs.Fresh.{IsUncounted};
 ghost use Rattle.tk_watch.specs.Watch.{IsWatch, fresh};
 
 mod connecting;
@@ -82,7 +83,8 @@ impl<W: Wire> Watch<W> {
         requires number { (0 < number.0) × (number.0 ≤ 64) }
         requires streams { (1 ≤ streams) × (streams ≤ 8) }
         requires version { IsVersion version }
-        ensures { IfOk result (λ w. w ≡ fresh settings.now number.0 streams run version) }
+        ensures fresh { IfOk result (λ w. w ≡ fresh settings.now number.0 streams run version) }
+        ensures uncounted { IfOk result (λ w. IsUncounted w) }
     {
         let parts = unfed_parts(alloc, streams)?;
         let from = Places::new(Vec::from_elem(alloc, 0, streams as usize)?);

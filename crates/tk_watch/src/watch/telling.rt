@@ -9,6 +9,7 @@ ghost use Rattle.tk_compact.specs.Room.{HasRoomFor, IsClosedAt};
 ghost use Rattle.tk_watch.specs.Told.{Closes, CountsUnlessMemory, Tells, counted, fits_in};
 ghost use Rattle.tk_watch.specs.Watch.{IsWatch, refilled};
 
+use crate::ended::Ended;
 use crate::room::{has_room_for, is_heavy};
 use crate::standing::Standing;
 use crate::told::Told;
@@ -37,7 +38,7 @@ fn count_one(counts: &mut Vec<u64>, i: usize)
 
 impl<W: Wire + Drop> Watch<W> {
     /// Whether the closing record of a stream was raised.
-    fn is_closed(&self, f: Feeder) -> bool
+    pub(crate) fn is_closed(&self, f: Feeder) -> bool
         requires { IsFeederOf self.now.monitor.setup f.0 }
         ensures closed { result ≡ true → IsClosedAt self.now.monitor.setup self.now.monitor.trail f.0 }
         ensures opened { result ≡ false → HasNext self.now.monitor.setup self.now.monitor.trail f.0 }
@@ -116,11 +117,12 @@ impl<W: Wire + Drop> Watch<W> {
         }
     }
 
-    /// Raises the closing record of a stream, without memory.
-    pub fn close(&mut self, f: Feeder) -> Raised
-        requires { IsFeederOf self.old.monitor.setup f.0 }
-        ensures { Closes self.old f result self.new }
+    /// Raises the closing record of a stream that has ended, without memory.
+    pub fn close(&mut self, ended: Ended) -> Raised
+        requires { IsFeederOf self.old.monitor.setup ended.stream.0 }
+        ensures { Closes self.old ended.stream result self.new }
     {
+        let f = ended.stream;
         if self.is_closed(f) {
             return Raised::Ended;
         }

@@ -1,6 +1,6 @@
 use Rattle.std.proofs.Common.{◌≡◌, ◌≤◌, length, take}
 use Rattle.tk_host.specs.Room.{bytes_of}
-use Rattle.tk_host.specs.Tallying.{capped}
+use Rattle.tk_input.specs.Rows.{capped}
 use Rattle.tk_host.proofs.tally.Tally.count.Given as goal
 
 -- the entries so far are counted

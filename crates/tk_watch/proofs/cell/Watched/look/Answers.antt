@@ -1,10 +1,17 @@
 use Rattle.std.proofs.Common.{◌∙◌}
+use Rattle.tk_watch.proofs.BalanceLemmas.{turned_balanced}
 use Rattle.tk_watch.proofs.NamedLemmas.{goes_on_as, has_ended}
 use Rattle.tk_watch.proofs.TurningLemmas.{turned_named}
 use Rattle.tk_watch.proofs.cell.Watched.look.Goals as goal
 
 pub invariant_of-self : goal.invariant_of-self
-invariant_of-self g c = record { named_is = turned_named c.turn.result c.args.self.now.watch c.turn.new.self c.turn.ensures.turns ∙ c.args.self.now.named_is }
+invariant_of-self g c =
+    let s = c.args.self.now in
+    record {
+      named_is = turned_named c.turn.result s.watch c.turn.new.self c.turn.ensures.turns ∙ s.named_is;
+      are_windows = s.are_windows;
+      balanced = turned_balanced c.turn.result s.watch c.turn.new.self s.windows c.turn.ensures.turns s.balanced;
+    }
 
 pub returns-in-Quiet : goal.returns-in-Quiet
 returns-in-Quiet g c = goes_on_as _ _ c.args.self.now.watch c.turn.new.self c.args.self.now.named_is c.turn.ensures.kept c.turn.ensures.turns

@@ -10,14 +10,14 @@ pub invariant_of-self : goal.invariant_of-self
 invariant_of-self g c =
     let inside = c.self.inside in
     let w : WatchView _ = record { monitor = inside.standing.monitor; port = inside.standing.port; weight = inside.weight; counts = inside.counts.items; run = inside.run; version = inside.version } in
-    let joins : JoinsAnew w c.in_ok-port.port = subst (λ (v : WatchView _). JoinsAnew v c.in_ok-port.port) (sym c.self.view_is) c.in_ok-port.ensures in
+    let joins : JoinsAnew w c.in_ok-port.port = subst (λ (v : WatchView _). JoinsAnew v c.in_ok-port.port) (sym c.self.view_is) c.in_ok-port.ensures.joins in
     keeps_joined w c.joined-2.result c.in_ok-port.port c.size_of_values-weight.result c.self.invariant c.joined-2.ensures joins (c.size_of_values-weight.ensures ∙ ap (λ (m : MonitorView). size_of_values m.setup m.trail) c.monitor.ensures)
 
 pub returns-clause-ok : goal.returns-clause-ok
 returns-clause-ok g c =
     let inside = c.self.inside in
     let w : WatchView _ = record { monitor = inside.standing.monitor; port = inside.standing.port; weight = inside.weight; counts = inside.counts.items; run = inside.run; version = inside.version } in
-    let joins : JoinsAnew w c.in_ok-port.port = subst (λ (v : WatchView _). JoinsAnew v c.in_ok-port.port) (sym c.self.view_is) c.in_ok-port.ensures in
+    let joins : JoinsAnew w c.in_ok-port.port = subst (λ (v : WatchView _). JoinsAnew v c.in_ok-port.port) (sym c.self.view_is) c.in_ok-port.ensures.joins in
     let new : WatchView _ = record w { monitor = c.joined-2.result.monitor; port = c.joined-2.result.port; weight = c.size_of_values-weight.result } in
     subst (λ (v : WatchView _). Begins v new) c.self.view_is
     (begins_joined w c.joined-2.result c.in_ok-port.port c.size_of_values-weight.result c.joined-2.ensures joins (c.size_of_values-weight.ensures ∙ ap (λ (m : MonitorView). size_of_values m.setup m.trail) c.monitor.ensures))
