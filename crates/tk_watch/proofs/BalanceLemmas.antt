@@ -18,10 +18,9 @@ use Rattle.tk_trail.specs.declared.entry.Entry.TheVariants.{Raised}
 use Rattle.tk_compact.proofs.AsBeforeLemmas.{begins_as_before}
 use Rattle.tk_compact.proofs.ToldLemmas.{closed_once}
 use Rattle.tk_port.proofs.ExchangeLemmas.{reaches_setup}
-use Rattle.tk_port.specs.Turn.{Reaches}
-use Rattle.tk_watch.specs.Told.{Closes, Tells, made_room}
+use Rattle.tk_watch.specs.Told.{Closes, Tells}
 use Rattle.tk_watch.specs.Watch.{Begins, IsWatch, Named, Turns, WatchView, named_of, refilled}
-use Rattle.tk_watch.specs.Windows.{AreBalanced, AreWindows, IsKnownIn, Notes, Takes, held, held_by, noted_in, taken_in, ticked_in, window_of}
+use Rattle.tk_watch.specs.Windows.{AreBalanced, AreWindows, IsKnownIn, Notes, Takes, held, held_by, ticked_in, window_of}
 use Rattle.tk_watch.specs.declared.told.Told.{Told}
 use Rattle.tk_watch.specs.declared.told.Told.TheVariants as t
 use Rattle.tk_watch.specs.declared.turned.Turned.{Turned}

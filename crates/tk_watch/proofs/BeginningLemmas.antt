@@ -1,20 +1,19 @@
 -- The values and the windows of streams that gave nothing yet.
-use Rattle.std.proofs.Common.{◌≡◌, ℕ, zero, suc, ◌-◌, ◌<◌, ℤ, pos, ◌+ℤ◌, List, [], ◌∷◌, length, map, get_or, take, refl, sym, ap, ◌∙◌, subst, arith, Option, None, Some}
+use Rattle.std.proofs.Common.{◌≡◌, ℕ, zero, suc, ◌-◌, ℤ, pos, List, [], ◌∷◌, length, map, take, refl, sym, ap, ◌∙◌, arith, Option, None, Some}
 use Rattle.std.specs.Prelude.{replicate}
 use Rattle.std.specs.List.{zip}
 use Rattle.std.proofs.lemmas.Int.{ints}
 use Rattle.std.proofs.lemmas.List.{get_or-replicate, length-replicate}
 use Rattle.tk_base.specs.Settings.{Setup}
-use Rattle.tk_base.specs.Sum.{int_sum}
 use Rattle.tk_base.proofs.SumLemmas.{int_sum-cons}
 use Rattle.tk_input.specs.Changes.{closing}
-use Rattle.tk_input.specs.Logs.{IsObject, sum_for, value_of}
+use Rattle.tk_input.specs.Logs.{sum_for, value_of}
 use Rattle.tk_rows.proofs.SumLemmas.{zeros_at}
 use Rattle.tk_recent.specs.Kept.{Kept, fresh as fresh_window}
 use Rattle.tk_trail.specs.Readings.{value_of_object}
 use Rattle.tk_trail.proofs.PlacesLemmas.{places_at-start}
 use Rattle.tk_watch.specs.Fresh.{IsUncounted, windows_for}
-use Rattle.tk_watch.specs.Watch.{Named, WatchView, fresh, named_of, unfed}
+use Rattle.tk_watch.specs.Watch.{Named, WatchView, fresh, unfed}
 use Rattle.tk_watch.specs.Windows.{AreBalanced, AreWindows, held, held_by}
 use Rattle.tk_watch.specs.declared.plan.Window.{Window}
 

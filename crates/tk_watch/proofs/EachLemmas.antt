@@ -1,17 +1,16 @@
 -- Changes that were told in order, and what they come to.
-use Rattle.std.proofs.Common.{◌≡◌, ◌≢◌, ℕ, zero, suc, ◌+◌, ◌-◌, ◌<◌, Bool, true, false, List, [], ◌∷◌, ◌++◌, length, get_or, None, Some, refl, sym, ap, ◌∙◌, subst, arith}
-use Rattle.std.specs.Prelude.{ℤ, pos, ◌+ℤ◌}
+use Rattle.std.proofs.Common.{◌≡◌, ◌≢◌, ℕ, ◌-◌, ◌<◌, Bool, true, false, List, [], ◌∷◌, ◌++◌, length, get_or, None, refl, ap, ◌∙◌, subst, arith}
+use Rattle.std.specs.Prelude.{ℤ}
 use Rattle.std.proofs.lemmas.Int.{ints}
 use Rattle.std.proofs.lemmas.List.{get_or-set_same, get_or-set_other}
 use Rattle.tk_base.specs.declared.ids.Feeder.{Feeder}
 use Rattle.tk_base.specs.declared.ids.Obj.{Obj}
-use Rattle.tk_input.specs.Logs.{sum_for}
 use Rattle.tk_trail.specs.Readings.{value_of_object}
 use Rattle.tk_trail.proofs.ValuesLemmas.{sum_for-cons}
 use Rattle.tk_compact.proofs.AsBeforeLemmas.{begins_as_before}
 use Rattle.tk_wire.specs.Meanings.{raised_by}
 use Rattle.tk_watch.specs.Each.{CountsOnce, Rises, TellsEach, risen}
-use Rattle.tk_watch.specs.Told.{Counts, Tells, counted, made_room}
+use Rattle.tk_watch.specs.Told.{Counts, Tells, made_room}
 use Rattle.tk_watch.specs.Untold.{untold_by}
 use Rattle.tk_watch.specs.Watch.{IsWatch, WatchView}
 use Rattle.tk_watch.specs.declared.told.Told.{Told}

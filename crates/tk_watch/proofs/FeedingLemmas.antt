@@ -1,5 +1,5 @@
 -- What a stream gave, one record or tick more.
-use Rattle.std.proofs.Common.{◌≡◌, ℕ, Bool, List, [], ◌∷◌, ◌++◌, Some, refl, subst}
+use Rattle.std.proofs.Common.{ℕ, Bool, List, [], ◌∷◌, ◌++◌, Some, refl, subst}
 use Rattle.tk_base.specs.declared.ids.Feeder.{Feeder}
 use Rattle.tk_stream.specs.Line.{IsItemOf}
 use Rattle.tk_stream.specs.Records.{FailsItem, FindsItem, Unread}

@@ -1,5 +1,5 @@
 -- Where the streams of a monitor begin.
-use Rattle.std.proofs.Common.{◌≡◌, ℕ, zero, suc, ◌+◌, ◌<◌, List, [], ◌∷◌, ◌++◌, length, take, get_or, refl, sym, ap, ap₂, ◌∙◌, arith}
+use Rattle.std.proofs.Common.{◌≡◌, ℕ, zero, suc, ◌+◌, ◌<◌, List, [], ◌∷◌, ◌++◌, length, take, get_or, refl, ap, ap₂, ◌∙◌, arith}
 use Rattle.tk_wire.specs.declared.beginning.Beginning.{Beginning}
 use Rattle.tk_wire.specs.declared.greeting.Greeting.{Greeting}
 use Rattle.tk_monitor.specs.Monitored.{MonitorView}

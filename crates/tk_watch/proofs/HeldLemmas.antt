@@ -1,9 +1,9 @@
 -- What windows hold of an object.
-use Rattle.std.proofs.Common.{◌≡◌, ℕ, suc, ◌-◌, ◌<◌, ◌≤◌, ℤ, pos, ◌+ℤ◌, List, [], ◌∷◌, ◌++◌, length, map, get_or, set, take, drop, cond, refl, sym, ap, ◌∙◌, subst, arith, inl, inr, ne_eqb, eq-eqb}
-use Rattle.std.specs.Prelude.{◌-ℤ◌, neg_ℤ, flat_map, replicate}
+use Rattle.std.proofs.Common.{◌≡◌, ℕ, ◌-◌, ◌<◌, ℤ, pos, ◌+ℤ◌, List, [], ◌∷◌, ◌++◌, length, map, get_or, set, take, drop, cond, sym, ap, ◌∙◌, arith, inl, inr, ne_eqb, eq-eqb}
+use Rattle.std.specs.Prelude.{neg_ℤ, flat_map, replicate}
 use Rattle.std.proofs.lemmas.Bool.{cases_eq}
 use Rattle.std.proofs.lemmas.Int.{ints}
-use Rattle.std.proofs.lemmas.List.{append-nil, get_or-map, get_or-replicate, get_or-set_other, get_or-set_same, length-map, length-replicate, map-set, take-append-drop}
+use Rattle.std.proofs.lemmas.List.{append-nil, get_or-map, get_or-replicate, get_or-set_other, get_or-set_same, length-map, map-set, take-append-drop}
 use Rattle.std.proofs.lemmas.List.Concat.{flat_map-append}
 use Rattle.tk_base.specs.Sum.{int_sum}
 use Rattle.tk_input.specs.Logs.{IsObject, sum_for}
@@ -11,7 +11,7 @@ use Rattle.tk_input.proofs.SumLemmas.{by_at}
 use Rattle.tk_rows.proofs.SumLemmas.{int_sum-set}
 use Rattle.tk_compact.proofs.CompactedLemmas.{compacted_sums}
 use Rattle.tk_window.proofs.SumLemmas.{sum_for-append, sum_for-cons}
-use Rattle.tk_recent.specs.Kept.{Kept, fresh, leaving, noted, opposite, staying, sum_with, taken, ticked, with_last}
+use Rattle.tk_recent.specs.Kept.{Kept, fresh, noted, opposite, sum_with, taken, ticked, with_last}
 use Rattle.tk_watch.specs.Windows.{held, held_by}
 
 -- ---- one window

@@ -1,6 +1,6 @@
 -- What a window makes of what a stream gives, one by one, and of the end of a tick.
-use Rattle.std.proofs.Common.{◌≡◌, ℕ, zero, suc, ◌+◌, ◌-◌, ◌<◌, ◌≤◌, List, [], ◌∷◌, ◌++◌, length, get_or, set, take, drop, Option, None, Some, refl, sym, ap, ◌∙◌, subst, arith, inl, inr, append_assoc}
-use Rattle.std.specs.Prelude.{ℤ, pos, fold, slice_get}
+use Rattle.std.proofs.Common.{◌≡◌, ℕ, zero, suc, ◌+◌, ◌-◌, ◌<◌, ◌≤◌, List, [], ◌∷◌, ◌++◌, length, get_or, set, take, drop, None, Some, refl, sym, ap, ◌∙◌, subst, arith, inl, inr, append_assoc}
+use Rattle.std.specs.Prelude.{ℤ, fold, slice_get}
 use Rattle.std.proofs.lemmas.Bool.{cases_lt}
 use Rattle.std.proofs.lemmas.List.{append-nil, get_or-set_same, get_or_past, set-get_or, set_past, take-append-drop, take_all, take_more}
 use Rattle.std.proofs.lemmas.List.Sums.{fold_push}
@@ -13,7 +13,7 @@ use Rattle.tk_compact.specs.Compacted.{compacted}
 use Rattle.tk_stream.specs.declared.item.Item.{Item}
 use Rattle.tk_stream.specs.declared.item.Item.TheVariants as i
 use Rattle.tk_compact.specs.Room.{IsClosedAt}
-use Rattle.tk_watch.specs.Each.{CountsOnce, IsTooGreat, IsUntold, Rises, Stops, TellsEach}
+use Rattle.tk_watch.specs.Each.{CountsOnce, IsUntold, Rises, Stops, TellsEach}
 use Rattle.tk_watch.specs.Feeding.{TakesEach}
 use Rattle.tk_watch.specs.Told.{Tells}
 use Rattle.tk_watch.specs.Untold.{untold_by}

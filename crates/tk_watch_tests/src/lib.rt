@@ -6,5 +6,3 @@
 mod rows;
 #[cfg(test)]
 mod tests;
-#[cfg(test)]
-mod windows;

@@ -1,6 +1,0 @@
-use Rattle.tk_watch.specs.Watch.{named_of}
-use Rattle.tk_watch_tests.proofs.windows.right_lines.Given as goal
-
--- the name of the watch that is made
-abbrev pub ghosts-right_lines_as : goal.ghosts-right_lines_as
-ghosts-right_lines_as a = record { named = named_of a.watch }
