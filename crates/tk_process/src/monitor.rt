@@ -73,7 +73,8 @@ fn status_by(alloc: Global, words: &Words<'_>, verdict: Verdict) -> Status
 
 /// The window that the words ask for, as the monitor has it.
 fn window_of(recent: Option<Recent>) -> Option<Window>
-    ensures { option_map (λ w. (w.width, w.tick)) result ≡ option_map (λ r. (r.width, r.tick)) recent }
+    ensures width { option_map (λ w. w.width) result ≡ option_map (λ r. r.width) recent }
+    ensures tick { option_map (λ w. w.tick) result ≡ option_map (λ r. r.tick) recent }
 {
     match recent {
         Some(Recent { width, tick }) => Some(Window { width, tick }),

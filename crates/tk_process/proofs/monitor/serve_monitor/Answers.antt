@@ -22,6 +22,6 @@ returns-clause-ends g c =
     let streams : length (replicate (length c.as_slice.result.now) (closing ∷ [])) ≡ length words.sources =
     length-replicate (length c.as_slice.result.now) (closing ∷ []) ∙ ap (λ (s : List _). length s) c.as_slice.ensures.value ∙ c.in-Ok-open_all.ensures.each ∙ sym (length-map c.args.words.now.sources.items (λ (s : Bor (List ℕ)). s.now)) in
     let made : Named = named_of c.in-Ok-new.watch in
-    let same : made ≡ named_by words input = ap (λ (w : WatchView W). named_of w) c.in-Ok-new.ensures ∙ ap₂ name (sym c.in-Ok.ensures.objects) streams in
+    let same : made ≡ named_by words input = ap (λ (w : WatchView W). named_of w) c.in-Ok-new.ensures.fresh ∙ ap₂ name (sym c.in-Ok.ensures.objects) streams in
     Ran input c.monitor-verdict.result c.in-Ok.ensures.read c.status_by.ensures
     (subst (λ (n : Named). Writes W n c.monitor-verdict.result (g.O.Sink.written c.args.out.now) (g.O.Sink.written c.monitor-verdict.new.out)) same c.monitor-verdict.ensures.writes)
