@@ -135,8 +135,8 @@ fn unheard_for_a_second<R: Net + Clock + Copy + Send>(
 #[test]
 fn a_silent_peer_is_lost_and_was_given_pulses(rt: HostRuntime) {
     let right = match unheard_for_a_second(&rt, rt.alloc()) {
-        Some((heard, count, given)) => {
-            let lost = heard == (Took::Failed, [0; 5], 1);
+        Some(((took, _, faults), count, given)) => {
+            let lost = took == Took::Failed && faults == 1;
             lost && count >= 2 && given[0] == 0 && given[1] == 0
         }
         None => false,
