@@ -132,13 +132,16 @@ fn unheard_for_a_second<R: Net + Clock + Copy + Send>(
     unheard
 }
 
+/// Whether a peer was lost, and was given pulses before.
+fn is_lost(unheard: &(Heard, usize, [u8; 16])) -> bool {
+    let (heard, count, given) = unheard;
+    heard.0 == Took::Failed && heard.2 == 1 && *count >= 2 && given[..2] == PULSES[..2]
+}
+
 #[test]
 fn a_silent_peer_is_lost_and_was_given_pulses(rt: HostRuntime) {
     let right = match unheard_for_a_second(&rt, rt.alloc()) {
-        Some(((took, _, faults), count, given)) => {
-            let lost = took == Took::Failed && faults == 1;
-            lost && count >= 2 && given[0] == 0 && given[1] == 0
-        }
+        Some(unheard) => is_lost(&unheard),
         None => false,
     };
     assert!(rt; right);
