@@ -1,29 +1,24 @@
 //! `topk`: replays change logs through the top-k protocol, and prints each published set with the log
 //! prefixes of which it speaks, then a ledger of messages.
 //!
-//! It makes the true files, streams, sockets and the output, and calls `run`, `live` or `process`, which promise the rest.
+//! It makes the true files, the output and the net, and calls `run` or `live`, which promise the rest.
 #![tactic(auto)]
 
-mod sockets;
+mod processes;
 
-use sockets::{SocketDialers, SocketHosts};
+use processes::run_process;
 use std::alloc::AllocGlobal;
-use std::fs::File;
 use std::io::{Print, Write};
-use std::net::TcpStream;
 use std::process::ExitCode;
 use std::random::RandomSource;
 use std::sync::Wait;
 use std::thread::Threads;
-use std::time::Clock;
 use std::{env, io, rt};
 use tk_input::{StdSink, TrueFiles};
 use tk_live::{Outcome, live, run_number};
 use tk_net::LoopNet;
-use tk_process::process;
 use tk_run::{Status, fault_line, run};
 use tk_serve::OpenGate;
-use tk_stream::TrueStreams;
 use tk_words::{Verb, verb_of};
 
 /// Leaves what a run kept to the system, which takes it back with the process: to free each frame by itself would take up
@@ -85,38 +80,6 @@ fn run_words<R: AllocGlobal + Print + rt::Files + Threads + Sync>(
     let outcome = run(rt, alloc, words, &mut files, &mut out);
     leave(outcome.story, outcome.stories);
     outcome.status
-}
-
-/// Runs the words as a process of its own, over the files and streams of the system and sockets between hosts.
-fn run_process<
-    R: AllocGlobal
-        + Print
-        + rt::Files<File = File>
-        + rt::Net<Stream = TcpStream>
-        + Threads
-        + Wait
-        + Clock
-        + Sync
-        + Copy
-        + Send
-        + 'static,
->(rt: &R, words: &[String]) -> Status {
-    let alloc = rt.alloc();
-    let mut files = TrueFiles::new(alloc, rt);
-    let mut streams = TrueStreams::new(rt);
-    let mut hosts = SocketHosts { handle: rt, alloc };
-    let mut dialers = SocketDialers { handle: rt, alloc };
-    let mut out = StdSink::new(rt);
-    process(
-        *rt,
-        alloc,
-        words,
-        &mut files,
-        &mut streams,
-        &mut hosts,
-        &mut dialers,
-        &mut out,
-    )
 }
 
 /// Writes the fault of a status to standard error. Where that fails, the number alone tells it.

@@ -1,3 +1,0 @@
-pub mod Coordinating
-pub mod Monitoring
-pub mod Serving
