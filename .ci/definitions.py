@@ -10,7 +10,7 @@ import sys
 sys.dont_write_bytecode = True
 import check_contracts as code  # noqa: E402
 
-CRATES = ("tk_verify", "tk_run", "tk_live")
+CRATES = ("tk_verify", "tk_run", "tk_live", "tk_process")
 STOOD_ON = [("tk_input", "Logs", "IsValid"), ("tk_input", "Logs", "total"), ("tk_load", "Input", "input_of"), ("tk_run", "Ends", "HasRun"),
             ("tk_run", "Ends", "Ends"), ("tk_live", "Lived", "HasLived"), ("tk_live", "Lived", "Concludes"),
             ("tk_live", "Lived", "Leaves"), ("tk_story", "Story", "IsStory"), ("tk_story", "Links", "IsOrderedLink"), ("tk_story", "Moments", "IsMoment"),

@@ -15,7 +15,7 @@ use tk_wire::{Dialer, NetFault};
 
 /// A dialer over sockets. At each dial it looks its host's name up anew, and tries each address in turn.
 #[derive(Drop)]
-pub struct SocketDialer<'a, H: std::net::Net<Stream = TcpStream> + Clock + Copy + Send> {
+pub struct SocketDialer<'a, H: std::net::Net<Stream = TcpStream> + Clock + Copy> {
     handle: &'a H,
     alloc: Global,
     at: String,
@@ -50,7 +50,7 @@ fn reached<H: std::net::Net<Stream = TcpStream>>(
     None
 }
 
-impl<'a, H: std::net::Net<Stream = TcpStream> + Clock + Copy + Send> SocketDialer<'a, H> {
+impl<'a, H: std::net::Net<Stream = TcpStream> + Clock + Copy> SocketDialer<'a, H> {
     /// A dialer of HOST:PORT. A link over which nothing comes for `silence` seconds has failed.
     pub fn new(
         alloc: Global,

@@ -21,7 +21,7 @@ const MOST_AT_ONCE: u32 = 64;
 
 /// A host over sockets. At most 64 are held without a whole greeting, and a further one is turned away.
 #[derive(Drop)]
-pub struct SocketHost<'a, H: std::net::Net + Clock + Copy + Send> {
+pub struct SocketHost<'a, H: std::net::Net + Clock + Copy> {
     handle: &'a H,
     alloc: Global,
     // How many seconds a greeting may take, and a peer may be silent.
@@ -32,7 +32,7 @@ pub struct SocketHost<'a, H: std::net::Net + Clock + Copy + Send> {
     faults: u64,
 }
 
-impl<'a, H: std::net::Net + Clock + Copy + Send> Model for SocketHost<'a, H> {
+impl<'a, H: std::net::Net + Clock + Copy> Model for SocketHost<'a, H> {
     ghost use Rattle.std.specs.Prelude.{is_some};
     ghost use Rattle.tk_net.specs.Hosting.{HostView};
 
@@ -110,7 +110,7 @@ fn admit<H: Clock + Copy>(
     }
 }
 
-impl<'a, H: std::net::Net + Clock + Copy + Send> SocketHost<'a, H> {
+impl<'a, H: std::net::Net + Clock + Copy> SocketHost<'a, H> {
     /// A host of a run with so many monitors, which has opened nothing yet. A greeting that is not whole within `silence`
     /// seconds is a stranger's, and a link over which nothing comes for so long has failed.
     pub fn new(

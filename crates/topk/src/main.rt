@@ -1,24 +1,29 @@
 //! `topk`: replays change logs through the top-k protocol, and prints each published set with the log
 //! prefixes of which it speaks, then a ledger of messages.
 //!
-//! It makes the true files, the output and the net, and calls `run` or `live`, which promise the rest.
+//! It makes the true files, streams, output and nets, and calls `run`, `live` or `process`, which promise the rest.
 #![tactic(auto)]
 
-mod processes;
+mod sockets;
 
-use processes::run_process;
+use sockets::{SocketDialers, SocketHosts};
 use std::alloc::AllocGlobal;
+use std::fs::File;
 use std::io::{Print, Write};
+use std::net::TcpStream;
 use std::process::ExitCode;
 use std::random::RandomSource;
 use std::sync::Wait;
 use std::thread::Threads;
+use std::time::Clock;
 use std::{env, io, rt};
 use tk_input::{StdSink, TrueFiles};
 use tk_live::{Outcome, live, run_number};
 use tk_net::LoopNet;
+use tk_process::process;
 use tk_run::{Status, fault_line, run};
 use tk_serve::OpenGate;
+use tk_stream::TrueStreams;
 use tk_words::{Verb, verb_of};
 
 /// Leaves what a run kept to the system, which takes it back with the process: to free each frame by itself would take up
@@ -53,6 +58,38 @@ fn run_live<R: AllocGlobal + RandomSource + Print + rt::Files + rt::Net + Thread
     leave(story, Vec::new(alloc));
     leave(ends, Vec::new(alloc));
     status
+}
+
+/// Runs the words of a process of its own, over streams and sockets.
+fn run_process<
+    R: AllocGlobal
+        + Print
+        + rt::Files<File = File>
+        + rt::Net<Stream = TcpStream>
+        + Threads
+        + Wait
+        + Clock
+        + Sync
+        + Copy
+        + Send
+        + 'static,
+>(rt: &R, words: &[String]) -> Status {
+    let alloc = rt.alloc();
+    let mut files = TrueFiles::new(alloc, rt);
+    let mut streams = TrueStreams::new(rt);
+    let mut hosts = SocketHosts::new(alloc, rt);
+    let mut dialers = SocketDialers::new(alloc, rt);
+    let mut out = StdSink::new(rt);
+    process(
+        *rt,
+        alloc,
+        words,
+        &mut files,
+        &mut streams,
+        &mut hosts,
+        &mut dialers,
+        &mut out,
+    )
 }
 
 /// The words of the command line, without the program's name. Where one is no UTF-8 they are not understood.
@@ -97,8 +134,7 @@ fn main(rt: HostRuntime) -> ExitCode {
     let status = match words_of(&rt) {
         Ok(words) => match verb_of(words.as_slice()) {
             Some(Verb::Live) => run_live(&rt, words.as_slice()),
-            Some(Verb::Coordinate) => run_process(&rt, words.as_slice()),
-            Some(Verb::Monitor) => run_process(&rt, words.as_slice()),
+            Some(Verb::Coordinate | Verb::Monitor) => run_process(&rt, words.as_slice()),
             _ => run_words(&rt, words.as_slice()),
         },
         Err(status) => status,

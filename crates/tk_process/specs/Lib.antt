@@ -1,0 +1,3 @@
+pub mod Coordinating
+pub mod Monitoring
+pub mod Serving
