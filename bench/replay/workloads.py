@@ -145,7 +145,7 @@ def retunes():
         work.logs[monitor, 1] = [f"{item},{draw.randint(1, 9)}" for item in popular(draw, work.objects, 1.0, 1_000)]
     rounds = [f"{leg} {monitor}" for leg in ("down", "up") * 2 for monitor in range(1, 65)]
     for turn in range(8):
-        work.order += [f"retune 10 {1_000 + turn % 2}", *rounds]
+        work.order += [f"retune 10 {1_001 - turn % 2}", *rounds]
     return work
 
 
