@@ -1,6 +1,6 @@
 use Rattle.std.proofs.Common.{◌≡◌, ℕ, ◌+◌, ◌<◌, ◌≤◌, ◌∙◌, ap, arith, drop, length, refl, subst, sym, take, List}
 use Rattle.std.proofs.lemmas.Grind.{drop_more_same}
-use Rattle.std.proofs.lemmas.List.{drop-set-lt, get_or_default, length-set, take_all, take_more_set}
+use Rattle.std.proofs.lemmas.List.{drop-set-lt, length-set, take_all, take_more_set}
 use Rattle.tk_base.specs.declared.ids.Feeder.{Feeder}
 use Rattle.tk_base.specs.declared.ids.Mon.{Mon}
 use Rattle.tk_world.specs.Events.{raise_at}
