@@ -10,13 +10,14 @@ from dataclasses import dataclass, field
 
 @dataclass
 class Workload:
-    """Names of objects, lines `NAME,CHANGE` for each (monitor, feeder), and the settings of its replay."""
+    """Names of objects, lines `NAME,CHANGE` for each (monitor, feeder), the settings of its replay and its order, if any."""
     name: str
     about: str
     k: int
     epsilon: int
     objects: list
     logs: dict = field(default_factory=dict)
+    order: list = field(default_factory=list)
 
     @property
     def updates(self):
@@ -27,9 +28,12 @@ class Workload:
         return max(monitor for monitor, _ in self.logs)
 
     def write(self, folder):
-        """Writes the catalogue and the logs into the folder, and gives the words of `topk replay`."""
+        """Writes the catalogue, the logs and the order into the folder, and gives the words of `topk replay`."""
         words = ["--k", str(self.k), "--epsilon", str(self.epsilon), "--objects", "objects.csv"]
         files = {"objects.csv": self.objects}
+        if self.order:
+            files["order.txt"] = self.order
+            words += ["--order", "order.txt"]
         for (monitor, feeder), lines in sorted(self.logs.items()):
             file = f"monitor_{monitor}_{feeder}.csv"
             files[file] = lines
@@ -113,4 +117,36 @@ def ties():
     return work
 
 
-ALL = [pages, web, router, cache, shift, ties]
+def rounds():
+    """Rounds all the time as in ties, at as many monitors as there can be."""
+    draw = random.Random(17)
+    work = Workload("rounds", "1,000 equal objects at 64 monitors, epsilon 100: many rounds", 10, 100, [f"r{n}" for n in range(1_000)])
+    for monitor in range(1, 65):
+        work.logs[monitor, 1] = [f"{draw.choice(work.objects)},{draw.randint(-2, 3)}" for _ in range(3_000)]
+    return work
+
+
+def thousand():
+    """A thousand members."""
+    draw = random.Random(18)
+    work = Workload("thousand", "k 1,000 of 10,000 items at 16 monitors", 1_000, 300, [f"item-{n}" for n in range(10_000)])
+    work.logs = {(monitor, 1): [] for monitor in range(1, 17)}
+    logs = list(work.logs.values())
+    for item in popular(draw, draw.sample(work.objects, 10_000), 0.5, 500_000):
+        draw.choice(logs).append(item + ",1")
+    return work
+
+
+def retunes():
+    """Rounds over all objects at all monitors: each retune opens one, and the order carries its frames."""
+    draw = random.Random(19)
+    work = Workload("retunes", "8 retunes of 16,384 objects at 64 monitors", 10, 1_000, [f"o{n}" for n in range(16_384)])
+    for monitor in range(1, 65):
+        work.logs[monitor, 1] = [f"{item},{draw.randint(1, 9)}" for item in popular(draw, work.objects, 1.0, 1_000)]
+    rounds = [f"{leg} {monitor}" for leg in ("down", "up") * 2 for monitor in range(1, 65)]
+    for turn in range(8):
+        work.order += [f"retune 10 {1_001 - turn % 2}", *rounds]
+    return work
+
+
+ALL = [pages, web, router, cache, shift, ties, rounds, thousand, retunes]

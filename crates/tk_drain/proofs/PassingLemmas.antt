@@ -1,5 +1,5 @@
 -- Passes of raises over the parts that go on are passes over all parts.
-use Rattle.std.proofs.Common.{◌≡◌, ℕ, ◌+◌, ◌<◌, ◌≤◌, List, [], ◌∷◌, ◌++◌, take, Option, Some, None, refl, sym, ap, ◌∙◌, subst, arith}
+use Rattle.std.proofs.Common.{◌≡◌, ℕ, ◌+◌, ◌<◌, ◌≤◌, List, [], ◌∷◌, ◌++◌, drop, get_or, length, take, Option, Some, None, refl, sym, ap, ◌∙◌, subst, arith}
 use Rattle.tk_base.specs.declared.ids.Feeder.{Feeder}
 use Rattle.tk_base.specs.declared.ids.Mon.{Mon}
 use Rattle.tk_input.specs.declared.event.Event.{Event}
@@ -24,6 +24,7 @@ use Rattle.tk_drain.proofs.KeepLemmas.{leads_join, leads_reached, leads_story, r
 use Rattle.tk_drain.proofs.RestLemmas.{settles_rests}
 use Rattle.tk_drain.proofs.RaiseLemmas.{alike_length, goes_on, idle_ended, place, raised_in, run_alike, run_moves}
 use Rattle.tk_drain.proofs.EndingLemmas.{Finished, finishes_leads, part_back, raised_over}
+use Rattle.std.proofs.lemmas.List.{drop_more, take_more}
 use Rattle.std.proofs.lemmas.List.Sums.{fold-append}
 use Rattle.tk_story.specs.Moments.{IsOver}
 use Rattle.tk_world.proofs.StepLemmas.{guarded, monitor_is}
@@ -161,6 +162,15 @@ finished_of a b c count settles finishes =
     let r = settles_rests a b count settles in
     let alike = run_alike a.story b.story r.calms.took r.calms.leads.runs in
     record { settled = b; count = count; settles = settles; finishes = subst (λ (l : LogSet). Finishes (all_raises l) b c) alike.logs finishes }
+
+-- the next of some parts, of which those behind are as they were
+pub next_taken : (front items : List (Mon × Feeder)) (i : ℕ) (part : Mon × Feeder) → i < length items → length items ≡ length front → drop i items ≡ drop i front → part ≡ get_or items i part → take (i + 1) front ≡ take i front ++ part ∷ []
+next_taken front items i part within size ahead is =
+    let also : i < length front = omega (arith, within, size) in
+    let there = drop_more items i part within in
+    let here = drop_more front i part also in
+    let same : get_or front i part ≡ part = cc in
+    take_more front i part also ∙ ap (λ (p : Mon × Feeder). take i front ++ p ∷ []) same
 
 pub each_yes : (parts left more : List (Mon × Feeder)) (i : ℕ) (part : Mon × Feeder) (a b c : KeptStory) → IsStory b.story → take (i + 1) parts ≡ take i parts ++ part ∷ [] → more ≡ left ++ part ∷ []
     → Passes (raises (take i parts)) (raises left) a b → MayRaise (raise_at part.0.0 part.1.0) Yes b c → Passes (raises (take (i + 1) parts)) (raises more) a c

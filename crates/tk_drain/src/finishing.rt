@@ -11,7 +11,7 @@ use crate::parts::{longest_of, parts_of};
 use crate::sweeps::settle;
 use std::alloc::Global;
 use tk_base::{Feeder, Mon, NoMemory};
-use tk_input::{Event, Order};
+use tk_input::Order;
 use tk_world::{Moved, Nodes, World};
 
 /// Raises the next change of a part and settles, unless the part is at its end.
@@ -20,7 +20,7 @@ fn raise_one<N: Nodes>(world: &mut World<N>, mon: Mon, f: Feeder) -> Result<Move
     ensures err { OnErr result (BeginsFinishes (raise_at mon.0 f.0 ∷ []) world.old world.new) }
     ensures legal { IsStory world.new.story }
 {
-    match world.step(Event::Raise(mon, f))? {
+    match world.raise(mon, f) {
         Moved::Yes => {
             settle(world)?;
             Ok(Moved::Yes)
@@ -29,25 +29,29 @@ fn raise_one<N: Nodes>(world: &mut World<N>, mon: Mon, f: Feeder) -> Result<Move
     }
 }
 
-/// Raises one change of each of the parts, each followed by settling, and answers the parts that had one.
+/// Raises one change of each of the parts, each followed by settling, and leaves the parts that had one.
 fn raise_each<N: Nodes>(
-    alloc: Global,
     world: &mut World<N>,
-    parts: &[(Mon, Feeder)],
-) -> Result<Vec<(Mon, Feeder)>, NoMemory>
+    parts: &mut Vec<(Mon, Feeder)>,
+) -> Result<(), NoMemory>
     requires { IsStory world.old.story }
-    ensures ok { IfOk result (λ left. Passes (raises parts.now) (raises left.items) world.old world.new) }
-    ensures err { OnErr result (BeginsFinishes (raises parts.now) world.old world.new) }
+    ensures ok { OnOk result (Passes (raises parts.old.items) (raises parts.new.items) world.old world.new) }
+    ensures err { OnErr result (BeginsFinishes (raises parts.old.items) world.old world.new) }
     ensures legal { IsStory world.new.story }
 {
-    let mut left = Vec::with_capacity(alloc, parts.len())?;
-    for part in parts {
+    let mut kept = 0;
+    for i in 0..parts.len() {
+        let part = parts[i];
         match raise_one(world, part.0, part.1)? {
-            Moved::Yes => left.push(*part)?,
+            Moved::Yes => {
+                parts[kept] = part;
+                kept += 1;
+            }
             Moved::Idle => {}
         }
     }
-    Ok(left)
+    parts.truncate(kept);
+    Ok(())
 }
 
 /// Settles, then in passes raises one change of each part that has changes left, monitors and feeders ascending, and
@@ -61,7 +65,7 @@ pub fn finish<N: Nodes>(alloc: Global, world: &mut World<N>) -> Result<(), NoMem
     settle(world)?;
     let mut parts = parts_of(alloc, world.logs())?;
     for pass in 0..longest_of(world.logs()) {
-        parts = raise_each(alloc, world, parts.as_slice())?;
+        raise_each(world, &mut parts)?;
     }
     Ok(())
 }

@@ -123,7 +123,8 @@ impl<N: Nodes> World<N> {
         0 < f.0 && f.0 <= self.logs.feeders(mon)
     }
 
-    fn raise(&mut self, mon: Mon, f: Feeder) -> Moved
+    /// Raises the next change of a feeder, or tells that there is none. It takes no memory.
+    pub fn raise(&mut self, mon: Mon, f: Feeder) -> Moved
         ensures moves { Moves self.old (Raise mon f) result self.new }
         ensures legal { IsStory self.new.story }
     {

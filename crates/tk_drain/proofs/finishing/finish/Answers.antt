@@ -1,9 +1,6 @@
-use Rattle.std.proofs.Common.{◌∙◌, ap, arith, subst, List}
-use Rattle.tk_base.specs.declared.ids.Feeder.{Feeder}
-use Rattle.tk_base.specs.declared.ids.Mon.{Mon}
-use Rattle.tk_drain.specs.Passing.{Passes, raises}
+use Rattle.std.proofs.Common.{◌∙◌, ap, arith}
 use Rattle.tk_input.specs.Logs.{LogSet}
-use Rattle.tk_drain.specs.Drive.{BeginsFinishes, longest_of, pass_of}
+use Rattle.tk_drain.specs.Drive.{longest_of, pass_of}
 use Rattle.tk_drain.specs.Drive.BeginsFinishing.{InSettling}
 use Rattle.tk_drain.proofs.LegLemmas.{err_by}
 use Rattle.tk_drain.proofs.BeginLemmas.{pass_begun, settled_only}
@@ -19,18 +16,17 @@ returns-in_err-parts-clause-err g c = err_by c.from_residual-in_err-parts.result
 pub loop-pass-init : goal.loop-pass-init
 loop-pass-init g c = passed_none c.settle.new.world c.in_ok-parts.parts.items c.settle.ensures.legal (c.in_ok-parts.ensures ∙ ap (λ (l : LogSet). pass_of l) c.logs.ensures)
 
-pub returns-in_err-parts-2-clause-err : goal.returns-in_err-parts-2-clause-err
-returns-in_err-parts-2-clause-err g c =
+pub returns-in_err-raise_each-clause-err : goal.returns-in_err-raise_each-clause-err
+returns-in_err-raise_each-clause-err g c =
     let more = c.loop-pass-test.true in
-    err_by c.from_residual-in_err-parts-2.result
+    err_by c.from_residual-in_err-raise_each.result
     (pass_begun c.args.world.now c.settle.new.world c.loop-pass.world c.raise_each.new.world c.loop-pass.parts.items c.in_ok-settle.field-0.count c.loop-pass.pass c.longest_of-pass-end.result c.in_ok-settle.ensures.settles c.loop-pass.invariant
     (omega (arith, more)) (c.longest_of-pass-end.ensures ∙ ap (λ (l : LogSet). longest_of l) c.logs-2.ensures)
-    (subst (λ (ps : List (Mon × Feeder)). BeginsFinishes (raises ps) c.loop-pass.world c.raise_each.new.world) c.as_slice.ensures.value c.in_err-parts-2.ensures.err))
+    c.in_err-raise_each.ensures.err)
 
 pub loop-pass-preserved : goal.loop-pass-preserved
 loop-pass-preserved g c =
-    passed_more c.settle.new.world c.loop-pass.world c.raise_each.new.world c.loop-pass.parts.items c.in_ok-parts-2.parts.items c.loop-pass.pass c.loop-pass.invariant c.raise_each.ensures.legal
-    (subst (λ (ps : List (Mon × Feeder)). Passes (raises ps) (raises c.in_ok-parts-2.parts.items) c.loop-pass.world c.raise_each.new.world) c.as_slice.ensures.value c.in_ok-parts-2.ensures.ok)
+    passed_more c.settle.new.world c.loop-pass.world c.raise_each.new.world c.loop-pass.parts.items c.raise_each.new.parts.items c.loop-pass.pass c.loop-pass.invariant c.raise_each.ensures.legal c.in_ok-raise_each.ensures.ok
 
 pub returns-clause-finished : goal.returns-clause-finished
 returns-clause-finished g c =
