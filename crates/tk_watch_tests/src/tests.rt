@@ -36,7 +36,7 @@ const STOP: [u8; 5] = [0, 0, 0, 1, 7];
 const NO_KIND: [u8; 5] = [0, 0, 0, 1, 9];
 
 /// What a host does with a connection.
-#[derive(Clone, Copy, Debug, PartialEq, Eq)]
+#[derive(Clone, Copy)]
 enum Deed {
     /// Gives these bytes, and waits until the monitor is gone.
     Give([u8; 5]),
