@@ -73,7 +73,8 @@ def hurt(nodes, options, table):
             still = nodes.stood()
         nodes.say(f"{outcome}, {seconds} s, still {still} s")
         table.note(kind, outcome, seconds, still)
-    time.sleep(gap)
+    # Some faults came at once, so there is time left.
+    time.sleep(max(gap, nodes.begun + options.seconds - time.monotonic()))
 
 
 def judged(nodes):
