@@ -18,6 +18,11 @@ def places_of(text):
     return tuple(int(place) for place in text.split(","))
 
 
+def told(monitor, places):
+    """Whether a monitor printed that it joined somebody at these places."""
+    return any(line.startswith("joined ") and places_of(line.split()[3]) == places for _, line in monitor.lines)
+
+
 def sessions_of(lines):
     """The lines of each session, with their times; the first line tells where the coordinator listens."""
     sessions = []
@@ -43,14 +48,16 @@ class Judge:
         self.seen, self.sets, self.finals, self.sessions, self.doubts, self.causes = {}, 0, 0, 0, 0, {}
 
     def plausible(self, coordinator, when, number, places):
-        """The incarnations that a line of a monitor that joined can mean, the latest first."""
+        """The incarnations that a line of a monitor that joined can mean: first those that told it too, then the latest."""
+        ones = []
         for one in reversed(self.incarnations[number]):
             within = len(places) == len(one.streams) and all(p <= most for p, most in zip(places, one.whole()))
             alive = one.begun <= when and (one.left is None or when <= one.left + SLACK)
             greeted = one.gate is None or any(
                 coordinator.begun <= then <= when and said == (number, places, one.gate) for then, said in self.greetings)
             if within and alive and greeted:
-                yield one
+                ones.append(one)
+        return sorted(ones, key=lambda one: not told(one, places))
 
     def joined(self, coordinator, session):
         """For each monitor that joined, by number: the places, and the incarnations that it can be."""
@@ -59,7 +66,7 @@ class Judge:
             fields = line.split()
             if fields[0] == "joined":
                 number, places = int(fields[1]), places_of(fields[3])
-                ones = list(self.plausible(coordinator, when, number, places))
+                ones = self.plausible(coordinator, when, number, places)
                 if not ones or number in joined:
                     raise Wrong(f"nobody can have joined so: {line}")
                 joined[number] = (places, ones)

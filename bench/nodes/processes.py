@@ -13,13 +13,19 @@ RUN = 11
 UNWRITTEN, UNLINKED = "topk: the output cannot be written\n", "topk: a link failed\n"
 
 
+def opened(output):
+    """A file to read from, and to write to behind its end."""
+    written = os.open(output, os.O_WRONLY | os.O_CREAT | os.O_APPEND, 0o600)
+    return os.open(output, os.O_RDONLY), written
+
+
 class Process:
     """A process with the lines that it printed, each behind the time when it came."""
 
-    def __init__(self, words, room, given=None, within=()):
-        self.words, self.begun, self.left = words, time.monotonic(), None
+    def __init__(self, words, room, given=None, within=(), output=None):
+        self.words, self.begun, self.left, self.output = words, time.monotonic(), None, output
         self.errors = tempfile.TemporaryFile("w+")
-        self.out, written = os.pipe()
+        self.out, written = opened(output) if output else os.pipe()
         self.child = subprocess.Popen([*within, *words], cwd=room, stdin=given if given is not None else subprocess.DEVNULL,
                                       stdout=written, stderr=self.errors)
         os.close(written)
@@ -31,17 +37,30 @@ class Process:
     def read(self):
         """Keeps each line until the output ends, or nobody wants to read it any more."""
         poll, rest = select.poll(), b""
-        poll.register(self.out, select.POLLIN)
+        if not self.output:
+            poll.register(self.out, select.POLLIN)
         while not self.hung_up.is_set():
-            if not poll.poll(20):
+            piece = self.piece(poll)
+            if piece is None:
                 continue
-            piece = os.read(self.out, 65536)
             if not piece:
                 break
             *whole, rest = (rest + piece).split(b"\n")
             now = time.monotonic()
-            self.lines += [(now, line.decode()) for line in whole]
+            # Empty lines stand where a disk was filled.
+            self.lines += [(now, line.decode()) for line in whole if line or not self.output]
         os.close(self.out)
+
+    def piece(self, poll):
+        """What was written next, nothing at the end, None where nothing came in a moment; a file ends with its process."""
+        if not self.output:
+            return os.read(self.out, 65536) if poll.poll(20) else None
+        ended = not self.is_running()
+        piece = os.read(self.out, 65536)
+        if not piece and not ended:
+            time.sleep(0.02)
+            return None
+        return piece
 
     def hang_up(self):
         """Closes the pipe behind the output."""
@@ -82,11 +101,11 @@ class Process:
 class Coordinator(Process):
     """A coordinator."""
 
-    def __init__(self, nodes, k, epsilon):
+    def __init__(self, nodes, k, epsilon, output=None):
         self.k, self.epsilon = k, epsilon
         words = [nodes.program, "coordinate", "--monitors", str(nodes.count), "--k", str(k), "--epsilon", str(epsilon), "--objects",
                  "objects.csv", "--run", str(RUN), "--listen", nodes.address, "--silence", str(nodes.silence)]
-        super().__init__(words, nodes.room, within=nodes.within(0))
+        super().__init__(words, nodes.room, within=nodes.within(0), output=output)
 
     def session(self):
         """The lines of its last session."""
@@ -104,13 +123,14 @@ class Coordinator(Process):
 
 
 class Monitor(Process):
-    """A monitor from its start to its end, with the records of its streams."""
+    """A monitor from its start to its end, with the records of its streams, the first of them a file where there is a past."""
 
-    def __init__(self, nodes, number, gate):
+    def __init__(self, nodes, number, gate, past=(), output=None):
         self.number, self.gate = number, gate
-        pick, self.paths, given = nodes.pick, [], None
+        pick, given, opened = nodes.pick, None, []
         count = pick.randint(1, 3)
-        opened = []
+        before = [streams.of_file(nodes.names, past)] if past else []
+        self.paths = [nodes.file(number, one) for one in before]
         for stream in range(count):
             if stream == 0 and pick.random() < 0.4:
                 given, pipe = os.pipe()
@@ -122,11 +142,11 @@ class Monitor(Process):
         words = [nodes.program, "monitor", "--number", str(number), "--objects", "objects.csv", "--run", str(RUN), "--connect",
                  gate.address if gate else nodes.address, "--frames", str(pick.choice((1, 2))), "--pause", str(nodes.pause),
                  "--silence", str(nodes.silence), *self.paths]
-        super().__init__(words, nodes.room, given, nodes.within(number))
+        super().__init__(words, nodes.room, given, nodes.within(number), output)
         if given is not None:
             os.close(given)
         rate = nodes.rate / nodes.count / count
-        self.streams = [streams.Stream(nodes.names, nodes.random(), rate, one) for one in opened]
+        self.streams = before + [streams.Stream(nodes.names, nodes.random(), rate, one) for one in opened]
 
     def whole(self):
         """The places behind all records and closing records."""

@@ -5,8 +5,8 @@
 
 Each monitor has one stream through a pipe: blocks of records that come round and round, each with hot objects of its own, as fast as
 they are read. A session ends where a monitor's room is full, and the next goes on behind its counts. Each set is judged by plain sums
-over the prefixes printed beside it. A line an interval has the resident size of each process, how many records, sets and sessions
-there were. Nothing in it is a promise.
+over the prefixes printed beside it. A line an interval has the resident size of each process, how many records, sets and
+sessions there were. It fails where a size of the second half is much above those of the first. Nothing in it is a promise.
 """
 import argparse
 import collections
@@ -22,6 +22,8 @@ import time
 ROOT = pathlib.Path(__file__).resolve().parents[2]
 PROGRAM = ROOT / "crates" / "topk" / "out" / "topk"
 OBJECTS, K, EPSILON = 1000, 10, 1000
+# How much above the first half of the time the second may be.
+GROWTH = 1.1
 BLOCKS, LENGTH = 100, 10_000
 
 
@@ -67,7 +69,7 @@ class Judge:
         for line in lines:
             head = line.split(" ", 1)[0]
             self.counts["causes " + line.split()[2] if head == "ended" else head] += 1
-            if head in ("set", "final") and self.counts["set"] % 10 == 0:
+            if head in ("set", "final"):
                 self.judge(line)
 
     def judge(self, line):
@@ -90,6 +92,13 @@ def resident(process):
         if line.startswith("VmRSS:"):
             return int(line.split()[1]) / 1000
     return 0.0
+
+
+def grown(sizes):
+    """What has grown in the second half beyond the first."""
+    first, second = sizes[:len(sizes) // 2], sizes[len(sizes) // 2:]
+    pairs = [(max(before), max(behind)) for before, behind in zip(zip(*first), zip(*second))]
+    return [f"from {before} to {behind} MB" for before, behind in pairs if behind > before * GROWTH]
 
 
 def feeder(path):
@@ -119,14 +128,18 @@ def main():
         feeders = [feeder(str(room / f"{number}.csv")) for number in some]
         monitors = [subprocess.Popen([program, "monitor", "--number", str(number), "--objects", "objects.csv", "--run", "1", "--connect", address,
                                       "-"], cwd=room, stdin=one.stdout, stdout=subprocess.DEVNULL) for number, one in zip(some, feeders)]
-        begun, status = time.monotonic(), 0
+        begun, status, kept = time.monotonic(), 0, []
         while time.monotonic() - begun < options.seconds and not status:
             time.sleep(options.every)
-            sizes = " ".join(f"{resident(one):.1f}" for one in (coordinator, *monitors))
+            kept.append([resident(one) for one in (coordinator, *monitors)])
+            sizes = " ".join(f"{size:.1f}" for size in kept[-1])
             print(f"{time.monotonic() - begun:.0f} s: MB {sizes}; records {sum(judge.places):,}; {dict(sorted(judge.counts.items()))}", flush=True)
             if judge.wrong or any(one.poll() is not None for one in (coordinator, *monitors)):
                 print(judge.wrong or "a process ended")
                 status = 1
+        if grown(kept):
+            print(f"grown: {grown(kept)}")
+            status = 1
         for one in (*monitors, *feeders, coordinator):
             one.send_signal(signal.SIGKILL)
     return status

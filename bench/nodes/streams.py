@@ -23,7 +23,9 @@ class Stream:
     def __init__(self, names, pick, rate, opened):
         self.names, self.pick, self.rate, self.opened = names, pick, rate, opened
         self.objects, self.amounts = array.array("H"), array.array("h")
-        self.ending, self.dropped, self.bad = threading.Event(), threading.Event(), None
+        self.ending, self.dropped, self.still, self.bad = threading.Event(), threading.Event(), threading.Event(), None
+        # Whether a file gives it, and not a pipe.
+        self.filed = False
         self.totals, self.hot, self.due = [0] * len(names), 0, 0.0
         # The place up to which the sums below are taken, by the judge alone.
         self.place, self.sums = 0, [0] * len(names)
@@ -37,7 +39,8 @@ class Stream:
             return
         try:
             while not self.ending.is_set() and self.bad is None and not self.dropped.is_set():
-                self.give(pipe, self.piece())
+                if not self.still.is_set():
+                    self.give(pipe, self.piece())
                 self.ending.wait(TICK)
             if self.bad is not None:
                 self.give(pipe, f"{self.bad}\n".encode())
@@ -94,9 +97,26 @@ class Stream:
         self.place = place
         return self.sums
 
+    def text(self):
+        """The lines of all records."""
+        return "".join(f"{self.names[o]},{by}\n" for o, by in zip(self.objects, self.amounts))
+
     def changes(self):
         """All records and the closing one, as the plain sums of the examples take them."""
         return [(self.names[o], by) for o, by in zip(self.objects, self.amounts)] + [(self.names[0], 0)]
+
+
+def of_file(names, past):
+    """A stream of the records of some others, in a file: all of them are there from the start, and it ends behind them."""
+    stream = Stream(names, None, 0, lambda dropped: None)
+    for one in past:
+        one.thread.join()
+        stream.objects += one.objects
+        stream.amounts += one.amounts
+        stream.totals = [total + by for total, by in zip(stream.totals, one.totals)]
+    stream.filed = True
+    stream.end()
+    return stream
 
 
 def opened_fifo(path):

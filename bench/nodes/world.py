@@ -6,13 +6,16 @@ import socket
 import threading
 import time
 
+import disk
 import gates
+import judging
 import namespaces
 import processes
 
 K_AND_EPSILON = ((1, 0), (2, 0), (3, 5), (3, 20), (5, 0), (4, 100))
-# In so many seconds all have joined again and a set is printed; in so many a final set comes once all streams have ended.
-RECOVERY, FINAL = 60, 60
+# In so many seconds all have joined again and a set is printed; in so many the last set is right over all that was given, once
+# the streams are still; in so many a final set comes once all streams have ended.
+RECOVERY, STILL, FINAL = 60, 60, 60
 
 
 class Failed(Exception):
@@ -28,7 +31,7 @@ def free_port():
                 return port
             except OSError:
                 continue
-    raise SystemExit("no free port")
+    raise OSError("no free port")
 
 
 class World:
@@ -37,13 +40,13 @@ class World:
     def __init__(self, program, room, seed, options):
         self.program, self.room, self.pick, self.count = str(program), pathlib.Path(room), random.Random(seed), options.monitors
         self.network = namespaces.Network(self.count) if options.namespaces else None
-        self.host = f"{namespaces.NET}.1" if self.network else "127.0.0.1"
+        self.host = f"{self.network.net}.1" if self.network else "127.0.0.1"
         self.address = f"{self.host}:{free_port()}"
         self.rate = options.rate or int(10 * 2000 ** self.pick.random())
         self.pause, self.silence = self.pick.choice((20, 100, 500)), self.pick.choice((2, 5, 20))
         self.names = [f"o{number}" for number in range(1, 25)]
         (self.room / "objects.csv").write_text("".join(f"{name}\n" for name in self.names))
-        self.fifos, self.coordinators, self.greetings, self.first_look, self.log = 0, [], [], {}, []
+        self.pipes, self.coordinators, self.greetings, self.first_look, self.log, self.disk = 0, [], [], {}, [], None
         self.incarnations = {number: [] for number in range(1, self.count + 1)}
         self.begun, self.over = time.monotonic(), threading.Event()
         self.start_coordinator()
@@ -67,10 +70,26 @@ class World:
     def within(self, host):
         return self.network.within(host) if self.network else ()
 
+    def path(self, number):
+        """A name for what a monitor reads."""
+        self.pipes += 1
+        return f"{number}_{self.pipes}.csv"
+
     def fifo(self, number):
-        self.fifos += 1
-        os.mkfifo(self.room / f"{number}_{self.fifos}.csv")
-        return f"{number}_{self.fifos}.csv"
+        path = self.path(number)
+        os.mkfifo(self.room / path)
+        return path
+
+    def file(self, number, stream):
+        """A file with all records of a stream."""
+        path = self.path(number)
+        (self.room / path).write_text(stream.text())
+        return path
+
+    def disk_file(self):
+        """A path on a small file system, which is made the first time."""
+        self.disk = self.disk or disk.Disk(self.room / "disk")
+        return self.disk.file()
 
     @property
     def coordinator(self):
@@ -85,19 +104,19 @@ class World:
     def running(self):
         return [self.coordinator, *self.monitors()]
 
-    def start_coordinator(self):
+    def start_coordinator(self, output=None):
         k, epsilon = self.pick.choice(K_AND_EPSILON)
-        self.coordinators.append(processes.Coordinator(self, k, epsilon))
+        self.coordinators.append(processes.Coordinator(self, k, epsilon, output))
         self.say(f"coordinator {len(self.coordinators)} begins, k {k} epsilon {epsilon}")
 
     def greet(self, *greeting):
         """Notes a greeting that is carried to whoever listens now."""
         self.greetings.append((time.monotonic(), greeting))
 
-    def start_monitor(self, number):
-        """A new incarnation, behind a gate of its own where there are gates."""
+    def start_monitor(self, number, past=(), output=None):
+        """A new incarnation, behind a gate of its own where there are gates; a file gives it the records of past streams."""
         gate = None if self.network else gates.Gate(self.address, self.greet)
-        one = processes.Monitor(self, number, gate)
+        one = processes.Monitor(self, number, gate, past, output)
         self.incarnations[number].append(one)
         self.say(f"monitor {number} begins, incarnation {len(self.incarnations[number])}, {len(one.streams)} streams")
 
@@ -139,6 +158,35 @@ class World:
             if time.monotonic() > start + RECOVERY:
                 raise Failed(f"no set within {RECOVERY} s: {self.coordinator.session()[-5:]}")
             time.sleep(0.02)
+
+    def stood(self):
+        """Holds all streams still until the last set is right over all that they gave, and stays so; answers the seconds."""
+        given = [stream for one in self.monitors() for stream in one.streams]
+        for stream in given:
+            stream.still.set()
+        start = right = time.monotonic()
+        before = None
+        while before is None or time.monotonic() < right + 0.5:
+            now = (self.sets(), self.totals(given))
+            if not self.is_right(now[1]):
+                before = None
+            elif now != before:
+                before, right = now, time.monotonic()
+            if before is None and time.monotonic() > start + STILL:
+                raise Failed(f"{STILL} s behind the last record the last set is not right: {self.coordinator.session()[-5:]}, {now[1]}")
+            time.sleep(0.02)
+        for stream in given:
+            stream.still.clear()
+        return right - start
+
+    def totals(self, given):
+        return dict(zip(self.names, map(sum, zip(*(stream.totals for stream in given)))))
+
+    def is_right(self, totals):
+        """Whether the last set of this session is right over these totals."""
+        sets = [line for line in self.coordinator.session() if line.startswith(("set ", "final "))]
+        members = sets[-1].partition(" members ")[2].split() if sets else []
+        return bool(members) and judging.plain.is_right(self.names, totals, members, self.coordinator.k, self.coordinator.epsilon)
 
     def within_bounds(self, megabytes):
         """Whether each process has no more threads and descriptors than when it first was well, and little memory."""
@@ -196,5 +244,7 @@ class World:
         for ones in self.incarnations.values():
             for one in ones:
                 one.close()
+        if self.disk:
+            self.disk.close()
         if self.network:
             self.network.close()
