@@ -1,5 +1,5 @@
 -- What stands once all workers have ended and all links are back.
-use Rattle.std.proofs.Common.{◌≡◌, ◌≤◌, ◌<◌, ◌+◌, ◌-◌, ◌^◌, ◌⊎◌, ℕ, zero, suc, List, [], ◌∷◌, length, length-append, map, take, get_or, min, sum_by, Bool, true, false, Option, Some, None, IfSome, All, refl, sym, ap, subst, ◌∙◌, inl, inr, arith, add-one, append-nil}
+use Rattle.std.proofs.Common.{◌≡◌, ◌≤◌, ◌<◌, ◌+◌, ◌-◌, ◌^◌, ◌⊎◌, ℕ, zero, suc, List, [], ◌∷◌, length, length-append, map, take, get_or, min, sum_by, true, Option, Some, None, IfSome, All, refl, sym, ap, subst, ◌∙◌, inl, inr, arith, add-one, append-nil}
 use Rattle.std.specs.List.{range_with_len}
 use Rattle.std.proofs.Math.ListN.{get_or-eq_default}
 use Rattle.std.proofs.Math.Seq.{take-length, take-suc}
@@ -46,8 +46,6 @@ use Rattle.tk_journal.specs.Legal.{opened, start}
 use Rattle.tk_journal.specs.Readings.{monitors as numbers}
 use Rattle.tk_load.specs.Whole.{AreAgreed}
 use Rattle.tk_load.specs.declared.input.Input.{Input}
-use Rattle.tk_serve.specs.declared.served.Why.{Why}
-use Rattle.tk_serve.specs.declared.served.Why.TheVariants as w
 use Rattle.tk_story.specs.Ends.{AreOfOneRun, HaveNothingOdd}
 use Rattle.tk_trail.specs.declared.entry.Entry.{Entry}
 use Rattle.tk_wire.specs.Net.{NetState}

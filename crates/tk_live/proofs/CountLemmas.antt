@@ -1,6 +1,6 @@
 -- How many puts of the output failed, by how the loop, the printing and the run ended.
-use Rattle.std.proofs.Common.{◌≡◌, ◌⊎◌, ℕ, true, Option, Some, None, Result, Ok, Err, refl, sym, ap, ◌∙◌, inl, inr}
-use Rattle.std.specs.Prelude.{unwrap_or}
+use Rattle.std.proofs.Common.{◌≡◌, ◌⊎◌, ℕ, Bool, Option, None, Result, Ok, Err, refl, sym, ap, subst, ◌∙◌, inl, inr}
+use Rattle.std.specs.Prelude.{IsErrAnd, unwrap_or}
 use Rattle.tk_hub.specs.Writing.{turn_faults}
 use Rattle.tk_hub.specs.declared.course.HubTurn.{HubTurn}
 use Rattle.tk_hub.specs.declared.course.HubTurn.TheVariants as t
@@ -12,7 +12,7 @@ use Rattle.tk_story.specs.declared.ends.join_fault.JoinFault.TheVariants as f
 use Rattle.tk_live.specs.Hosting.{IsOfNet}
 use Rattle.tk_live.specs.Joined.{joined_as}
 use Rattle.tk_live.specs.Joining.{printed_as}
-use Rattle.tk_live.specs.Parting.{faults_of, of_turn}
+use Rattle.tk_live.specs.Parting.{faults_of, of_turn, round_faults}
 use Rattle.tk_load.specs.Surroundings.{faults_told}
 use Rattle.tk_live.specs.declared.parting.Parting.{Parting}
 use Rattle.tk_live.specs.declared.parting.Parting.TheVariants as p
@@ -32,6 +32,11 @@ faults_net p.Failed is faults = absurd is
 faults_net p.Refused is faults = absurd is
 faults_net p.WriteFailed is faults = absurd is
 
+-- so where it ends a round
+pub faults_parted : (parting : Parting) (result : Result Bool Parting) → IsErrAnd result (λ q. q ≡ parting) → IsOfNet parting → (faults : ℕ) → faults ≡ round_faults result faults
+faults_parted parting (Ok idle) is net faults = absurd is
+faults_parted parting (Err q) is net faults = sym (faults_net q (subst IsOfNet (sym is) net) faults)
+
 turned_as : (turn : HubTurn) (faults : ℕ) → turn_faults turn faults ≡ faults_of (unwrap_or (of_turn turn) p.Finished) faults
 turned_as t.Quiet faults = refl
 turned_as t.More faults = refl
@@ -50,19 +55,6 @@ pub same_count : (parting : Parting) (old now after : ℕ) → now ≡ faults_of
 same_count parting old now after is same = same ∙ is
 
 -- ---- the status
-
--- another status than a failed write tells of none
-pub told_spared : (status : Status) → (status ≡ st.WriteFault → ⊥) → (faults : ℕ) → faults ≡ faults_told status faults
-told_spared st.Done never faults = refl
-told_spared st.WriteFault never faults = absurd (never refl)
-told_spared st.LinkFault never faults = refl
-told_spared (st.LinkDiffers difference) never faults = refl
-told_spared st.NoMemory never faults = refl
-told_spared st.Usage never faults = refl
-told_spared (st.ReadFault file) never faults = refl
-told_spared (st.BadInput file line kind) never faults = refl
-told_spared (st.TooGreat mon obj) never faults = refl
-told_spared (st.BadTrace file fault) never faults = refl
 
 -- a failed link, or want of memory
 pub link_spared : (status : Status) → (status ≡ st.LinkFault) ⊎ (status ≡ st.NoMemory) → (faults : ℕ) → faults ≡ faults_told status faults

@@ -1,6 +1,6 @@
 -- The caller's loop over its hub, turn by turn.
-use Rattle.std.proofs.Common.{◌≡◌, ◌≤◌, ◌⊎◌, ℕ, List, [], length, true, false, Bool, Option, Some, None, Result, Ok, Err, refl, sym, ap, subst, ◌∙◌, inl, inr, arith}
-use Rattle.std.specs.Prelude.{unwrap_or, if◌then◌else◌}
+use Rattle.std.proofs.Common.{◌≡◌, ◌≤◌, ℕ, List, [], length, true, false, Bool, Option, Some, None, Result, Ok, Err, refl, sym, ap, subst, ◌∙◌, arith}
+use Rattle.std.specs.Prelude.{IsErrAnd, unwrap_or, if◌then◌else◌}
 use Rattle.std.proofs.lemmas.Bool.{false≢true}
 use Rattle.std.specs.List.{concat}
 use Rattle.tk_base.specs.History.{IsFront}
@@ -19,11 +19,11 @@ use Rattle.tk_hub.specs.declared.course.HubTurn.{HubTurn}
 use Rattle.tk_hub.specs.declared.course.HubTurn.TheVariants as t
 use Rattle.tk_hub.proofs.LinesLemmas.{lines_add, lines_within, text_all, text_none, text_stays}
 use Rattle.tk_wire.specs.Meanings.{Counts}
-use Rattle.tk_wire.specs.Net.{NetState, called, listened}
+use Rattle.tk_wire.specs.Net.{NetState, listened}
 use Rattle.tk_wire.specs.declared.net.NetFault.{NetFault}
 use Rattle.tk_wire.specs.declared.net.NetFault.TheVariants as fault
-use Rattle.tk_live.specs.Hosting.{Closes, HasGone, Hosts, IsOfNet, IsRefusedCourse, TellsParting, Writes, all_told}
-use Rattle.tk_live.specs.Parting.{halts_of, is_done_of, left_on, of_fault, of_turn}
+use Rattle.tk_live.specs.Hosting.{Closes, GoesRound, HasGone, Hosts, IsGoing, IsOfNet, IsRefusedCourse, TellsParting, Writes, all_told}
+use Rattle.tk_live.specs.Parting.{halts_of, is_done_of, left_on, of_turn}
 use Rattle.tk_live.specs.declared.parting.Parting.{Parting}
 use Rattle.tk_live.specs.declared.parting.Parting.TheVariants as p
 use Rattle.tk_live.proofs.LineLemmas.{cut_front, no_lines, written_front}
@@ -37,30 +37,12 @@ gone_none net = record { listens = λ l. l; taken = refl }
 pub gone_on : (a b c : NetState) → HasGone a b → HasGone b c → HasGone a c
 gone_on a b c first second = record { listens = λ l. second.listens (first.listens l); taken = second.taken ∙ first.taken }
 
-pub gone_called : {A : Type 0} (result : Result A NetFault) (a b : NetState) → b ≡ called result a → HasGone a b
-gone_called result a b is = record { listens = λ l. ap (λ n. n.listens) is ∙ l; taken = ap (λ n. n.taken) is }
-
 pub gone_listened : {A : Type 0} (result : Result A NetFault) (a b : NetState) → b ≡ listened result a → HasGone a b
 gone_listened (Ok x) a b is = record { listens = λ l. ap (λ n. n.listens) is; taken = ap (λ n. n.taken) is }
 gone_listened (Err fault.Failed) a b is = record { listens = λ l. ap (λ n. n.listens) is ∙ l; taken = ap (λ n. n.taken) is }
 gone_listened (Err fault.NoMemory) a b is = record { listens = λ l. ap (λ n. n.listens) is ∙ l; taken = ap (λ n. n.taken) is }
 
-pub of_net : (fault : NetFault) → IsOfNet (of_fault fault)
-of_net fault.Failed = tt
-of_net fault.NoMemory = tt
-
 -- ---- the loop
-
--- the hub goes on: all its lines are written, and it is not finished
-pub record IsGoing {W : Type 0} (names : List (List ℕ)) (old hub : HubView W) (net net' : NetState) (before now : Option (List ℕ)) : Type 0 where
-  pub course : hub.course ≡ cs.Open
-  pub kept : IsHub hub
-  pub settings : hub.coordinator.settings ≡ old.coordinator.settings
-  pub grows : IsFront old.coordinator.journal hub.coordinator.journal
-  pub unfinished : IsFinished hub → ⊥
-  pub gone : HasGone net net'
-  pub written : Grows before now (text_written names hub.coordinator.journal hub.lines)
-  pub all : text_written names hub.coordinator.journal hub.lines ≡ all_told names hub
 
 -- nothing is written of a journal that publishes nothing
 text_zero : {W : Type 0} (names : List (List ℕ)) (hub : HubView W) → publications hub.coordinator.journal ≡ [] → text_written names hub.coordinator.journal hub.lines ≡ []
@@ -122,6 +104,13 @@ hosts_between p.Alarmed names old hub net net1 net2 before now g gone is = absur
 hosts_between p.Failed names old hub net net1 net2 before now g gone is = absurd is
 hosts_between p.Refused names old hub net net1 net2 before now g gone is = absurd is
 hosts_between p.WriteFailed names old hub net net1 net2 before now g gone is = absurd is
+
+-- a round that a call ended so
+pub goes_parted : {W : Type 0} (parting : Parting) (result : Result Bool Parting) (names : List (List ℕ)) (hub hub' : HubView W) (net net' : NetState) (now next : Option (List ℕ)) → IsErrAnd result (λ q. q ≡ parting)
+    → GoesRound (Err parting) names hub hub' net net' now next → GoesRound result names hub hub' net net' now next
+goes_parted parting (Ok idle) names hub hub' net net' now next is goes = absurd is
+goes_parted parting (Err q) names hub hub' net net' now next is goes = λ old first before going.
+    subst (λ x. Hosts x names old hub' first net' before next) (sym is) (goes old first before going)
 
 -- an open hub is not on another course
 pub is_not : (course other : Course) → (cs.Open ≡ other → ⊥) → course ≡ cs.Open → course ≡ other → ⊥

@@ -1,5 +1,5 @@
 -- An input that the files tell is run live.
-use Rattle.std.proofs.Common.{◌≡◌, ◌∙◌, ℕ, true, false, List, Some, Option, Result, Err, is_ok, refl, sym, subst}
+use Rattle.std.proofs.Common.{◌≡◌, ℕ, true, false, List, Some, Option, Result, Err, is_ok, refl, sym, subst}
 use Rattle.tk_words.specs.Words.{LiveWords, words_of}
 use Rattle.tk_load.specs.Faults.{Fault}
 use Rattle.tk_load.specs.Input.{input_of}

@@ -1,6 +1,5 @@
 mod CarriedLemmas
 mod CauseLemmas
-mod ChoiceLemmas
 mod CompleteLemmas
 mod CountLemmas
 mod HostLemmas
@@ -9,3 +8,4 @@ mod LineLemmas
 mod ServingLemmas
 mod StageLemmas
 mod TellLemmas
+mod ToldLemmas

@@ -1,20 +1,23 @@
 -- How the words of a live run end, from what reading them and their files gave.
-use Rattle.std.proofs.Common.{◌≡◌, ◌∙◌, ℕ, List, Option, Some, None, Err, Ok, refl, sym, ap, subst}
-use Rattle.tk_words.specs.Asked.{asked_by}
-use Rattle.tk_words.specs.Words.{Asked, LiveWords, words_of}
-use Rattle.tk_words.specs.declared.command.Command.{Command}
+use Rattle.std.proofs.Common.{◌≡◌, ℕ, List, Option, Some, None, Err, Ok, refl, sym, subst, inl, inr}
+use Rattle.tk_words.specs.Words.{LiveWords, words_of}
 use Rattle.tk_load.specs.Reads.{FileReads, Loads}
 use Rattle.tk_load.specs.declared.input.Input.{Input}
 use Rattle.tk_load.specs.declared.status.Status.{Status}
 use Rattle.tk_live.specs.Lived.{Concludes}
-use Rattle.tk_live.specs.Serving.{EndsWords, served}
-use Rattle.tk_live.specs.Serving.EndsWords.{Ran, Unread}
+use Rattle.tk_live.specs.Serving.{EndsWords, GivesNone, served}
+use Rattle.tk_live.specs.Serving.EndsWords.{Ran, Refused, Unmet, Unread}
 use Rattle.tk_live.specs.Traffic.{LiveSurroundings, traffic_of}
 use Rattle.tk_live.specs.declared.outcome.Outcome.{Outcome}
 
--- what is served of words that were read as a command
-pub here : (asked : Option Asked) (read command : Command) → asked ≡ Some (asked_by read) → read ≡ command → served asked ≡ served (Some (asked_by command))
-here asked read command found is = ap served found ∙ ap (λ (c : Command). served (Some (asked_by c))) is
+-- words that give none
+pub none : {words : List (List ℕ)} {reads : FileReads} {before : Option (List ℕ)} {taken : ℕ} (status : Status) (outcome : Outcome) → GivesNone words status
+    → outcome ≡ record { status = status; story = None; ends = None } → EndsWords words (record { reads = reads; traffic = traffic_of before before taken taken }) outcome
+none {words} {reads} {before} {taken} status outcome gives made =
+    subst (EndsWords words (record { reads = reads; traffic = traffic_of before before taken taken })) (sym made) (elim gives [
+      | inl memory ↦ Unmet memory (record { story = refl; ends = refl; unwritten = refl; untaken = refl })
+      | inr usage ↦ Refused usage.0 usage.1 (record { story = refl; ends = refl; unwritten = refl; untaken = refl })
+    ])
 
 -- an input that has run
 pub ran : {words : List (List ℕ)} {met : LiveSurroundings} (asked : LiveWords) (input : Input) (outcome : Outcome)

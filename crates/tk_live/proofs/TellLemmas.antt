@@ -118,24 +118,25 @@ fault_of x a b first second (inr is) = subst IsFault (sym is) second
 fault_never : (status : Status) → IsFault status → status ≡ st.Done → ⊥
 fault_never status fault is = subst IsFault is fault
 
-fault_tells : (status : Status) (ends : Ends) → HaveNothingOdd (kept_by ends.coordinator ends.monitors.items) → IsFault status → TellsEnds status (Some ends)
-fault_tells st.Done ends nothing fault = absurd fault
-fault_tells (st.LinkDiffers difference) ends nothing fault = absurd fault
-fault_tells st.WriteFault ends nothing fault = tt
-fault_tells st.LinkFault ends nothing fault = nothing
-fault_tells st.NoMemory ends nothing fault = tt
-fault_tells st.Usage ends nothing fault = absurd fault
-fault_tells (st.ReadFault file) ends nothing fault = absurd fault
-fault_tells (st.BadInput file line kind) ends nothing fault = absurd fault
-fault_tells (st.TooGreat mon obj) ends nothing fault = absurd fault
-fault_tells (st.BadTrace file fault) ends nothing wrong = absurd wrong
+fault_tells : (status : Status) (ends : Ends) → (status ≡ st.LinkFault → HaveNothingOdd (kept_by ends.coordinator ends.monitors.items)) → IsFault status → TellsEnds status (Some ends)
+fault_tells st.Done ends linked fault = absurd fault
+fault_tells (st.LinkDiffers difference) ends linked fault = absurd fault
+fault_tells st.WriteFault ends linked fault = tt
+fault_tells st.LinkFault ends linked fault = linked refl
+fault_tells st.NoMemory ends linked fault = tt
+fault_tells st.Usage ends linked fault = absurd fault
+fault_tells (st.ReadFault file) ends linked fault = absurd fault
+fault_tells (st.BadInput file line kind) ends linked fault = absurd fault
+fault_tells (st.TooGreat mon obj) ends linked fault = absurd fault
+fault_tells (st.BadTrace file fault) ends linked wrong = absurd wrong
 
--- the ends were kept beside a fault, and nothing is odd
-pub concludes_fault : (input : Input) (version : ℕ) (was now : Option (List ℕ)) (taken taken' : ℕ) (status : Status) (ends : Ends) (lived : Outcome) → IsFault status → HaveNothingOdd (kept_by ends.coordinator ends.monitors.items) → AreOfInput input ends
+-- the ends were kept beside a fault, and nothing is odd where a link is told to have failed
+pub concludes_fault : (input : Input) (version : ℕ) (was now : Option (List ℕ)) (taken taken' : ℕ) (status : Status) (ends : Ends) (lived : Outcome) → IsFault status
+    → (status ≡ st.LinkFault → HaveNothingOdd (kept_by ends.coordinator ends.monitors.items)) → AreOfInput input ends
     → GrowsByFront was now (concat (lines_of input.names ends.coordinator.coordinator.journal)) → lived ≡ record { status = status; story = None; ends = Some ends }
     → Concludes input version (traffic_of was now taken taken') lived
-concludes_fault input version was now taken taken' status ends lived fault nothing are grown is =
-    subst (λ l. Concludes input version (traffic_of was now taken taken') l) (sym is) (concludes_kept input version was now taken taken' status ends are grown (fault_never status fault) (fault_tells status ends nothing fault))
+concludes_fault input version was now taken taken' status ends lived fault linked are grown is =
+    subst (λ l. Concludes input version (traffic_of was now taken taken') l) (sym is) (concludes_kept input version was now taken taken' status ends are grown (fault_never status fault) (fault_tells status ends linked fault))
 
 -- the ends did not agree, or there was no memory to see it
 pub concludes_joined : (input : Input) (version : ℕ) (was now : Option (List ℕ)) (taken taken' : ℕ) (fault : JoinFault) (ends : Ends) (lived : Outcome) → AreOfInput input ends

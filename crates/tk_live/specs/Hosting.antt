@@ -1,8 +1,9 @@
 -- What the caller's loop over its hub does with the net, the sink and the hub. No public clause cites it.
-use Rattle.std.specs.Prelude.{ℕ, ◌≡◌, ◌≤◌, List, [], length, true, false, Option, ⊤}
+use Rattle.std.specs.Prelude.{ℕ, ◌≡◌, ◌≤◌, List, [], length, Bool, true, false, Option, Result, Ok, Err, ⊤}
 use Rattle.std.specs.List.{concat}
 use Rattle.tk_base.specs.History.{IsFront}
 use Rattle.tk_hub.specs.Hub.{HubView, IsFinished, IsHub}
+use Rattle.tk_hub.specs.Lines.{text_written}
 use Rattle.tk_journal.specs.Publishing.{publications}
 use Rattle.tk_journal.specs.Readings.{is_stopped}
 use Rattle.tk_ledger.specs.Text.{lines_of}
@@ -52,11 +53,15 @@ TellsParting p.WriteFailed hub = hub.course ≡ cs.WriteFailed
 TellsParting p.NetFailed hub = ⊤
 TellsParting p.NoMemory hub = ⊤
 
--- an open hub that has published nothing, beside a net that listens, with names for its objects
-pub record CanHost {W : Type 0} (hub : HubView W) (net : NetState) (names : List (List ℕ)) : Type 0 where
+-- an open hub beside a net that listens, with names for its objects
+pub record CanGoOn {W : Type 0} (hub : HubView W) (net : NetState) (names : List (List ℕ)) : Type 0 where
   pub going : hub.course ≡ cs.Open
   pub listens : net.listens ≡ true
   pub named : hub.coordinator.settings.objects ≤ length names
+
+-- the same of a hub that has published nothing
+pub record CanHost {W : Type 0} (hub : HubView W) (net : NetState) (names : List (List ℕ)) : Type 0 where
+  pub can : CanGoOn hub net names
   pub unwritten : publications hub.coordinator.journal ≡ []
   pub unstopped : is_stopped hub.coordinator.journal ≡ false
 
@@ -69,6 +74,24 @@ pub record Hosts {W : Type 0} (parting : Parting) (names : List (List ℕ)) (old
   pub writes : Writes parting names new before after
   pub tells : TellsParting parting new
   pub unrefused : (parting ≡ p.Refused → ⊥) → IsRefusedCourse new.course → ⊥
+
+-- the hub goes on: all its lines are written, and it is not finished
+pub record IsGoing {W : Type 0} (names : List (List ℕ)) (old hub : HubView W) (net net' : NetState) (before now : Option (List ℕ)) : Type 0 where
+  pub course : hub.course ≡ cs.Open
+  pub kept : IsHub hub
+  pub settings : hub.coordinator.settings ≡ old.coordinator.settings
+  pub grows : IsFront old.coordinator.journal hub.coordinator.journal
+  pub unfinished : IsFinished hub → ⊥
+  pub gone : HasGone net net'
+  pub written : Grows before now (text_written names hub.coordinator.journal hub.lines)
+  pub all : text_written names hub.coordinator.journal hub.lines ≡ all_told names hub
+
+-- how a round leaves the loop, whatever it began with: it goes on, or it has ended
+abbrev pub GoesRound : {W : Type 0} → Result Bool Parting → List (List ℕ) → HubView W → HubView W → NetState → NetState → Option (List ℕ) → Option (List ℕ) → Type 0
+GoesRound {W} (Ok idle) names hub hub' net net' now next =
+    (old : HubView W) (first : NetState) (before : Option (List ℕ)) → IsGoing names old hub first net before now → IsGoing names old hub' first net' before next
+GoesRound {W} (Err parting) names hub hub' net net' now next =
+    (old : HubView W) (first : NetState) (before : Option (List ℕ)) → IsGoing names old hub first net before now → Hosts parting names old hub' first net' before next
 
 -- what ends the loop between two turns: the net failed, or there was no memory
 abbrev pub IsOfNet : Parting → Type 0

@@ -18,12 +18,12 @@ use Rattle.tk_live.specs.declared.outcome.Outcome.{Outcome}
 -- a hub has something odd only where it refused it, and a worker only where the gravest cause is that or want of memory
 pub record TellsOdd (left : Left) : Type 0 where
   pub hub : (left.parting ≡ p.Refused → ⊥) → left.ends.coordinator.odd ≡ None
-  pub workers : IsCalm left.cause → All (λ end. end.odd ≡ None) left.ends.monitors.items
+  pub workers : IsCalm left.why → All (λ end. end.odd ≡ None) left.ends.monitors.items
 
 -- where the hub was finished and every worker stopped, the story of the ends is one that is over
 abbrev pub IsCompleteLeft : Input → ℕ → List (List ℕ) → Left → Traffic → Type 0
 IsCompleteLeft input version from left traffic =
-    left.parting ≡ p.Finished → left.cause ≡ w.Stopped
+    left.parting ≡ p.Finished → left.why ≡ w.Stopped
     → IsComplete input.names version (joined (kept_by left.ends.coordinator left.ends.monitors.items) input.logs from) traffic
 
 -- a run concludes with what is left: whatever was written and taken up to here, if its ends are complete by that

@@ -1,10 +1,12 @@
 -- Why the caller's loop over its hub ended. No public clause cites it.
-use Rattle.std.specs.Prelude.{ℕ, Bool, true, false, if◌then◌else◌, Option, Some, None}
+use Rattle.std.specs.Prelude.{ℕ, Bool, true, false, if◌then◌else◌, Option, Some, None, Result, Ok, Err}
 use Rattle.tk_hub.specs.Turn.{halted_of}
 use Rattle.tk_hub.specs.declared.course.Course.{Course}
 use Rattle.tk_hub.specs.declared.course.HubTurn.{HubTurn}
 use Rattle.tk_hub.specs.declared.course.HubTurn.TheVariants as t
 use Rattle.tk_input.specs.Files.{one_more}
+use Rattle.tk_serve.specs.declared.served.Why.{Why}
+use Rattle.tk_serve.specs.declared.served.Why.TheVariants as w
 use Rattle.tk_wire.specs.declared.net.NetFault.{NetFault}
 use Rattle.tk_wire.specs.declared.net.NetFault.TheVariants as fault
 use Rattle.tk_live.specs.declared.parting.Parting.{Parting}
@@ -25,6 +27,16 @@ of_turn t.NoMemory = Some p.NoMemory
 abbrev pub of_fault : NetFault → Parting
 of_fault fault.Failed = p.NetFailed
 of_fault fault.NoMemory = p.NoMemory
+
+-- the cause that it is for the run, beside those of the workers: none where a line was not written
+abbrev pub hub_why : Parting → Option Why
+hub_why p.Finished = Some w.Stopped
+hub_why p.Alarmed = Some w.Failed
+hub_why p.Failed = Some w.Failed
+hub_why p.Refused = Some w.Odd
+hub_why p.WriteFailed = None
+hub_why p.NetFailed = Some w.Failed
+hub_why p.NoMemory = Some w.NoMemory
 
 -- whether the run is done then
 abbrev pub is_done_of : Parting → Bool
@@ -59,3 +71,8 @@ faults_of p.Refused faults = faults
 faults_of p.WriteFailed faults = one_more faults
 faults_of p.NetFailed faults = faults
 faults_of p.NoMemory faults = faults
+
+-- the same after a round of the loop, which goes on only where none failed
+abbrev pub round_faults : Result Bool Parting → ℕ → ℕ
+round_faults (Ok idle) faults = faults
+round_faults (Err parting) faults = faults_of parting faults

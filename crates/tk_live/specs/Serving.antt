@@ -1,9 +1,10 @@
 -- How the words of a live run end.
-use Rattle.std.specs.Prelude.{ℕ, ◌≡◌, List, Option, Some, None, Ok, Err}
+use Rattle.std.specs.Prelude.{ℕ, ◌≡◌, ◌⊎◌, List, Option, Some, None, Ok, Err}
 use Rattle.tk_words.specs.Words.{Asked, LiveWords, words_of}
 use Rattle.tk_words.specs.Words.Asked.{Checks, Coordinates, Generates, Helps, Lives, Monitors, Queries, Replays, Restarts, Shows, Traces, Versions}
 use Rattle.tk_load.specs.Reads.{Loads}
 use Rattle.tk_load.specs.declared.input.Input.{Input}
+use Rattle.tk_load.specs.declared.status.Status.{Status}
 use Rattle.tk_load.specs.declared.status.Status.TheVariants as s
 use Rattle.tk_load.specs.Surroundings.{IsUnwritten}
 use Rattle.tk_live.specs.Lived.{Concludes}
@@ -25,6 +26,10 @@ served (Some (Coordinates words)) = None
 served (Some (Monitors words)) = None
 served (Some (Helps command)) = None
 served (Some Versions) = None
+
+-- words give no live run: there was no memory for them, or they are of none
+abbrev pub GivesNone : List (List ℕ) → Status → Type 0
+GivesNone words status = (status ≡ s.NoMemory) ⊎ ((served (words_of words) ≡ None) × (status ≡ s.Usage))
 
 -- no worker was started: nothing was written, and no byte was taken from a link
 pub record IsUnstarted (traffic : Traffic) (outcome : Outcome) : Type 0 where

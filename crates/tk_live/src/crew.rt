@@ -2,7 +2,7 @@
 
 ghost use Rattle.std.specs.Prelude.{◌≡◌, ◌≤◌, [], length, map, vec_capacity};
 ghost use Rattle.tk_live.specs.Crew.{made_in};
-ghost use Rattle.tk_live.specs.Slots.{slot_made};
+ghost use Rattle.tk_live.specs.Slots.{berth_made, slot_made, worked_made};
 
 use crate::signals::Signals;
 use crate::worked::{Berth, Worked};
@@ -40,18 +40,14 @@ fn work<
     B: Bell + Send + Sync + Drop,
     G: Gate + Sync,
 >(rt: &R, berth: Berth<W, Q, B>, gate: &G, signals: &Signals) -> Worked<W, Q>
-    ensures { made_in result.served.end.monitor result.version ≡ made_in berth.port.monitor berth.version }
+    ensures { worked_made result ≡ berth_made berth }
 {
-    let Berth {
-        port,
-        version,
-        rest,
-        bell,
-    } = berth;
+    let version = berth.version;
+    let alarm = &signals.alarm;
     let served = if signals.idle.raised() {
-        retire(port, rest)
+        retire(berth.port, berth.rest)
     } else {
-        serve(rt, port, rest, &bell, gate, &signals.alarm)
+        serve(rt, berth.port, berth.rest, &berth.bell, gate, alarm)
     };
     Worked { served, version }
 }
@@ -72,7 +68,7 @@ fn start_one<
     gate: &'a G,
     signals: &'a Signals,
 ) -> Slot<W, Q>
-    ensures { slot_made result ≡ made_in berth.port.monitor berth.version }
+    ensures { slot_made result ≡ berth_made berth }
 {
     let promise = EndOf {
         made: Snapshot::of(berth.port.monitor()),
@@ -81,8 +77,7 @@ fn start_one<
     match scope.spawn_with(promise, move || work(rt, berth, gate, signals)) {
         Ok(handle) => Slot::There(handle),
         Err(refused) => {
-            signals.idle.raise();
-            signals.alarm.raise();
+            signals.call_off();
             Slot::Here((refused.value)())
         }
     }
@@ -107,7 +102,7 @@ pub fn start<
 ) -> Vec<Slot<W, Q>>
     requires room { length berths.items ≤ vec_capacity room }
     requires empty { room.items ≡ [] }
-    ensures made { map slot_made result.items ≡ map (λ b. made_in b.port.monitor b.version) berths.items }
+    ensures made { map slot_made result.items ≡ map berth_made berths.items }
     ensures count { length result.items ≡ length berths.items }
 {
     let mut slots = room;
@@ -119,7 +114,7 @@ pub fn start<
 
 /// Waits for a worker.
 fn join_one<R: Threads, W: Wire + Drop, Q: Rest + Drop>(rt: &R, slot: Slot<W, Q>) -> Worked<W, Q>
-    ensures { made_in result.served.end.monitor result.version ≡ slot_made slot }
+    ensures { worked_made result ≡ slot_made slot }
 {
     match slot {
         Slot::There(handle) => handle.join(rt),
@@ -135,7 +130,7 @@ pub fn join_all<R: Threads, W: Wire + Drop, Q: Rest + Drop>(
 ) -> Vec<Worked<W, Q>>
     requires room { length slots.items ≤ vec_capacity room }
     requires empty { room.items ≡ [] }
-    ensures { map (λ w. made_in w.served.end.monitor w.version) result.items ≡ map slot_made slots.items }
+    ensures { map worked_made result.items ≡ map slot_made slots.items }
 {
     let mut all = room;
     for slot in slots {

@@ -1,52 +1,43 @@
-//! Which end a live run comes to, by what the hub, its workers and their ends show.
+//! What a live run comes to where its ends are not joined, by what the hub, its workers and their ends show.
 
 ghost use Rattle.std.specs.Prelude.{◌≡◌, true, map};
 ghost use Rattle.tk_live.specs.Odd.{IsSomeOdd};
-ghost use Rattle.tk_live.specs.Ending.{choice_of, by_cause as by_cause_of, where_odd as where_odd_of};
+ghost use Rattle.tk_live.specs.Ending.{cause_told, odd_told, unjoined as unjoined_by};
 
+use crate::faults::of_link;
 use crate::parting::Parting;
+use crate::returning::graver;
+use tk_load::Status;
 use tk_serve::Why;
 use tk_story::{CoordEnd, MonEnd};
 
-/// What stands once all workers have ended.
-#[derive(Clone, Copy, Debug, PartialEq, Eq)]
-pub enum Choice {
-    WriteFault,
-    LinkFault,
-    NoMemory,
-    /// The ends are joined.
-    Join,
-}
-
-fn where_odd(odd: bool) -> Choice
-    ensures { result ≡ where_odd_of odd }
+/// What is told of something that was not taken, unless an end tells it: that is told where the ends are joined.
+fn where_odd(odd: bool) -> Option<Status>
+    ensures { result ≡ odd_told odd }
 {
-    if odd { Choice::Join } else { Choice::NoMemory }
+    if odd { None } else { Some(Status::NoMemory) }
 }
 
-fn by_cause(cause: Why, odd: bool, rest: Choice) -> Choice
-    ensures { result ≡ by_cause_of cause odd rest }
+/// What is told of a cause: nothing yet after Stop, where the ends are joined.
+fn of_cause(cause: Why, odd: bool, risen: bool) -> Option<Status>
+    ensures { result ≡ cause_told cause odd risen }
 {
     match cause {
+        Why::Stopped => None,
         Why::Odd => where_odd(odd),
-        Why::NoMemory => Choice::NoMemory,
-        Why::Failed => Choice::LinkFault,
-        Why::Stopped => rest,
+        Why::NoMemory => Some(Status::NoMemory),
+        Why::Failed => Some(of_link(risen)),
     }
 }
 
-/// The first that is there: of the hub, of the workers by monitor, of a link or the net, and else the ends.
-pub fn choose(parting: Parting, cause: Why, odd: bool) -> Choice
-    ensures { result ≡ choice_of parting cause odd }
+/// What is told before the ends are joined: that a line was not written, or else the graver of why the hub and why the
+/// workers ended, by whether an end has what it did not take and whether the net's faults rose.
+pub fn unjoined(parting: Parting, cause: Why, odd: bool, risen: bool) -> Option<Status>
+    ensures { result ≡ unjoined_by parting cause odd risen }
 {
-    match parting {
-        Parting::WriteFailed => Choice::WriteFault,
-        Parting::Refused => where_odd(odd),
-        Parting::NoMemory => Choice::NoMemory,
-        Parting::Finished => by_cause(cause, odd, Choice::Join),
-        Parting::Alarmed => by_cause(cause, odd, Choice::LinkFault),
-        Parting::Failed => by_cause(cause, odd, Choice::LinkFault),
-        Parting::NetFailed => by_cause(cause, odd, Choice::LinkFault),
+    match parting.why() {
+        Some(why) => of_cause(graver(why, cause), odd, risen),
+        None => Some(Status::WriteFault),
     }
 }
 

@@ -1,28 +1,26 @@
 //! What is told of a failed link or net, and of ends that do not agree.
 
-ghost use Rattle.std.specs.Prelude.{◌≡◌, ◌⊎◌, true};
+ghost use Rattle.std.specs.Prelude.{◌≡◌, true};
 ghost use Rattle.tk_input.specs.Files.{HasRisen};
+ghost use Rattle.tk_live.specs.Ending.{link_told, net_told};
 ghost use Rattle.tk_live.specs.Joined.{joined_as};
-ghost use Rattle.tk_load.specs.declared.status.Status.TheVariants.{LinkFault as Unlinked};
-ghost use Rattle.tk_load.specs.declared.status.Status.TheVariants.{NoMemory as OutOfMemory};
 
 use tk_load::Status;
 use tk_story::JoinFault;
 use tk_wire::NetFault;
 
 /// Whether a count of faults rose. One that stands at the greatest u64 counts as risen.
-fn has_risen(old: u64, new: u64) -> bool
+pub fn has_risen(old: u64, new: u64) -> bool
     ensures { result ≡ true → HasRisen old new }
 {
     old == u64::MAX || old < new
 }
 
 /// A link or the net failed, as its count of faults shows.
-pub fn of_link(old: u64, new: u64) -> Status
-    ensures is { (result ≡ Unlinked) ⊎ (result ≡ OutOfMemory) }
-    ensures risen { result ≡ Unlinked → HasRisen old new }
+pub fn of_link(risen: bool) -> Status
+    ensures { result ≡ link_told risen }
 {
-    if has_risen(old, new) {
+    if risen {
         Status::LinkFault
     } else {
         Status::NoMemory
@@ -30,12 +28,11 @@ pub fn of_link(old: u64, new: u64) -> Status
 }
 
 /// No worker was started: the net failed so, as its count of faults shows, or there was no memory.
-pub fn of_net(fault: NetFault, old: u64, new: u64) -> Status
-    ensures is { (result ≡ Unlinked) ⊎ (result ≡ OutOfMemory) }
-    ensures risen { result ≡ Unlinked → HasRisen old new }
+pub fn of_net(fault: NetFault, risen: bool) -> Status
+    ensures { result ≡ net_told fault risen }
 {
     match fault {
-        NetFault::Failed => of_link(old, new),
+        NetFault::Failed => of_link(risen),
         NetFault::NoMemory => Status::NoMemory,
     }
 }

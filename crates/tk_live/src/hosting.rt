@@ -1,12 +1,12 @@
 //! The hub's part in a live run: it waits on the net, admits connections and takes turns until the run ends.
 
-ghost use Rattle.std.specs.Prelude.{◌≡◌, true, IfErr, IfSome};
+ghost use Rattle.std.specs.Prelude.{◌≡◌, true, IfErr};
 ghost use Rattle.tk_hub.specs.Hub.{IsHub};
 ghost use Rattle.tk_hub.specs.declared.course.Course.TheVariants.{Open};
 ghost use Rattle.tk_live.specs.declared.parting.Parting.TheVariants.{Finished as Done};
 ghost use Rattle.tk_live.specs.Hosted.{HostsFrom};
-ghost use Rattle.tk_live.specs.Hosting.{CanHost, Closes, HasGone, Hosts, IsOfNet};
-ghost use Rattle.tk_live.specs.Parting.{faults_of, left_on};
+ghost use Rattle.tk_live.specs.Hosting.{CanGoOn, CanHost, Closes, GoesRound, HasGone, Hosts, IsOfNet};
+ghost use Rattle.tk_live.specs.Parting.{faults_of, left_on, round_faults};
 
 use crate::parting::Parting;
 use std::sync::Wait;
@@ -19,18 +19,29 @@ use tk_wire::{Net, Wire};
 const KNOCKS: u32 = 64;
 
 /// Waits until something may have come, where nothing is left to do.
-fn pause<N: Net>(net: &mut N, is_idle: bool) -> Option<Parting>
+fn pause<N: Net>(net: &mut N, is_idle: bool) -> Result<(), Parting>
     requires listens { (N.state net.old).listens ≡ true }
     ensures net { HasGone (N.state net.old) (N.state net.new) }
-    ensures fault { IfSome result IsOfNet }
+    ensures fault { IfErr result IsOfNet }
 {
-    if !is_idle {
-        return None;
-    }
-    match net.wait() {
-        Ok(()) => None,
-        Err(fault) => Some(Parting::by(fault)),
-    }
+    if is_idle { Ok(net.wait()?) } else { Ok(()) }
+}
+
+/// Accepts a connection, where one waits, and hands it to the hub. Says whether one did.
+fn admit_one<N: Net>(hub: &mut Hub<N::Link>, net: &mut N) -> Result<bool, Parting>
+    requires going { hub.old.course ≡ Open }
+    requires kept { IsHub hub.old }
+    requires listens { (N.state net.old).listens ≡ true }
+    ensures rest { hub.new ≡ record hub.old { held = hub.new.held } }
+    ensures kept { IsHub hub.new }
+    ensures net { HasGone (N.state net.old) (N.state net.new) }
+    ensures fault { IfErr result IsOfNet }
+{
+    let Some(link) = net.accept()? else {
+        return Ok(false);
+    };
+    hub.admit(link)?;
+    Ok(true)
 }
 
 /// Accepts connections that wait, and hands them to the hub. Says whether there may be more.
@@ -45,14 +56,8 @@ fn admit<N: Net>(hub: &mut Hub<N::Link>, net: &mut N) -> Result<bool, Parting>
     // The hub is read for its clause, that it is one.
     let _ = hub.coordinator();
     for _ in 0..KNOCKS {
-        match net.accept() {
-            Ok(Some(link)) => {
-                if hub.admit(link).is_err() {
-                    return Err(Parting::NoMemory);
-                }
-            }
-            Ok(None) => return Ok(false),
-            Err(fault) => return Err(Parting::by(fault)),
+        if !admit_one(hub, net)? {
+            return Ok(false);
         }
     }
     Ok(true)
@@ -67,7 +72,34 @@ fn is_idle(more: bool, turn: HubTurn) -> bool {
     }
 }
 
-/// Waits, admits and turns the hub, until it is done, something failed or the alarm is raised.
+/// One round: unless the alarm is raised it waits where nothing is left to do, admits who waits, and turns the hub. Says
+/// whether nothing is left then, or why the loop ends.
+fn go_round<N: Net, O: Sink>(
+    hub: &mut Hub<N::Link>,
+    net: &mut N,
+    names: &Catalog,
+    out: &mut O,
+    alarm: &Alarm,
+    idle: bool,
+) -> Result<bool, Parting>
+    requires { CanGoOn hub.old (N.state net.old) names.now }
+    ensures goes { GoesRound result names.now hub.old hub.new (N.state net.old) (N.state net.new)
+        (O.written out.old) (O.written out.new) }
+    ensures counted { O.fault_count out.new ≡ round_faults result (O.fault_count out.old) }
+{
+    if alarm.raised() {
+        return Err(Parting::Alarmed);
+    }
+    pause(net, idle)?;
+    let more = admit(hub, net)?;
+    let turn = hub.turn(names, out);
+    match Parting::after(turn) {
+        Some(parting) => Err(parting),
+        None => Ok(is_idle(more, turn)),
+    }
+}
+
+/// Goes round until the hub is done, something failed or the alarm is raised.
 fn attend<R: Wait, N: Net, O: Sink>(
     rt: &R,
     hub: &mut Hub<N::Link>,
@@ -85,21 +117,10 @@ fn attend<R: Wait, N: Net, O: Sink>(
     let _ = hub.coordinator();
     let mut idle = true;
     for _ in rt.forever() {
-        if alarm.raised() {
-            return Parting::Alarmed;
-        }
-        if let Some(parting) = pause(net, idle) {
-            return parting;
-        }
-        let more = match admit(hub, net) {
-            Ok(more) => more,
+        match go_round(hub, net, names, out, alarm, idle) {
+            Ok(is_idle) => idle = is_idle,
             Err(parting) => return parting,
-        };
-        let turn = hub.turn(names, out);
-        if let Some(parting) = Parting::after(turn) {
-            return parting;
         }
-        idle = is_idle(more, turn);
     }
     unreachable!()
 }

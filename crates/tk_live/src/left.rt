@@ -8,6 +8,6 @@ use tk_story::Ends;
 #[derive(Drop)]
 pub struct Left {
     pub parting: Parting,
-    pub cause: Why,
+    pub why: Why,
     pub ends: Ends,
 }

@@ -19,6 +19,7 @@ mod living;
 mod number;
 mod outcome;
 mod parting;
+mod plan;
 mod playing;
 mod returning;
 mod serving;

@@ -3,66 +3,59 @@
 ghost use Rattle.std.specs.Prelude.{ℕ, ◌≡◌, ◌≤◌, [], false, length, map, vec_capacity};
 ghost use Rattle.tk_frames.specs.Spelling.{IsVersion};
 ghost use Rattle.tk_input.specs.Files.{HasRisen};
-ghost use Rattle.tk_input.specs.Logs.{IsCut, beginnings};
 ghost use Rattle.tk_journal.specs.Legal.{opened, start as begun_by};
 ghost use Rattle.tk_load.specs.Whole.{AreAgreed};
-ghost use Rattle.tk_live.specs.Crew.{made_in};
 ghost use Rattle.tk_live.specs.Hosting.{CanHost};
 ghost use Rattle.tk_live.specs.Left.{ConcludesLeft, TellsOdd};
 ghost use Rattle.tk_live.specs.Lived.{AreOfInput, EndsOver};
-ghost use Rattle.tk_live.specs.Made.{all_made};
+ghost use Rattle.tk_live.specs.Made.{all_planned};
 ghost use Rattle.tk_live.specs.Parting.{faults_of};
+ghost use Rattle.tk_live.specs.Slots.{berth_made};
 ghost use Rattle.tk_load.specs.Surroundings.{faults_told, output_by};
 ghost use Rattle.tk_load.specs.declared.status.Status.TheVariants.{LinkFault as Unlinked};
 
-use crate::ending::{Choice, choose, is_odd};
-use crate::faults::{of_link, of_net};
+use crate::ending::{is_odd, unjoined};
+use crate::faults::{has_risen, of_net};
 use crate::joining::join_ends;
 use crate::left::Left;
 use crate::outcome::Outcome;
+use crate::plan::Plan;
 use crate::playing::play;
 use crate::returning::{give_back, part};
-use crate::stage::{Plan, Stage, make_stage};
+use crate::stage::{Stage, make_stage};
 use std::alloc::Global;
 use std::marker::Sync;
 use std::sync::Wait;
 use std::thread::Threads;
-use tk_base::Cut;
 use tk_input::Sink;
 use tk_load::{Input, Status};
 use tk_serve::Gate;
 use tk_story::Ends;
 use tk_wire::Net;
 
-/// Chooses how the run ended: by the hub, the workers, a link or the net, and else by the ends, which are then joined.
+/// Concludes by how the hub and the workers ended, where that tells a fault, and else by the ends, which are then joined.
 fn conclude<N: Net, O: Sink>(
     alloc: Global,
-    input: Input,
-    from: Cut,
+    plan: Plan,
     left: Left,
     faults: u64,
     net: &N,
     out: &mut O,
 ) -> Outcome
-    requires run { AreOfInput input left.ends }
-    requires from { from ≡ beginnings input.logs }
+    requires run { AreOfInput plan.input left.ends }
     requires odd { TellsOdd left }
-    ensures concludes { ConcludesLeft input from left (output_by O.Sink out.old out.new) result }
+    ensures concludes { ConcludesLeft plan.input plan.from left (output_by O.Sink out.old out.new) result }
     ensures failed { result.status ≡ Unlinked → HasRisen faults (N.state net.now).faults }
     ensures counted { (was : ℕ) → O.fault_count out.old ≡ faults_of left.parting was
         → O.fault_count out.new ≡ faults_told result.status was }
 {
-    let Left {
-        parting,
-        cause,
-        ends,
-    } = left;
+    let Left { parting, why, ends } = left;
     let odd = is_odd(&ends.coordinator, ends.monitors.as_slice());
-    match choose(parting, cause, odd) {
-        Choice::WriteFault => Outcome::kept(Status::WriteFault, ends),
-        Choice::LinkFault => Outcome::kept(of_link(faults, net.faults()), ends),
-        Choice::NoMemory => Outcome::kept(Status::NoMemory, ends),
-        Choice::Join => {
+    let risen = has_risen(faults, net.faults());
+    match unjoined(parting, why, odd, risen) {
+        Some(status) => Outcome::kept(status, ends),
+        None => {
+            let Plan { input, from, .. } = plan;
             let Input { settings, logs, .. } = input;
             join_ends(alloc, settings, logs, from, ends, out)
         }
@@ -73,43 +66,35 @@ fn conclude<N: Net, O: Sink>(
 fn run_stage<R: Threads + Wait + Sync, N: Net, G: Gate + Sync, O: Sink>(
     rt: &R,
     alloc: Global,
-    input: Input,
-    from: Cut,
-    version: u8,
+    plan: Plan,
     stage: Stage<N::Link, N::Rest, N::Bell>,
     faults: u64,
     gate: &G,
     net: &mut N,
     out: &mut O,
 ) -> Outcome
-    requires agreed { AreAgreed input.names input.settings input.logs }
-    requires cut { IsCut input.logs.logs from }
-    requires from { from ≡ beginnings input.logs }
-    requires hub { CanHost stage.hub (N.state net.old) input.names }
-    requires settings { stage.hub.coordinator.settings ≡ input.settings }
-    requires begins { stage.hub.coordinator.journal ≡ opened (begun_by input.settings) }
-    requires made { map (λ b. made_in b.port.monitor b.version) stage.crew.berths.items ≡ all_made input from version }
+    requires hub { CanHost stage.hub (N.state net.old) plan.input.names }
+    requires settings { stage.hub.coordinator.settings ≡ plan.input.settings }
+    requires begins { stage.hub.coordinator.journal ≡ opened (begun_by plan.input.settings) }
+    requires made { map berth_made stage.crew.berths.items ≡ all_planned plan }
     requires empty { stage.ends.items ≡ [] }
     requires room { length stage.crew.berths.items ≤ vec_capacity stage.ends }
-    ensures ends { EndsOver input version (output_by O.Sink out.old out.new) (N.state net.old) (N.state net.new) result }
+    ensures ends { EndsOver plan.input plan.version (output_by O.Sink out.old out.new)
+        (N.state net.old) (N.state net.new) result }
     ensures failed { result.status ≡ Unlinked → HasRisen faults (N.state net.new).faults }
     ensures counted { O.fault_count out.new ≡ faults_told result.status (O.fault_count out.old) }
 {
     let Stage { hub, crew, ends } = stage;
-    let (hub, parting, workers) = play(rt, crew, hub, &input.names, gate, net, out);
+    let (hub, parting, workers) = play(rt, crew, hub, &plan.input.names, gate, net, out);
     let (coordinator, wires) = hub.into_end();
     give_back(net, wires);
-    let (monitors, cause) = part(net, workers, ends);
+    let (monitors, why) = part(net, workers, ends);
     let ends = Ends {
         coordinator,
         monitors,
     };
-    let left = Left {
-        parting,
-        cause,
-        ends,
-    };
-    conclude(alloc, input, from, left, faults, net, out)
+    let left = Left { parting, why, ends };
+    conclude(alloc, plan, left, faults, net, out)
 }
 
 /// Runs an input live, in frames of a version: a worker for each monitor with its feeders, and the coordinator here, over
@@ -136,23 +121,14 @@ pub fn live_over<R: Threads + Wait + Sync, N: Net, G: Gate + Sync, O: Sink>(
     ensures counted { O.fault_count out.new ≡ faults_told result.status (O.fault_count out.old) }
 {
     let faults = net.faults();
-    let Ok(from) = input.logs.start(alloc) else {
+    let Ok(plan) = Plan::new(alloc, input, version, run) else {
         return Outcome::unstarted(Status::NoMemory);
     };
-    let plan = Plan {
-        input: &input,
-        from: &from,
-        version,
-        run,
-    };
     match make_stage(alloc, &plan, net) {
-        Ok(stage) => run_stage(
-            rt, alloc, input, from, version, stage, faults, gate, net, out,
-        ),
+        Ok(stage) => run_stage(rt, alloc, plan, stage, faults, gate, net, out),
         Err(fault) => {
-            drop(input);
-            drop(from);
-            Outcome::unstarted(of_net(fault, faults, net.faults()))
+            drop(plan);
+            Outcome::unstarted(of_net(fault, has_risen(faults, net.faults())))
         }
     }
 }

@@ -1,9 +1,12 @@
 //! The causes that end the loop over a hub, and what is to be done after each.
 
 ghost use Rattle.std.specs.Prelude.{◌≡◌};
-ghost use Rattle.tk_live.specs.Parting.{halts_of, is_done_of, of_fault, of_turn};
+ghost use Rattle.tk_live.specs.Parting.{halts_of, hub_why, is_done_of, of_fault, of_turn};
+ghost use Rattle.tk_live.specs.declared.parting.Parting.TheVariants.{NoMemory as OutOfMemory};
 
+use tk_base::NoMemory;
 use tk_hub::HubTurn;
+use tk_serve::Why;
 use tk_wire::NetFault;
 
 /// Why the caller's loop over its hub ended.
@@ -24,6 +27,26 @@ pub enum Parting {
     NoMemory,
 }
 
+/// The loop's end after a fault of the net.
+impl From<NetFault> for Parting {
+    ghost from_gives = { λ fault parting. parting ≡ of_fault fault };
+
+    fn from(fault: NetFault) -> Parting {
+        match fault {
+            NetFault::Failed => Parting::NetFailed,
+            NetFault::NoMemory => Parting::NoMemory,
+        }
+    }
+}
+
+impl From<NoMemory> for Parting {
+    ghost from_gives = { λ _ parting. parting ≡ OutOfMemory };
+
+    fn from(_error: NoMemory) -> Parting {
+        Parting::NoMemory
+    }
+}
+
 impl Parting {
     /// The loop's end after a turn, where it does not go on.
     pub fn after(turn: HubTurn) -> Option<Parting>
@@ -41,13 +64,16 @@ impl Parting {
         }
     }
 
-    /// The loop's end after a fault of the net.
-    pub fn by(fault: NetFault) -> Parting
-        ensures { result ≡ of_fault fault }
+    /// The cause that it is for the run, beside those of the workers. A line that was not written is none, and told as it is.
+    pub fn why(self) -> Option<Why>
+        ensures { result ≡ hub_why self }
     {
-        match fault {
-            NetFault::Failed => Parting::NetFailed,
-            NetFault::NoMemory => Parting::NoMemory,
+        match self {
+            Parting::WriteFailed => None,
+            Parting::Finished => Some(Why::Stopped),
+            Parting::Refused => Some(Why::Odd),
+            Parting::NoMemory => Some(Why::NoMemory),
+            Parting::Alarmed | Parting::Failed | Parting::NetFailed => Some(Why::Failed),
         }
     }
 

@@ -1,10 +1,10 @@
 //! The workers and the hub of a live run, side by side until all have ended.
 
 ghost use Rattle.std.specs.Prelude.{◌≡◌, map};
-ghost use Rattle.tk_live.specs.Crew.{made_in};
 ghost use Rattle.tk_live.specs.Hosted.{HostsFrom};
 ghost use Rattle.tk_live.specs.Hosting.{CanHost, Hosts};
 ghost use Rattle.tk_live.specs.Parting.{faults_of};
+ghost use Rattle.tk_live.specs.Slots.{berth_made, worked_made};
 
 use crate::berths::Crew;
 use crate::crew::{join_all, start};
@@ -35,8 +35,7 @@ fn play_beside<'s, 'a: 's, 'h, R: Threads + Wait + Sync, N: Net + 'a, G: Gate + 
     ensures same_net { result.0.net.ghost_name ≡ host.entry.net.ghost_name }
     ensures same_out { result.0.out.ghost_name ≡ host.entry.out.ghost_name }
     ensures hosts { HostsFrom N.state O.Sink result.1 names.now host.entry result.0 }
-    ensures made { map (λ w. made_in w.served.end.monitor w.version) result.2.items
-        ≡ map (λ b. made_in b.port.monitor b.version) crew.berths.items }
+    ensures made { map worked_made result.2.items ≡ map berth_made crew.berths.items }
 {
     let Crew {
         berths,
@@ -62,8 +61,7 @@ fn play_in<'a, 'h, R: Threads + Wait + Sync, N: Net + 'a, G: Gate + Sync, O: Sin
     ensures same_net { result.0.net.ghost_name ≡ host.entry.net.ghost_name }
     ensures same_out { result.0.out.ghost_name ≡ host.entry.out.ghost_name }
     ensures hosts { HostsFrom N.state O.Sink result.1 names.now host.entry result.0 }
-    ensures made { map (λ w. made_in w.served.end.monitor w.version) result.2.items
-        ≡ map (λ b. made_in b.port.monitor b.version) crew.berths.items }
+    ensures made { map worked_made result.2.items ≡ map berth_made crew.berths.items }
 {
     thread::scope(
         thread::scope_env(),
@@ -73,8 +71,7 @@ fn play_in<'a, 'h, R: Threads + Wait + Sync, N: Net + 'a, G: Gate + Sync, O: Sin
             ensures same_net { result.0.net.ghost_name ≡ host.entry.net.ghost_name }
             ensures same_out { result.0.out.ghost_name ≡ host.entry.out.ghost_name }
             ensures hosts { HostsFrom N.state O.Sink result.1 names.entry.now host.entry result.0 }
-            ensures made { map (λ w. made_in w.served.end.monitor w.version) result.2.items
-                ≡ map (λ b. made_in b.port.monitor b.version) crew.berths.items }
+            ensures made { map worked_made result.2.items ≡ map berth_made crew.berths.items }
         { play_beside(scope, rt, crew, host, names, gate, signals) },
     )
 }
@@ -102,8 +99,7 @@ pub fn play<R: Threads + Wait + Sync, N: Net, G: Gate + Sync, O: Sink>(
     ensures hosts { Hosts result.1 names.now hub result.0 (N.state net.old) (N.state net.new)
         (O.written out.old) (O.written out.new) }
     ensures counted { O.fault_count out.new ≡ faults_of result.1 (O.fault_count out.old) }
-    ensures made { map (λ w. made_in w.served.end.monitor w.version) result.2.items
-        ≡ map (λ b. made_in b.port.monitor b.version) crew.berths.items }
+    ensures made { map worked_made result.2.items ≡ map berth_made crew.berths.items }
 {
     let signals = Signals::new();
     let host = Host { hub, net, out };

@@ -7,12 +7,12 @@ ghost use Rattle.tk_live.specs.Complete.{took_in};
 ghost use Rattle.tk_live.specs.Crew.{IsCalm, graver as graver_of, gravest};
 
 use crate::worked::Worked;
-use tk_serve::{Served, Why};
+use tk_serve::Why;
 use tk_story::MonEnd;
 use tk_wire::{Net, Wire};
 
 /// The graver of two causes.
-fn graver(cause: Why, next: Why) -> Why
+pub fn graver(cause: Why, next: Why) -> Why
     ensures { result ≡ graver_of cause next }
 {
     match cause {
@@ -56,16 +56,10 @@ pub fn part<N: Net>(
     let mut cause = Why::Stopped;
     for worked in workers {
         let Worked { served, .. } = worked;
-        let Served {
-            end,
-            link,
-            rest,
-            why,
-        } = served;
-        net.back(link);
-        net.back_rest(rest);
-        cause = graver(cause, why);
-        ends.push_reserved(end);
+        net.back(served.link);
+        net.back_rest(served.rest);
+        cause = graver(cause, served.why);
+        ends.push_reserved(served.end);
     }
     (ends, cause)
 }

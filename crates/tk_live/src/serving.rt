@@ -1,12 +1,15 @@
 //! The command `live`, from its words to what came of its run.
 
-ghost use Rattle.std.specs.Prelude.{◌≡◌, false, map, string_bytes};
+ghost use Rattle.std.specs.Prelude.{◌≡◌, Some, false, IfErr, IfOk, map, string_bytes};
+ghost use Rattle.tk_frames.specs.Spelling.{IsVersion};
 ghost use Rattle.tk_input.specs.Files.{HasRisen};
-ghost use Rattle.tk_live.specs.Serving.{EndsWords};
+ghost use Rattle.tk_live.specs.Serving.{EndsWords, GivesNone, served};
 ghost use Rattle.tk_load.specs.Surroundings.{faults_told};
 ghost use Rattle.tk_live.specs.Traffic.{all_met};
 ghost use Rattle.tk_load.specs.Reads.{AreKept};
 ghost use Rattle.tk_load.specs.declared.status.Status.TheVariants.{LinkFault as Unlinked};
+ghost use Rattle.tk_words.specs.Asked.{AreOfMonitors, asked_live};
+ghost use Rattle.tk_words.specs.Words.{words_of};
 
 use crate::living::live_over;
 use crate::outcome::Outcome;
@@ -18,7 +21,22 @@ use tk_input::{Files, Sink};
 use tk_load::{Status, load};
 use tk_serve::Gate;
 use tk_wire::Net;
-use tk_words::{Command, WordsFault, read};
+use tk_words::{Command, Live, WordsFault, read};
+
+/// The words of a live run, or what is told of words that are of none.
+fn read_live(alloc: Global, words: &[String]) -> Result<Live<'_>, Status>
+    ensures asked { IfOk result (λ w. served (words_of (map string_bytes words.now)) ≡ Some (asked_live w)) }
+    ensures monitors { IfOk result (λ w. AreOfMonitors w.sources.logs.items) }
+    ensures frames { IfOk result (λ w. IsVersion w.frames) }
+    ensures fault { IfErr result (GivesNone (map string_bytes words.now)) }
+{
+    match read(alloc, words) {
+        Ok(Command::Live(words)) => Ok(words),
+        Ok(_) => Err(Status::Usage),
+        Err(WordsFault::Usage) => Err(Status::Usage),
+        Err(WordsFault::NoMemory) => Err(Status::NoMemory),
+    }
+}
 
 /// Serves `live`, over a net that has not listened yet. The words come without the program's name. It may wait, and what it
 /// promises holds if it returns.
@@ -43,21 +61,9 @@ pub fn live<R: Threads + Wait + Sync, F: Files, N: Net, G: Gate + Sync, O: Sink>
     ensures failed { result.status ≡ Unlinked → HasRisen (N.state net.old).faults (N.state net.new).faults }
     ensures counted { O.fault_count out.new ≡ faults_told result.status (O.fault_count out.old) }
 {
-    let words = match read(alloc, words) {
-        Ok(Command::Live(words)) => words,
-        Ok(Command::Replay(_)) => return Outcome::unstarted(Status::Usage),
-        Ok(Command::Generate(_)) => return Outcome::unstarted(Status::Usage),
-        Ok(Command::Multi(_)) => return Outcome::unstarted(Status::Usage),
-        Ok(Command::Sessions(_)) => return Outcome::unstarted(Status::Usage),
-        Ok(Command::Trace(_)) => return Outcome::unstarted(Status::Usage),
-        Ok(Command::Check(_)) => return Outcome::unstarted(Status::Usage),
-        Ok(Command::Show(_)) => return Outcome::unstarted(Status::Usage),
-        Ok(Command::Coordinate(_)) => return Outcome::unstarted(Status::Usage),
-        Ok(Command::Monitor(_)) => return Outcome::unstarted(Status::Usage),
-        Ok(Command::Help(_)) => return Outcome::unstarted(Status::Usage),
-        Ok(Command::Version) => return Outcome::unstarted(Status::Usage),
-        Err(WordsFault::Usage) => return Outcome::unstarted(Status::Usage),
-        Err(WordsFault::NoMemory) => return Outcome::unstarted(Status::NoMemory),
+    let words = match read_live(alloc, words) {
+        Ok(words) => words,
+        Err(status) => return Outcome::unstarted(status),
     };
     match load(rt, alloc, &words.sources, files) {
         Ok(input) => live_over(rt, alloc, input, words.frames, net, run, gate, out),

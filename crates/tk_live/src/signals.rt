@@ -19,4 +19,10 @@ impl Signals {
             idle: Alarm::new(),
         }
     }
+
+    /// No thread could be made for a worker: none need begin, and the hub need not wait.
+    pub fn call_off(&self) {
+        self.idle.raise();
+        self.alarm.raise();
+    }
 }

@@ -4,6 +4,3 @@ use Rattle.tk_live.proofs.hosting.admit.Goals as goal
 
 pub loop-init : goal.loop-init
 loop-init g c = record { rest = refl; kept = c.coordinator.ensures.kept; gone = gone_none (g.N.Net.state c.args.net.now) }
-
-pub accept-requires : goal.accept-requires
-accept-requires g c = c.loop.invariant.gone.listens c.requires.listens

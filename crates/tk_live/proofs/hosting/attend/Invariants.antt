@@ -1,5 +1,5 @@
 use Rattle.std.proofs.Common.{◌≡◌}
-use Rattle.tk_live.proofs.HostLemmas.{IsGoing}
+use Rattle.tk_live.specs.Hosting.{IsGoing}
 use Rattle.tk_live.proofs.hosting.attend.Given as goal
 
 -- the hub goes on, and no put failed

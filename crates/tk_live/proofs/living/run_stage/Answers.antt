@@ -18,7 +18,7 @@ use Rattle.tk_live.specs.Crew.{made_in}
 use Rattle.tk_live.specs.Hosting.{Hosts}
 use Rattle.tk_live.specs.Made.{made_of}
 use Rattle.tk_live.specs.Traffic.{traffic_of}
-use Rattle.tk_live.proofs.ChoiceLemmas.{odd_none}
+use Rattle.tk_live.proofs.ToldLemmas.{odd_none}
 use Rattle.tk_live.proofs.CompleteLemmas.{complete_ends, complete_hub, ends_made, made_run, trails_stopped, trails_sum, writes_front}
 use Rattle.tk_live.proofs.living.run_stage.Goals as goal
 
@@ -32,7 +32,7 @@ part-monitors-requires-clause-room g c κs within =
 -- the ends are those of the nodes that were made
 pub conclude-requires-clause-run : goal.conclude-requires-clause-run
 conclude-requires-clause-run g c κs within =
-    let input = c.args.input in
+    let input = c.args.plan.input in
     let whole = c.play-hub.ensures.made ∙ c.requires.made in
     let hosts = c.play-hub.ensures.hosts in
     let coordinator = c.into_end-coordinator.result.0 in
@@ -41,8 +41,8 @@ conclude-requires-clause-run g c κs within =
     let settings = ap (λ (k : CoordinatorView). k.settings) same ∙ hosts.settings ∙ c.requires.settings in
     let begins = subst (λ (k : CoordinatorView). IsFront (opened (start input.settings)) k.journal) (sym same) (subst (λ (j : List Noted). IsFront j c.play-hub.result.0.coordinator.journal) c.requires.begins hosts.grows) in
     let made = ap (λ xs. map (λ (e : MonEnd). as_made e.monitor) xs) c.part-monitors.ensures.ends
-    ∙ ends_made (λ w. w.served.end) (λ w. w.version) c.args.version (made_for input.settings input.logs c.args.from) (numbers input.settings) c.play-hub.result.2.items whole in
-    subst (λ f. AreOfOneRun coordinator monitors input.logs input.settings f) c.requires.from (made_run input c.args.from coordinator monitors c.requires.agreed c.requires.cut settings begins made)
+    ∙ ends_made (λ w. w.served.end) (λ w. w.version) c.args.plan.version (made_for input.settings input.logs c.args.plan.from) (numbers input.settings) c.play-hub.result.2.items whole in
+    subst (λ f. AreOfOneRun coordinator monitors input.logs input.settings f) c.args.plan.from_is (made_run input c.args.plan.from coordinator monitors c.args.plan.agreed c.args.plan.cut settings begins made)
 
 -- what is odd was refused by the hub, or left by a worker
 pub conclude-requires-clause-odd : goal.conclude-requires-clause-odd
@@ -58,7 +58,7 @@ returns-clause-counted g c = c.conclude.ensures.counted (g.O.Sink.fault_count c.
 
 pub returns-clause-ends : goal.returns-clause-ends
 returns-clause-ends g c =
-    let input = c.args.input in
+    let input = c.args.plan.input in
     let whole = c.play-hub.ensures.made ∙ c.requires.made in
     let hosts = c.play-hub.ensures.hosts in
     let hub = c.play-hub.result.0 in
@@ -74,27 +74,27 @@ returns-clause-ends g c =
     let net1 = g.N.Net.state c.play-hub.new.net in
     let second = (g.N.Net.state c.give_back.new.net).taken in
     let third = (g.N.Net.state c.part-monitors.new.net).taken in
-    let of_ = made_for input.settings input.logs c.args.from in
+    let of_ = made_for input.settings input.logs c.args.plan.from in
     let ends = map (λ w. w.served.end) workers in
     let trails = map (λ (end : MonEnd). end.monitor.trail) ends in
     let front = subst (λ (k : CoordinatorView). GrowsByFront was now (concat (lines_of input.names k.journal))) (sym e.coordinator) (writes_front c.play-hub.result.1 input.names hub was now hosts.writes) in
     let wires = subst (λ ws. min (net1.taken + sum_by (λ wire. (counts wire).taken) ws) (2 ^ 64 - 1) ≤ second) e.wires c.give_back.ensures in
-    let sum = trails_sum (λ w. w.served.end) (λ w. w.version) c.args.version of_ (numbers input.settings) workers whole in
+    let sum = trails_sum (λ w. w.served.end) (λ w. w.version) c.args.plan.version of_ (numbers input.settings) workers whole in
     let count : length trails ≡ hub.coordinator.settings.monitors =
     length-map ends (λ (end : MonEnd). end.monitor.trail)
     ∙ (length-map workers (λ w. w.served.end)
     ∙ (sym (length-map workers (λ w. made_in w.served.end.monitor w.version))
     ∙ (ap (λ xs. length xs) whole
-    ∙ (length-map-range_with_len (made_of input c.args.from c.args.version) 1 input.settings.monitors ∙ ap (λ (s : Setup). s.monitors) (sym (hosts.settings ∙ c.requires.settings)))))) in
-    c.conclude.ensures.concludes c.args.version was net.taken third front (λ finished stopped.
+    ∙ (length-map-range_with_len (made_of input c.args.plan.from c.args.plan.version) 1 input.settings.monitors ∙ ap (λ (s : Setup). s.monitors) (sym (hosts.settings ∙ c.requires.settings)))))) in
+    c.conclude.ensures.concludes c.args.plan.version was net.taken third front (λ finished stopped.
     let done = subst (λ q. Hosts q input.names c.args.stage.hub hub net net1 was now) finished hosts in
-    let all = trails_stopped (λ w. w.served.end) (λ w. w.version) c.args.version of_ (numbers input.settings) workers whole (p.stopped stopped) in
-    let complete = complete_hub counts input.names c.args.version c.args.stage.hub hub net net1 second third was now input.logs c.args.from trails done e.covered wires (omega (arith, p.taken, sum)) count all in
-    complete_ends input.names c.args.version was now input.logs c.args.from net.taken third coordinator monitors hub.coordinator e.coordinator
-    (subst (λ (ms : List MonEnd). IsComplete input.names c.args.version (record {
+    let all = trails_stopped (λ w. w.served.end) (λ w. w.version) c.args.plan.version of_ (numbers input.settings) workers whole (p.stopped stopped) in
+    let complete = complete_hub counts input.names c.args.plan.version c.args.stage.hub hub net net1 second third was now input.logs c.args.plan.from trails done e.covered wires (omega (arith, p.taken, sum)) count all in
+    complete_ends input.names c.args.plan.version was now input.logs c.args.plan.from net.taken third coordinator monitors hub.coordinator e.coordinator
+    (subst (λ (ms : List MonEnd). IsComplete input.names c.args.plan.version (record {
       settings = hub.coordinator.settings;
       logs = input.logs;
-      from = c.args.from;
+      from = c.args.plan.from;
       journal = hub.coordinator.journal;
       trails = map (λ (end : MonEnd). end.monitor.trail) ms;
     }) (traffic_of was now net.taken third)) (sym p.ends) complete))

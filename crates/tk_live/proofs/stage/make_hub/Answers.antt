@@ -8,12 +8,12 @@ use Rattle.tk_live.proofs.StageLemmas.{opened_unpublished, opened_unstopped}
 use Rattle.tk_live.proofs.stage.make_hub.Goals as goal
 
 pub new-requires-2 : goal.new-requires-2
-new-requires-2 g c = ap inputs_of c.in-Ok.ensures.journal ∙ opened_inputs (start c.args.plan.now.input.now.settings)
+new-requires-2 g c = ap inputs_of c.in-Ok.ensures.journal ∙ opened_inputs (start c.args.plan.now.input.settings)
 
 pub returns-in-Ok-new-clause-unwritten : goal.returns-in-Ok-new-clause-unwritten
 returns-in-Ok-new-clause-unwritten g c =
-    ap (λ (k : CoordinatorView). publications k.journal) c.in-Ok-new.ensures.coordinator ∙ ap publications c.in-Ok.ensures.journal ∙ opened_unpublished (start c.args.plan.now.input.now.settings)
+    ap (λ (k : CoordinatorView). publications k.journal) c.in-Ok-new.ensures.coordinator ∙ ap publications c.in-Ok.ensures.journal ∙ opened_unpublished (start c.args.plan.now.input.settings)
 
 pub returns-in-Ok-new-clause-unstopped : goal.returns-in-Ok-new-clause-unstopped
 returns-in-Ok-new-clause-unstopped g c =
-    ap (λ (k : CoordinatorView). is_stopped k.journal) c.in-Ok-new.ensures.coordinator ∙ ap is_stopped c.in-Ok.ensures.journal ∙ opened_unstopped (start c.args.plan.now.input.now.settings)
+    ap (λ (k : CoordinatorView). is_stopped k.journal) c.in-Ok-new.ensures.coordinator ∙ ap is_stopped c.in-Ok.ensures.journal ∙ opened_unstopped (start c.args.plan.now.input.settings)
