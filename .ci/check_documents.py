@@ -22,7 +22,7 @@ ROOT = pathlib.Path(__file__).resolve().parent.parent
 PROGRAM = ROOT / "crates" / "topk" / "out" / "topk"
 MANUAL = ROOT / "docs" / "topk.1"
 # The most words of some documents together, the greatest median of their sentences, and the most words of nine in ten.
-LIMITS = ((("README.md",), 1750, 18, 35), (("docs/*",), 18800, 22, 45), (("bench/README.md",), 2000, 22, 45))
+LIMITS = ((("README.md",), 1750, 18, 35), (("docs/*",), 18900, 22, 45), (("bench/README.md",), 2000, 22, 45))
 # Commands that build or prove for minutes or hours.
 NOT_RUN = ("./unproved.sh", "(cd crates/topk && rt run", "RT_JOBS=4 .ci/run")
 PATH_NAMED = re.compile(r"(?<![\w/])(?:\.ci|bench|crates|docs|edits|examples)/[\w./-]*\w")

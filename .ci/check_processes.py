@@ -2,9 +2,9 @@
 
 The folder examples/three_processes has the words of each process; what stands for the address is filled in. A set is right where
 plain sums over the places printed beside it make it so. Besides: monitors fed by pipes at once, whose coordinator is ended and
-begun anew; one that begins first, one of another run, of another catalogue, or that nobody answers; lines that are no records; logs
-of web servers, routers and caches through the scripts that make streams of them; the units for systemd; and strangers, who change
-nothing.
+begun anew; one that begins first, one that comes too late, one of another run, of another catalogue, or that nobody answers; lines
+that are no records; logs of web servers, routers and caches through the scripts that make streams of them; the lines of ends of
+ticks; the units for systemd; and strangers, who change nothing.
 """
 import os
 import pathlib
@@ -57,6 +57,13 @@ class Process:
         self.child.kill()
         self.child.wait(timeout=LIMIT)
         return self.lines()
+
+    def awaited(self, line):
+        """It prints this line next, within some time."""
+        until, before = time.monotonic() + LIMIT, len(self.lines())
+        while time.monotonic() < until and self.lines()[-1:] != [line]:
+            time.sleep(0.01)
+        assert self.lines()[-1:] == [line], f"not {line!r} behind {before} lines: {self.lines()}"
 
     def address(self):
         """Where a coordinator listens: its first line, behind which it begins a session."""
@@ -193,6 +200,24 @@ def fed_at_once():
     return is_right_over(names, streams, [*lines, *ends], 2, 3)
 
 
+def one_is_missing():
+    """Sets go on without a monitor that does not come in time; when it comes the session ends, and the next has both."""
+    coordinator = Process([*words("coordinate", "127.0.0.1:0"), "--missing", "1"])
+    address = coordinator.address()
+    first, until = Process(words("monitor_1", address)), time.monotonic() + LIMIT
+    while not any(line.startswith("set ") for line in coordinator.lines()):
+        assert time.monotonic() < until, f"no set without monitor 2: {coordinator.lines()}"
+        time.sleep(0.1)
+    second = Process(words("monitor_2", address))
+    first.ended(0)
+    second.ended(0)
+    lines = coordinator.ended(0)
+    back = lines.index("ended 1 back 2")
+    alone = lines[lines.index("missing 2") + 1:back]
+    assert all(line.startswith("set ") and " 2:- " in line for line in alone), f"the sets without monitor 2: {alone}"
+    return judged(lines[back + 1:])
+
+
 def odd_lines():
     """A line that is no record ends the monitor, with its number, or is passed over and counted."""
     coordinator = Process([*words("coordinate", "127.0.0.1:0"), "--sessions", "1"])
@@ -210,6 +235,49 @@ def odd_lines():
     told, lines = monitor.ended(0), coordinator.ended(0)
     assert told[-1] == "ended at 4 skipped 3", f"the monitor: {told}"
     assert lines[-1].endswith(" cut 1:4 members a"), f"the last set: {lines}"
+
+
+# What the streams of a monitor give, one after the other, and what it says then.
+TICKS = ((0, "a,5\nb,3\ntick\n", "tick 1,0 at 2,0"), (1, "b,4\ntick\n", "tick 1,1 at 2,1"),
+         # The first tick of the first stream leaves its window: two records that take it back.
+         (0, "a,1\ntick\n", "tick 2,1 at 5,1"), (1, "tick\n", "tick 2,2 at 5,2"), (0, "a,2\n", None),
+         # The first is in the midst of a tick now, and its place is that of its last end.
+         (1, "b,-1\ntick\n", "tick 2,3 at 5,3"), (0, "tick\n", "tick 3,3 at 7,3"))
+
+# The greatest by the sums over the windows at ends of ticks of both.
+GREATEST = {(2, 0): "a", (2, 1): "b", (5, 1): "b", (5, 2): "a", (7, 3): "a"}
+
+
+def ticks_are_told():
+    """A monitor with a window says where the ticks of its streams ended; a set there is right for the last ticks."""
+    asked = words("coordinate", "127.0.0.1:0")
+    asked[asked.index("--monitors") + 1] = "1"
+    coordinator = Process(asked)
+    with tempfile.TemporaryDirectory() as folder:
+        pipes = [pathlib.Path(folder) / name for name in ("one", "two")]
+        for pipe in pipes:
+            os.mkfifo(pipe)
+        monitor = Process([*words("monitor_1", coordinator.address())[:-1], "--width", "1", *map(str, pipes)])
+        streams = [open(pipe, "w") for pipe in pipes]
+        monitor.awaited("joined 1 at 0,0")
+        for stream, text, line in TICKS:
+            streams[stream].write(text)
+            streams[stream].flush()
+            if line:
+                monitor.awaited(line)
+        for stream in streams:
+            stream.close()
+        told, lines = monitor.ended(0), coordinator.ended(0)
+    wanted = ["joined 1 at 0,0", *(line for _, _, line in TICKS if line), "ended at 8,4 skipped 0"]
+    assert told == wanted, f"the monitor: {told}"
+    assert lines[-1].endswith(" cut 1:8,4 members a"), f"the last set: {lines}"
+    for line in lines:
+        fields = line.split()
+        if fields[0] in ("set", "final"):
+            places = tuple(plain.cut_of(fields[3:fields.index("members")])[1])
+            if fields[-1] != GREATEST.get(places, fields[-1]):
+                return f"not the greatest of the last ticks: {line}"
+    return None
 
 
 # Logs as they are written, and the script of their folder that makes a stream of one.
@@ -303,8 +371,8 @@ def main():
     if not PROGRAM.exists():
         print("processes: the program is not built")
         return 1
-    for case in (in_order, monitors_first, alone, fed_at_once, odd_lines, three_sources, units, others_are_strangers,
-                 lambda: in_order(knock)):
+    for case in (in_order, monitors_first, alone, one_is_missing, fed_at_once, odd_lines, ticks_are_told, three_sources, units,
+                 others_are_strangers, lambda: in_order(knock)):
         fault = case()
         if fault:
             print(f"processes: {fault}")

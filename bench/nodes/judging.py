@@ -18,6 +18,12 @@ def places_of(text):
     return tuple(int(place) for place in text.split(","))
 
 
+def parted(fields):
+    """The places of a cut, and the monitors that are missing in it."""
+    absent = [field for field in fields if field.endswith(":-")]
+    return plain.cut_of([field for field in fields if field not in absent]), {int(field[:-2]) for field in absent}
+
+
 def told(monitor, places):
     """Whether a monitor printed that it joined somebody at these places."""
     return any(line.startswith("joined ") and places_of(line.split()[3]) == places for _, line in monitor.lines)
@@ -103,13 +109,16 @@ class Judge:
         last = {one: places for one, places in chosen.values()}
         for one, places in last.items():
             self.goes_on(one, self.seen.get(one, places), places, "joined")
+        missing = {int(line.split()[1]) for _, line in session if line.startswith("missing ")}
+        if missing & set(chosen):
+            raise Wrong(f"monitors {sorted(missing & set(chosen))} joined and are missing")
         count = 0
         for _, line in session:
             fields = line.split()
             if fields[0] in ("set", "final"):
                 count += 1
-                self.one_set(coordinator, line, fields, count, chosen, last)
-            elif fields[0] not in ("session", "joined", "ended"):
+                self.one_set(coordinator, line, fields, count, chosen, missing, last)
+            elif fields[0] not in ("session", "joined", "missing", "ended"):
                 raise Wrong(f"an unknown line: {line}")
         return last
 
@@ -117,12 +126,15 @@ class Judge:
         if any(now < then for now, then in zip(places, before)):
             raise Wrong(f"places of monitor {one.number} go back from {before} to {places}: {line}")
 
-    def one_set(self, coordinator, line, fields, count, chosen, last):
+    def one_set(self, coordinator, line, fields, count, chosen, missing, last):
         """One set: its number, its places, its sums."""
         middle = fields.index("members")
-        cut, members = plain.cut_of(fields[3:middle]), fields[middle + 1:]
-        if fields[1] != str(count) or fields[2] != "cut" or sorted(cut) != sorted(chosen) or len(chosen) != len(self.incarnations):
-            raise Wrong(f"number or cut, not set {count} over {sorted(chosen)}: {line}")
+        cut, absent = parted(fields[3:middle])
+        members = fields[middle + 1:]
+        if fields[1] != str(count) or fields[2] != "cut" or sorted(cut) != sorted(chosen) or absent != missing:
+            raise Wrong(f"number or cut, not set {count} over {sorted(chosen)} without {sorted(missing)}: {line}")
+        if sorted([*chosen, *missing]) != sorted(self.incarnations) or fields[0] == "final" and missing:
+            raise Wrong(f"a set before all are there, or a final one without {sorted(missing)}: {line}")
         for number, places in cut.items():
             one = chosen[number][0]
             self.goes_on(one, last[one], places, line)

@@ -30,6 +30,21 @@ def kill_monitor(nodes):
     return "begun anew with new streams"
 
 
+def miss_monitor(nodes):
+    """A monitor ends and stays away until a set is told without it; then another begins."""
+    number = nodes.pick.randint(1, nodes.count)
+    one = nodes.monitor(number)
+    nodes.expect_kill(one)
+    one.close()
+    start = time.monotonic()
+    while not any(line.startswith("set ") and f" {number}:- " in line for line in nodes.coordinator.session()):
+        if time.monotonic() > start + world.RECOVERY:
+            raise Failed(f"no set without monitor {number}: {nodes.coordinator.session()}")
+        time.sleep(0.02)
+    nodes.start_monitor(number)
+    return "sets without it, then with it"
+
+
 def kill_kept(nodes):
     """A monitor ends, and its connection stands on: its coordinator learns of it by the second greeting."""
     number = nodes.pick.randint(1, nodes.count)
@@ -375,11 +390,12 @@ def set_clock(nodes):
 
 # Strangers come when all is well, so that it can be told that they change nothing.
 CALM = (strangers, many_strangers, silent_crowd)
-ANYWHERE = (kill_coordinator, kill_monitor, kill_filed, twin_monitor, second_coordinator, stop_process, strangers, many_strangers,
-            silent_crowd, restart_among_strangers, mute_coordinator, mute_monitor, bad_line, end_stream)
+ANYWHERE = (kill_coordinator, kill_monitor, miss_monitor, kill_filed, twin_monitor, second_coordinator, stop_process, strangers,
+            many_strangers, silent_crowd, restart_among_strangers, mute_coordinator, mute_monitor, bad_line, end_stream)
 # Behind these a new session begins.
-BREAKING = (kill_coordinator, kill_monitor, kill_kept, kill_filed, kill_behind_link, kill_apart, twin_monitor, restart_among_strangers,
-            mute_coordinator, mute_monitor, full_disk, bad_line, cut_link, destroy_sockets, half_open, gone_silent, cut_all)
+BREAKING = (kill_coordinator, kill_monitor, miss_monitor, kill_kept, kill_filed, kill_behind_link, kill_apart, twin_monitor,
+            restart_among_strangers, mute_coordinator, mute_monitor, full_disk, bad_line, cut_link, destroy_sockets, half_open, gone_silent,
+            cut_all)
 GATED = (kill_kept, cut_link, half_open, gone_silent, delay_link, cut_all)
 HOSTED = (link_down, slow_link, lossy_link, slow_lossy_link, kill_behind_link, kill_apart)
 # What only root can do; the clock is set where it is asked for by name alone, since all processes of the machine have the same.

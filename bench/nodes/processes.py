@@ -10,6 +10,8 @@ import time
 import streams
 
 RUN = 11
+# After so many seconds a session goes on without a monitor.
+MISSING = 2
 UNWRITTEN, UNLINKED = "topk: the output cannot be written\n", "topk: a link failed\n"
 
 
@@ -104,7 +106,7 @@ class Coordinator(Process):
     def __init__(self, nodes, k, epsilon, output=None):
         self.k, self.epsilon = k, epsilon
         words = [nodes.program, "coordinate", "--monitors", str(nodes.count), "--k", str(k), "--epsilon", str(epsilon), "--objects",
-                 "objects.csv", "--run", str(RUN), "--listen", nodes.address, "--silence", str(nodes.silence)]
+                 "objects.csv", "--run", str(RUN), "--listen", nodes.address, "--silence", str(nodes.silence), "--missing", str(MISSING)]
         super().__init__(words, nodes.room, within=nodes.within(0), output=output)
 
     def session(self):

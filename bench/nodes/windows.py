@@ -6,7 +6,8 @@
 Streams come by pipes from this script, which ends ticks by lines `tick` and knows what each takes back: often by itself, or with
 --tick every so many seconds in all streams at once, with a short rest behind. A set is right where plain sums over exactly the
 prefixes printed beside it make it so; and where all of these end ticks, the same sums are those of the last ticks alone, which are
-counted apart. A line an interval has the resident size of each process. In the second half none may be much above the first.
+counted apart. Of each line `tick` of a monitor the ticks ended at these places, and each such set is one that these lines tell. A line
+an interval has the resident size of each process. In the second half none may be much above the first.
 """
 import argparse
 import pathlib
@@ -35,6 +36,7 @@ class Ticking(streams.Stream):
 
     def __init__(self, names, pick, rate, opened, width, tick):
         self.width, self.ticks, self.ends, self.tick, self.past = width, [[0] * len(names)], {0: 0}, tick, 0
+        self.places = [0]
         super().__init__(names, pick, rate, opened)
 
     def piece(self):
@@ -69,6 +71,7 @@ class Ticking(streams.Stream):
                     self.objects.append(chosen)
                     self.amounts.append(-by)
             self.ends[len(self.objects)] = len(self.ticks) - 1
+            self.places.append(len(self.objects))
         return count
 
     def window_at(self, place):
@@ -83,12 +86,21 @@ class Windowed(processes.Process):
     """A monitor with a window over its streams."""
 
     def __init__(self, nodes, number):
-        self.number, self.gate = number, None
+        self.number, self.gate, self.told = number, None, {(0,) * STREAMS}
         self.paths = [nodes.fifo(number, stream) for stream in range(STREAMS)]
         super().__init__([nodes.program, "monitor", "--number", str(number), "--objects", "objects.csv", "--run", str(processes.RUN),
                           "--connect", nodes.address, "--pause", "50", "--width", str(nodes.width), *self.paths], nodes.room)
         self.streams = [Ticking(nodes.names, nodes.random(), nodes.rate, streams.opened_fifo(nodes.room / path), nodes.width, nodes.tick)
                         for path in self.paths]
+
+    def keep_ends(self):
+        """Keeps the places of its lines of ends of ticks, beside those before the first."""
+        for _, line in self.lines:
+            if line.startswith("tick "):
+                ticks, places = ([int(number) for number in field.split(",")] for field in line[5:].split(" at "))
+                if places != [stream.places[tick] for stream, tick in zip(self.streams, ticks)]:
+                    raise judging.Wrong(f"not where ticks ended: {line}")
+                self.told.add(tuple(places))
 
     def whole(self):
         """The places behind all that is told and the closing records."""
@@ -104,10 +116,13 @@ class Judge(judging.Judge):
 
     def totals(self, cut, chosen):
         totals = super().totals(cut, chosen)
-        windows = [stream.window_at(min(place, len(stream.objects)))
-                   for number, places in cut.items() for stream, place in zip(chosen[number][0].streams, places)]
+        ends = {number: tuple(min(place, len(stream.objects)) for stream, place in zip(chosen[number][0].streams, places))
+                for number, places in cut.items()}
+        windows = [stream.window_at(place) for number in ends for stream, place in zip(chosen[number][0].streams, ends[number])]
         if None not in windows:
             self.at_ends += 1
+            if not all(ends[number] in chosen[number][0].told for number in ends):
+                raise judging.Wrong(f"no line has the ends of ticks {ends}")
             if list(totals.values()) != [sum(by) for by in zip(*windows)]:
                 raise judging.Wrong(f"places {cut} have not the sums of their last ticks")
         return totals
@@ -194,6 +209,8 @@ def run(nodes, options):
     time.sleep(options.seconds / (options.kills + 1))
     nodes.over.set()
     nodes.finish()
+    for one in nodes.monitors:
+        one.keep_ends()
     judge = Judge(nodes.names, {one.number: [one] for one in nodes.monitors}, [])
     for coordinator in nodes.coordinators:
         judge.coordinator(coordinator)

@@ -22,6 +22,7 @@ use Rattle.tk_wire.specs.Meanings.{raised_by}
 use Rattle.tk_input.specs.Files.{HasRisen}
 use Rattle.tk_host.specs.Going.{IsStanding, IsTold, Leaves, Steps, TellsAll, WritesLeft, left, published_by}
 use Rattle.tk_host.specs.Holding.{Begins, HasEndedBy, Holds, HoldsAll, Opens, Parts, held_text}
+use Rattle.tk_host.specs.Seats.{has_stand_in}
 use Rattle.tk_host.specs.Session.{IsCausedBy, IsSession, PastSession, leaves_out, sets_in}
 use Rattle.tk_host.specs.Sitting.{SessionView}
 use Rattle.tk_host.specs.Text.{ended_text, listening_text, over_text, session_text, sessions_text, text_of, told_text}
@@ -62,17 +63,21 @@ all_told s (o.Ended (c.Link mon)) h none = h
 all_told s (o.Ended (c.Refused mon)) h none = h
 all_told s (o.Ended (c.Bad mon)) h none = h
 all_told s (o.Ended (c.Again mon)) h none = h.0
+all_told s (o.Ended (c.Back mon)) h none = h.0
+all_told s (o.Ended (c.Early mon)) h none = absurd (cc)
 all_told s (o.Ended c.Full) h none = h.0
 all_told s (o.Ended c.Memory) h none = absurd (cc)
 all_told s o.HostFailed h none = h
 all_told s o.WriteFailed h none = absurd (cc)
 
 caused_by : {W : Type 0} (s : SessionView W) (over : Over) → Leaves s over → IsCausedBy s.roster s.hub.coordinator.journal over
-caused_by s o.Finished h = tt
+caused_by s o.Finished h = h.1.attended
 caused_by s (o.Ended (c.Link mon)) h = tt
 caused_by s (o.Ended (c.Refused mon)) h = tt
 caused_by s (o.Ended (c.Bad mon)) h = tt
 caused_by s (o.Ended (c.Again mon)) h = h.1
+caused_by s (o.Ended (c.Back mon)) h = h.1
+caused_by s (o.Ended (c.Early mon)) h = h
 caused_by s (o.Ended c.Full) h = h.1
 caused_by s (o.Ended c.Memory) h = tt
 caused_by s o.HostFailed h = tt
@@ -85,22 +90,23 @@ stopped_ended s j kept is =
     subst (λ (x : Setup). HasEnded x j) kept.settings ((legal_ends kept.opening m.0 m.1 j kept.legal).ended is)
 
 ended_by : {W : Type 0} (s : SessionView W) (over : Over) → Leaves s over → over ≡ o.Finished → is_stopped s.hub.coordinator.journal ≡ true
-ended_by s over h is = (subst (Leaves s) is h).1
+ended_by s over h is = (subst (Leaves s) is h).1.stopped
 
 -- a session that was left is a session as it was
-pub session_of : {W : Type 0} (s : SessionView W) (settings : Setup) (names : List (List ℕ)) (line : List ℕ) (over : Over) (before now : Option (List ℕ))
-    → IsStanding s → Leaves s over → s.hub.coordinator.settings ≡ settings → (t : Begins over names line s before now)
-    → IsSession settings (record { told = t.told; journal = s.hub.coordinator.journal; over = over })
-session_of s settings names line over before now standing leaves same t =
+pub session_of : {W : Type 0} (s : SessionView W) (settings : Setup) (missing : Option ℕ) (names : List (List ℕ)) (line : List ℕ) (over : Over) (before now : Option (List ℕ))
+    → IsStanding s → Leaves s over → s.hub.coordinator.settings ≡ settings → s.missing ≡ missing → (t : Begins over names line s before now)
+    → IsSession settings missing (record { told = t.told; journal = s.hub.coordinator.journal; over = over })
+session_of s settings missing names line over before now standing leaves same waits t =
     let j = s.hub.coordinator.journal in
     let kept = standing.kept.seats.journal in
     let long : length (sets_in t.told) ≡ s.told = (let a = ap (λ ps. length ps) t.sets in omega (arith, a, length-take s.told (published_by s), t.within)) in
-    subst (λ (x : Setup). IsSession x (record { told = t.told; journal = j; over = over })) same
+    subst (λ (x : Setup). IsSession x missing (record { told = t.told; journal = j; over = over })) same
     (record {
       legal = from_the_start s.hub.coordinator.settings j kept standing.begins;
       told_in_order = record { is = t.sets ∙ ap (λ (k : ℕ). take k (published_by s)) (sym long) };
       told_all = λ none. t.sets ∙ ap (λ (k : ℕ). take k (published_by s)) (all_told s over leaves none) ∙ take-length (published_by s);
-      caused = subst (λ js. IsCausedBy js j over) (sym t.joined) (caused_by s over leaves);
+      caused = subst (λ seats. IsCausedBy seats j over) (sym t.seats) (caused_by s over leaves);
+      attended = λ none. ap has_stand_in t.seats ∙ standing.attended (waits ∙ none);
       ended = λ is. stopped_ended s.hub.coordinator.settings j kept (ended_by s over leaves is);
     })
 
@@ -119,7 +125,7 @@ parts_written o.WriteFailed (Err end) number mid now next told first p =
 pub begun : {W : Type 0} (over : Over) (names : List (List ℕ)) (line : List ℕ) (s : SessionView W) (before mid now : Option (List ℕ)) → Grows before mid line → IsTold (left over) names s mid now → Begins over names line s before now
 begun over names line s before mid now put t = record {
   told = t.told;
-  joined = t.joined;
+  seats = t.seats;
   sets = t.sets;
   within = t.within;
   written = writes_more (left over) before mid now line (told_text names [] t.told) put t.written;
@@ -129,19 +135,19 @@ begun over names line s before mid now put t = record {
 pub begun_unwritten : {W : Type 0} (names : List (List ℕ)) (line : List ℕ) (s : SessionView W) (before now : Option (List ℕ)) → s.roster ≡ [] → s.told ≡ 0 → GrowsByFront before now line → Begins o.WriteFailed names line s before now
 begun_unwritten names line s before now nobody none put = record {
   told = [];
-  joined = sym nobody;
+  seats = sym nobody;
   sets = sym (ap (λ (k : ℕ). take k (published_by s)) none);
   within = omega (arith, none);
   written = front_longer before now line [] put;
 }
 
 -- a session was held
-pub held_session : {W A : Type 0} (s0 s1 : SessionView W) (settings : Setup) (names : List (List ℕ)) (line : List ℕ) (over : Over) (result : Result A Coordinated) (number : ℕ) (before now next : Option (List ℕ))
-    → s0.hub.coordinator.settings ≡ settings → Steps (left over) s0 s1 → line ≡ session_text number → Begins over names line s1 before now → Parts over result number now next
-    → Holds result names settings number before next
-held_session s0 s1 settings names line over result number before now next same steps is t p = record {
+pub held_session : {W A : Type 0} (s0 s1 : SessionView W) (settings : Setup) (missing : Option ℕ) (names : List (List ℕ)) (line : List ℕ) (over : Over) (result : Result A Coordinated) (number : ℕ) (before now next : Option (List ℕ))
+    → s0.hub.coordinator.settings ≡ settings → s0.missing ≡ missing → Steps (left over) s0 s1 → line ≡ session_text number → Begins over names line s1 before now → Parts over result number now next
+    → Holds result names settings missing number before next
+held_session s0 s1 settings missing names line over result number before now next same waits steps is t p = record {
   held = Some (record { told = t.told; journal = s1.hub.coordinator.journal; over = over });
-  is = session_of s1 settings names line over before now steps.standing steps.leaves (steps.settings ∙ same) t;
+  is = session_of s1 settings missing names line over before now steps.standing steps.leaves (steps.settings ∙ same) (steps.missing ∙ waits) t;
   followed = p.ended;
   final = p.final;
   written =
@@ -216,10 +222,10 @@ parts_failed over number now is = record {
 -- ---- sessions one behind the other
 
 -- so many sessions were held, and each has ended by a cause
-pub record HeldAll (names : List (List ℕ)) (settings : Setup) (count : ℕ) (before now : Option (List ℕ)) : Type 0 where
+pub record HeldAll (names : List (List ℕ)) (settings : Setup) (missing : Option ℕ) (count : ℕ) (before now : Option (List ℕ)) : Type 0 where
   pub past : List PastSession
   pub many : length past ≡ count
-  pub each : All (IsSession settings) past
+  pub each : All (IsSession settings missing) past
   pub each_followed : All IsFollowed past
   pub written : Grows before now (sessions_text names 1 past)
 
@@ -229,22 +235,22 @@ all_push P xs x all one = All-append P xs (x ∷ []) all (λ k d within. only k 
   only zero d within one = one
   only (suc k) d within one = absurd (omega (arith, within))
 
-module _ (names : List (List ℕ)) (settings : Setup) (count : ℕ) (before now next : Option (List ℕ)) (h : HeldAll names settings count before now) where
+module _ (names : List (List ℕ)) (settings : Setup) (missing : Option ℕ) (count : ℕ) (before now next : Option (List ℕ)) (h : HeldAll names settings missing count before now) where
   behind : (s : PastSession) → sessions_text names 1 (h.past ++ s ∷ []) ≡ sessions_text names 1 h.past ++ text_of names (count + 1) s
   behind s = sessions_text-push names 1 h.past s ∙ ap (λ (k : ℕ). sessions_text names 1 h.past ++ text_of names k s) (let m = h.many in omega (arith, m))
 
-  one_more_held : (held : Option PastSession) → IfSome held (IsSession settings) → HasEndedBy held → Grows now next (held_text names (count + 1) held) → HeldAll names settings (count + 1) before next
+  one_more_held : (held : Option PastSession) → IfSome held (IsSession settings missing) → HasEndedBy held → Grows now next (held_text names (count + 1) held) → HeldAll names settings missing (count + 1) before next
   one_more_held None is ended text = absurd ended
   one_more_held (Some s) is ended text = record {
     past = h.past ++ s ∷ [];
     many = length-append h.past (s ∷ []) ∙ ap (λ (k : ℕ). k + 1) h.many;
-    each = all_push (IsSession settings) h.past s h.each is;
+    each = all_push (IsSession settings missing) h.past s h.each is;
     each_followed = all_push IsFollowed h.past s h.each_followed ended;
     written = subst (Grows before next) (sym (behind s)) (grows_more before now next (sessions_text names 1 h.past) (text_of names (count + 1) s) h.written text);
   }
 
   -- one session more was held, and another follows
-  pub held_more : {A : Type 0} (x : A) → Holds {A = A} (Ok x) names settings (count + 1) now next → HeldAll names settings (count + 1) before next
+  pub held_more : {A : Type 0} (x : A) → Holds {A = A} (Ok x) names settings missing (count + 1) now next → HeldAll names settings missing (count + 1) before next
   held_more x one = one_more_held one.held one.is one.followed one.written
 
   text_with : (end : Coordinated) (held : Option PastSession) → WritesEnding end now next (held_text names (count + 1) held) → WritesEnding end before next (sessions_text names 1 (h.past ++ cons_option held []))
@@ -254,7 +260,7 @@ module _ (names : List (List ℕ)) (settings : Setup) (count : ℕ) (before now 
   text_with end (Some s) text = subst (WritesEnding end before next) (sym (behind s)) (ending_more end before now next (sessions_text names 1 h.past) (text_of names (count + 1) s) h.written text)
 
   -- the process ends in one session more
-  pub held_last : {A : Type 0} (end : Coordinated) (limit : ℕ) → Holds {A = A} (Err end) names settings (count + 1) now next → HoldsAll end names settings limit before next
+  pub held_last : {A : Type 0} (end : Coordinated) (limit : ℕ) → Holds {A = A} (Err end) names settings missing (count + 1) now next → HoldsAll end names settings missing limit before next
   held_last end limit one = record {
     past = h.past;
     last = one.held;
@@ -282,9 +288,9 @@ opened_untold (Err end) address a b is put = record {
 
 -- ---- the process
 
-pub coordinated_all : {A : Type 0} (x : A) (end : Coordinated) (names : List (List ℕ)) (settings : Setup) (limit : Option ℕ) (many : ℕ) (before mid now : Option (List ℕ))
-    → many ≡ unwrap_or limit (2 ^ 64 - 1) → Opens {A = A} (Ok x) before mid → HoldsAll end names settings many mid now → Coordinates end names settings limit before now
-coordinated_all x end names settings limit many before mid now count first all = record {
+pub coordinated_all : {A : Type 0} (x : A) (end : Coordinated) (names : List (List ℕ)) (settings : Setup) (missing limit : Option ℕ) (many : ℕ) (before mid now : Option (List ℕ))
+    → many ≡ unwrap_or limit (2 ^ 64 - 1) → Opens {A = A} (Ok x) before mid → HoldsAll end names settings missing many mid now → Coordinates end names settings missing limit before now
+coordinated_all x end names settings missing limit many before mid now count first all = record {
   address = first.address;
   past = all.past;
   last = all.last;
@@ -296,8 +302,8 @@ coordinated_all x end names settings limit many before mid now count first all =
 }
 
 -- the host was not opened, or that was not told
-pub coordinated_none : {A : Type 0} (end : Coordinated) (names : List (List ℕ)) (settings : Setup) (limit : Option ℕ) (before now : Option (List ℕ)) → Opens {A = A} (Err end) before now → Coordinates end names settings limit before now
-coordinated_none end names settings limit before now first = record {
+pub coordinated_none : {A : Type 0} (end : Coordinated) (names : List (List ℕ)) (settings : Setup) (missing limit : Option ℕ) (before now : Option (List ℕ)) → Opens {A = A} (Err end) before now → Coordinates end names settings missing limit before now
+coordinated_none end names settings missing limit before now first = record {
   address = first.address;
   past = [];
   last = None;

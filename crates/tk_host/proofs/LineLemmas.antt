@@ -9,9 +9,9 @@ use Rattle.std.proofs.lemmas.List.{take_more}
 use Rattle.std.proofs.lemmas.Option.{get_or_from_slice_get}
 use Rattle.tk_border.proofs.RisingLemmas.{range-append}
 use Rattle.tk_wire.specs.declared.beginning.Beginning.{Beginning}
-use Rattle.tk_wire.specs.declared.greeting.Greeting.{Greeting}
-use Rattle.tk_host.specs.Origins.{absolute, beginnings_of, none}
-use Rattle.tk_host.specs.Text.{absolute_text, counts_text, monitor_text}
+use Rattle.tk_host.specs.declared.seat.Seat.{Seat}
+use Rattle.tk_host.specs.Origins.{absolute, none}
+use Rattle.tk_host.specs.Text.{counts_text, monitor_text, places_text}
 
 flat_map-push : {X : Type 0} (f : X → List ℕ) (xs : List X) (y : X) → flat_map f (xs ++ y ∷ []) ≡ flat_map f xs ++ f y
 flat_map-push f xs y = flat_map-append f xs (y ∷ []) ∙ ap (λ (l : List ℕ). flat_map f xs ++ l) (append-nil (f y))
@@ -48,15 +48,15 @@ places_more bs places i z is =
     ∙ ap (λ (k : ℕ). join_by text (codes ",") (range_with_len 0 i ++ k ∷ [])) next
     ∙ ap (join_by text (codes ",")) (sym (range-append 0 i 1))
 
-pub monitors_more : (joined : List Greeting) (cut : List (List ℕ)) (i : ℕ) (places : List ℕ) → slice_get cut i ≡ Some places
-    → flat_map (monitor_text joined cut) (range_with_len 1 i) ++ (codes " " ++ decimal (i + 1) ++ codes ":" ++ absolute_text (beginnings_of joined (i + 1)) places)
-    ≡ flat_map (monitor_text joined cut) (range_with_len 1 (i + 1))
-monitors_more joined cut i places here =
-    let front = flat_map (monitor_text joined cut) (range_with_len 1 i) in
+pub monitors_more : (seats : List Seat) (cut : List (List ℕ)) (i : ℕ) (places : List ℕ) → slice_get cut i ≡ Some places
+    → flat_map (monitor_text seats cut) (range_with_len 1 i) ++ (codes " " ++ decimal (i + 1) ++ codes ":" ++ places_text seats (i + 1) places)
+    ≡ flat_map (monitor_text seats cut) (range_with_len 1 (i + 1))
+monitors_more seats cut i places here =
+    let front = flat_map (monitor_text seats cut) (range_with_len 1 i) in
     let next : i + 1 ≡ 1 + i = omega arith in
     let place : i ≡ 1 + i - 1 = omega arith in
-    ap (λ (p : List ℕ). front ++ (codes " " ++ decimal (i + 1) ++ codes ":" ++ absolute_text (beginnings_of joined (i + 1)) p)) (sym (get_or_from_slice_get cut i places [] here))
-    ∙ ap (λ (m : ℕ). front ++ (codes " " ++ decimal m ++ codes ":" ++ absolute_text (beginnings_of joined m) (get_or cut i []))) next
-    ∙ ap (λ (j : ℕ). front ++ (codes " " ++ decimal (1 + i) ++ codes ":" ++ absolute_text (beginnings_of joined (1 + i)) (get_or cut j []))) place
-    ∙ sym (flat_map-push (monitor_text joined cut) (range_with_len 1 i) (1 + i))
-    ∙ ap (flat_map (monitor_text joined cut)) (sym (range-append 1 i 1))
+    ap (λ (p : List ℕ). front ++ (codes " " ++ decimal (i + 1) ++ codes ":" ++ places_text seats (i + 1) p)) (sym (get_or_from_slice_get cut i places [] here))
+    ∙ ap (λ (m : ℕ). front ++ (codes " " ++ decimal m ++ codes ":" ++ places_text seats m (get_or cut i []))) next
+    ∙ ap (λ (j : ℕ). front ++ (codes " " ++ decimal (1 + i) ++ codes ":" ++ places_text seats (1 + i) (get_or cut j []))) place
+    ∙ sym (flat_map-push (monitor_text seats cut) (range_with_len 1 i) (1 + i))
+    ∙ ap (flat_map (monitor_text seats cut)) (sym (range-append 1 i 1))

@@ -49,15 +49,15 @@ IsFinal (Some s) = s.over ≡ o.Finished
 abbrev pub IsDone : Option ℕ → List PastSession → Option PastSession → Type 0
 IsDone limit past last = IsFinal last ⊎ (length past ≡ unwrap_or limit (2 ^ 64 - 1))
 
--- a process that ended so: there are sessions, each over these settings, all but the last one ended by a cause; the text of
--- these sessions was written
-pub record Coordinates (end : Coordinated) (names : List (List ℕ)) (settings : Setup) (limit : Option ℕ) (before now : Option (List ℕ)) : Type 0 where
+-- a process that ended so: there are sessions, each over these settings, with stand-ins after so many seconds, if at all; all but
+-- the last one ended by a cause; the text of these sessions was written
+pub record Coordinates (end : Coordinated) (names : List (List ℕ)) (settings : Setup) (missing limit : Option ℕ) (before now : Option (List ℕ)) : Type 0 where
   pub address : Option (List ℕ)
   pub past : List PastSession
   pub last : Option PastSession
-  pub each : All (IsSession settings) past
+  pub each : All (IsSession settings missing) past
   pub each_followed : All IsFollowed past
-  pub last_is : IfSome last (IsSession settings)
+  pub last_is : IfSome last (IsSession settings missing)
   pub written : WritesEnding end before now (run_text names address (past ++ cons_option last []))
   pub done : end ≡ d.Done → IsDone limit past last
 

@@ -1,5 +1,5 @@
 -- A session while it goes on. No public clause cites it.
-use Rattle.std.specs.Prelude.{ℕ, ◌≡◌, ◌≤◌, true, List, [], length, take, Option, Result, Ok, Err, OnOk, IfErr, ⊤}
+use Rattle.std.specs.Prelude.{ℕ, ◌≡◌, ◌≤◌, ◌⊎◌, ◌++◌, ◌∷◌, true, false, None, List, [], length, take, Option, Result, Ok, Err, OnOk, IfErr, ⊤}
 use Rattle.tk_base.specs.History.{IsFront}
 use Rattle.tk_hub.specs.Hub.{IsHub}
 use Rattle.tk_hub.specs.Turn.{course_of}
@@ -15,13 +15,15 @@ use Rattle.tk_journal.specs.declared.publication.Publication.{Publication}
 use Rattle.tk_wire.specs.Host.{HostState}
 use Rattle.tk_wire.specs.Meanings.{raised_by}
 use Rattle.tk_host.specs.Room.{IsFull}
-use Rattle.tk_host.specs.Session.{IsCausedBy, Told, joined_in, sets_in}
+use Rattle.tk_host.specs.Seats.{has_joined, has_stand_in, is_missing}
+use Rattle.tk_host.specs.Session.{IsCausedBy, Told, seats_in, sets_in}
 use Rattle.tk_host.specs.Tallying.{IsCounted}
 use Rattle.tk_host.specs.Text.{told_text}
 use Rattle.tk_host.specs.declared.cause.Cause.{Cause}
 use Rattle.tk_host.specs.declared.cause.Cause.TheVariants as c
 use Rattle.tk_host.specs.declared.over.Over.{Over}
 use Rattle.tk_host.specs.declared.over.Over.TheVariants as o
+use Rattle.tk_host.specs.declared.seat.Seat.{Seat}
 use Rattle.tk_host.specs.Sitting.{SessionView}
 
 -- ---- the journal
@@ -34,11 +36,13 @@ published_by s = publications s.hub.coordinator.journal
 abbrev pub TellsAll : {W : Type 0} → SessionView W → Type 0
 TellsAll s = s.told ≡ length (published_by s)
 
--- the hub is one, its journal begins as that of these settings, and the bytes of a front of it are counted
+-- the hub is one, its journal begins as that of these settings, the bytes of a front of it are counted,
+-- and no stand-in sits there unless one may
 pub record IsStanding {W : Type 0} (s : SessionView W) : Type 0 where
   pub kept : IsHub s.hub
   pub begins : IsFront (opened (start s.hub.coordinator.settings)) s.hub.coordinator.journal
   pub counted : IsCounted s.hub.coordinator.journal s.tally
+  pub attended : s.missing ≡ None → has_stand_in s.roster ≡ false
 
 -- a session goes on: its hub is open, and all sets are told
 pub record IsGoing {W : Type 0} (s : SessionView W) : Type 0 where
@@ -46,13 +50,20 @@ pub record IsGoing {W : Type 0} (s : SessionView W) : Type 0 where
   pub course : s.hub.course ≡ cs.Open
   pub all : TellsAll s
 
+-- the journal has ended, and no stand-in sits there
+pub record HasFinished {W : Type 0} (s : SessionView W) : Type 0 where
+  pub stopped : is_stopped s.hub.coordinator.journal ≡ true
+  pub attended : has_stand_in s.roster ≡ false
+
 -- what a session shows that is left so
 abbrev pub Leaves : {W : Type 0} → SessionView W → Over → Type 0
-Leaves s o.Finished = TellsAll s × (is_stopped s.hub.coordinator.journal ≡ true)
+Leaves s o.Finished = TellsAll s × HasFinished s
 Leaves s (o.Ended (c.Link mon)) = TellsAll s
 Leaves s (o.Ended (c.Refused mon)) = TellsAll s
 Leaves s (o.Ended (c.Bad mon)) = TellsAll s
 Leaves s (o.Ended (c.Again mon)) = TellsAll s × IsCausedBy s.roster s.hub.coordinator.journal (o.Ended (c.Again mon))
+Leaves s (o.Ended (c.Back mon)) = TellsAll s × IsCausedBy s.roster s.hub.coordinator.journal (o.Ended (c.Back mon))
+Leaves s (o.Ended (c.Early mon)) = IsCausedBy s.roster s.hub.coordinator.journal (o.Ended (c.Early mon))
 Leaves s (o.Ended c.Full) = TellsAll s × IsFull s.hub.coordinator.journal
 Leaves s (o.Ended c.Memory) = ⊤
 Leaves s o.HostFailed = TellsAll s
@@ -64,6 +75,7 @@ pub record Steps {W A : Type 0} (result : Result A Over) (old new : SessionView 
   pub going : OnOk result (IsGoing new)
   pub leaves : IfErr result (Leaves new)
   pub settings : new.hub.coordinator.settings ≡ old.hub.coordinator.settings
+  pub missing : new.missing ≡ old.missing
 
 -- a turn of the hub: the journal grows, and nothing is told
 pub record Turns {W : Type 0} (turn : HubTurn) (old new : SessionView W) : Type 0 where
@@ -76,6 +88,7 @@ pub record Turns {W : Type 0} (turn : HubTurn) (old new : SessionView W) : Type 
   pub roster : new.roster ≡ old.roster
   pub told : new.told ≡ old.told
   pub tally : new.tally ≡ old.tally
+  pub missing : new.missing ≡ old.missing
 
 -- behind a turn whose sets are told
 pub record EndsTurn {W : Type 0} (turn : HubTurn) (s : SessionView W) : Type 0 where
@@ -84,6 +97,26 @@ pub record EndsTurn {W : Type 0} (turn : HubTurn) (s : SessionView W) : Type 0 w
   pub course : s.hub.course ≡ course_of turn
   pub written : turn ≡ t.WriteFailed → ⊥
   pub finished : turn ≡ t.Finished → is_stopped s.hub.coordinator.journal ≡ true
+  pub attended : is_stopped s.hub.coordinator.journal ≡ true → has_stand_in s.roster ≡ false
+
+-- a cause by which one who greets ends a session
+abbrev pub IsBarred : List Seat → Cause → Type 0
+IsBarred seats (c.Link mon) = ⊥
+IsBarred seats (c.Refused mon) = ⊥
+IsBarred seats (c.Bad mon) = ⊥
+IsBarred seats (c.Again mon) = has_joined seats mon.0 ≡ true
+IsBarred seats (c.Back mon) = is_missing seats mon.0 ≡ true
+IsBarred seats (c.Early mon) = ⊥
+IsBarred seats c.Full = ⊥
+IsBarred seats c.Memory = ⊥
+
+-- a session is left since there is no memory
+abbrev pub IsMemory : Over → Type 0
+IsMemory over = over ≡ o.Ended c.Memory
+
+-- a seat is taken, or none is
+abbrev pub IsSeated : Seat → List Seat → List Seat → Type 0
+IsSeated seat old new = (new ≡ old ++ seat ∷ []) ⊎ (new ≡ old)
 
 -- a cause that is a link
 abbrev pub IsLink : Cause → Type 0
@@ -91,6 +124,8 @@ IsLink (c.Link mon) = ⊤
 IsLink (c.Refused mon) = ⊥
 IsLink (c.Bad mon) = ⊥
 IsLink (c.Again mon) = ⊥
+IsLink (c.Back mon) = ⊥
+IsLink (c.Early mon) = ⊥
 IsLink c.Full = ⊥
 IsLink c.Memory = ⊥
 
@@ -116,10 +151,10 @@ going = Ok tt
 abbrev pub left : Over → Result (Unit {0}) Over
 left over = Err over
 
--- what was told so far: those who have joined, and the first sets of the journal; its text was written
+-- what was told so far: the seats that are taken, and the first sets of the journal; its text was written
 pub record IsTold {W A : Type 0} (result : Result A Over) (names : List (List ℕ)) (s : SessionView W) (before now : Option (List ℕ)) : Type 0 where
   pub told : List Told
-  pub joined : joined_in told ≡ s.roster
+  pub seats : seats_in told ≡ s.roster
   pub sets : sets_in told ≡ take s.told (published_by s)
   pub within : s.told ≤ length (published_by s)
   pub written : WritesStep result before now (told_text names [] told)
@@ -140,6 +175,8 @@ IsUntold (o.Ended (c.Link mon)) = ⊥
 IsUntold (o.Ended (c.Refused mon)) = ⊥
 IsUntold (o.Ended (c.Bad mon)) = ⊥
 IsUntold (o.Ended (c.Again mon)) = ⊥
+IsUntold (o.Ended (c.Back mon)) = ⊥
+IsUntold (o.Ended (c.Early mon)) = ⊥
 IsUntold (o.Ended c.Full) = ⊥
 IsUntold (o.Ended c.Memory) = ⊤
 IsUntold o.HostFailed = ⊥
@@ -152,6 +189,8 @@ IsOfHost (o.Ended (c.Link mon)) = ⊥
 IsOfHost (o.Ended (c.Refused mon)) = ⊥
 IsOfHost (o.Ended (c.Bad mon)) = ⊥
 IsOfHost (o.Ended (c.Again mon)) = ⊥
+IsOfHost (o.Ended (c.Back mon)) = ⊥
+IsOfHost (o.Ended (c.Early mon)) = ⊥
 IsOfHost (o.Ended c.Full) = ⊥
 IsOfHost (o.Ended c.Memory) = ⊤
 IsOfHost o.HostFailed = ⊤

@@ -6,7 +6,7 @@ use Rattle.tk_wire.specs.Host.{HostState}
 use Rattle.tk_wire.specs.Meanings.{raised_by}
 use Rattle.tk_host.specs.Coordinating.{IsFinal, IsFollowed, WritesEnding, WritesOn, opening_text, run_faults}
 use Rattle.tk_host.specs.Going.{WritesLeft, published_by}
-use Rattle.tk_host.specs.Session.{IsEnded, IsSession, PastSession, Told, joined_in, sets_in}
+use Rattle.tk_host.specs.Session.{IsEnded, IsSession, PastSession, Told, seats_in, sets_in}
 use Rattle.tk_host.specs.Sitting.{SessionView}
 use Rattle.tk_host.specs.Text.{over_text, sessions_text, text_of, told_text}
 use Rattle.tk_host.specs.declared.coordinated.Coordinated.{Coordinated}
@@ -14,10 +14,10 @@ use Rattle.tk_host.specs.declared.coordinated.Coordinated.TheVariants as d
 use Rattle.tk_host.specs.declared.over.Over.{Over}
 use Rattle.tk_host.specs.declared.over.Over.TheVariants as o
 
--- what was told in a session that began with a line and was left so: who joined, and the first sets; its text was written
+-- what was told in a session that began with a line and was left so: the seats that were taken, and the first sets; its text was written
 pub record Begins {W : Type 0} (over : Over) (names : List (List ℕ)) (line : List ℕ) (s : SessionView W) (before now : Option (List ℕ)) : Type 0 where
   pub told : List Told
-  pub joined : joined_in told ≡ s.roster
+  pub seats : seats_in told ≡ s.roster
   pub sets : sets_in told ≡ take s.told (published_by s)
   pub within : s.told ≤ length (published_by s)
   pub written : WritesLeft over before now (line ++ told_text names [] told)
@@ -33,9 +33,9 @@ HasEndedBy None = ⊥
 HasEndedBy (Some s) = IsEnded s.over
 
 -- a session was held, or did not begin; its text was written
-pub record Holds {A : Type 0} (result : Result A Coordinated) (names : List (List ℕ)) (settings : Setup) (number : ℕ) (before now : Option (List ℕ)) : Type 0 where
+pub record Holds {A : Type 0} (result : Result A Coordinated) (names : List (List ℕ)) (settings : Setup) (missing : Option ℕ) (number : ℕ) (before now : Option (List ℕ)) : Type 0 where
   pub held : Option PastSession
-  pub is : IfSome held (IsSession settings)
+  pub is : IfSome held (IsSession settings missing)
   pub followed : OnOk result (HasEndedBy held)
   pub final : IfErr result (λ end. end ≡ d.Done → IsFinal held)
   pub written : WritesOn result before now (held_text names number held)
@@ -81,11 +81,11 @@ pub record Parts {A : Type 0} (over : Over) (result : Result A Coordinated) (num
   pub written : WritesOn result before now (over_text number over)
 
 -- the sessions of a process, behind its first line
-pub record HoldsAll (end : Coordinated) (names : List (List ℕ)) (settings : Setup) (limit : ℕ) (before now : Option (List ℕ)) : Type 0 where
+pub record HoldsAll (end : Coordinated) (names : List (List ℕ)) (settings : Setup) (missing : Option ℕ) (limit : ℕ) (before now : Option (List ℕ)) : Type 0 where
   pub past : List PastSession
   pub last : Option PastSession
-  pub each : All (IsSession settings) past
+  pub each : All (IsSession settings missing) past
   pub each_followed : All IsFollowed past
-  pub last_is : IfSome last (IsSession settings)
+  pub last_is : IfSome last (IsSession settings missing)
   pub written : WritesEnding end before now (sessions_text names 1 (past ++ cons_option last []))
   pub done : end ≡ d.Done → IsFinal last ⊎ (length past ≡ limit)

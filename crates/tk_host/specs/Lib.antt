@@ -1,10 +1,13 @@
 pub mod Coordinating
 pub mod Going
 pub mod Holding
+pub mod Near
 pub mod Origins
 pub mod Over
 pub mod Room
+pub mod Seats
 pub mod Session
 pub mod Sitting
 pub mod Tallying
 pub mod Text
+pub mod Unfed

@@ -1,7 +1,6 @@
 -- From where the streams of a monitor are counted, by its greeting.
-use Rattle.std.specs.Prelude.{ℕ, ◌==◌, if◌then◌else◌, ℤ, pos, ◌+ℤ◌, ◌-ℤ◌, List, [], ◌∷◌, slice_index_or}
+use Rattle.std.specs.Prelude.{ℕ, ℤ, pos, ◌+ℤ◌, ◌-ℤ◌, List, slice_index_or}
 use Rattle.tk_wire.specs.declared.beginning.Beginning.{Beginning}
-use Rattle.tk_wire.specs.declared.greeting.Greeting.{Greeting}
 
 -- the beginning of a stream of which nobody told
 abbrev pub none : Beginning
@@ -10,11 +9,6 @@ none = record { count = 0; start = 0 }
 -- the origin of a stream: how many records it has given, without the place at which it starts
 abbrev pub origin_of : Beginning → ℤ
 origin_of b = pos b.count -ℤ pos b.start
-
--- how the streams of a monitor began, by who has joined
-abbrev pub beginnings_of : List Greeting → ℕ → List Beginning
-beginnings_of [] mon = []
-beginnings_of (g ∷ joined) mon = if g.mon.0 == mon then g.beginnings.items else beginnings_of joined mon
 
 -- the absolute place of a stream: its origin and its place
 abbrev pub absolute : List Beginning → List ℕ → ℕ → ℤ

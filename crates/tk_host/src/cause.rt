@@ -11,6 +11,10 @@ pub enum Cause {
     Bad(Mon),
     /// This monitor had joined, and greeted again on another connection.
     Again(Mon),
+    /// A stand-in had taken the seat of this monitor, and it greeted.
+    Back(Mon),
+    /// The journal came to its end while a stand-in sat in the seat of this monitor. No stand-in tells an end.
+    Early(Mon),
     /// The frames of its journal had too many bytes together.
     Full,
     /// Memory was wanted.

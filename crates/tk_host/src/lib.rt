@@ -6,6 +6,7 @@
 #![tactic(auto)]
 
 mod cause;
+mod contact;
 mod coordinated;
 mod coordinating;
 mod holding;
@@ -16,9 +17,13 @@ mod lingering;
 mod no_sink;
 mod over;
 mod putting;
+mod reach;
 mod roster;
+mod seat;
 mod session;
+mod stand_in;
 mod tally;
+mod waiting;
 
 pub use coordinated::Coordinated;
 pub use coordinating::coordinate;

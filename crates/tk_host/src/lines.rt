@@ -2,12 +2,13 @@
 
 ghost use Rattle.std.specs.Prelude.{◌≡◌, ◌≤◌, ◌++◌, ◌+ℤ◌, if◌then◌else◌, pos, IfOk, OnOk, All, [], codes, decimal, length, slice_index_or};
 ghost use Rattle.std.specs.Fmt.{signed_decimal};
-ghost use Rattle.tk_host.specs.Origins.{beginnings_of, none, origin_of};
-ghost use Rattle.tk_host.specs.Text.{absolute_text, cause_text, counts_text, cut_text, ended_text, joined_text, listening_text, session_text, set_text};
+ghost use Rattle.tk_host.specs.Origins.{none, origin_of};
+ghost use Rattle.tk_host.specs.Text.{absolute_text, cause_text, counts_text, cut_text, ended_text, joined_text, listening_text, missing_text, places_text, seat_text, session_text, set_text};
 ghost use Rattle.tk_journal.specs.Line.{kind_text, names_text};
 
 use crate::cause::Cause;
 use crate::roster::Roster;
+use crate::seat::Seat;
 use itoa::{Buffer, Integer};
 use std::alloc::{AllocError, Global};
 use tk_base::{Cut, Mon, ObjSet, Places};
@@ -64,7 +65,7 @@ fn push_counts(line: &mut Vec<u8>, beginnings: &[Beginning]) -> Result<(), Alloc
 }
 
 /// The line of a monitor that joins: it stands at the counts of its streams.
-pub fn joined_line(alloc: Global, greeting: &Greeting) -> Result<Vec<u8>, AllocError>
+fn joined_line(alloc: Global, greeting: &Greeting) -> Result<Vec<u8>, AllocError>
     ensures { IfOk result (λ line. line.items ≡ joined_text greeting.now) }
 {
     let mut line = Vec::new(alloc);
@@ -75,6 +76,26 @@ pub fn joined_line(alloc: Global, greeting: &Greeting) -> Result<Vec<u8>, AllocE
     Ok(line)
 }
 
+/// The line of a monitor that is missing.
+fn missing_line(alloc: Global, mon: Mon) -> Result<Vec<u8>, AllocError>
+    ensures { IfOk result (λ line. line.items ≡ missing_text mon) }
+{
+    let mut line = Vec::new(alloc);
+    push_named(&mut line, b"missing ", mon.0)?;
+    line.extend_from_slice(b"\n")?;
+    Ok(line)
+}
+
+/// The line of a seat that is taken.
+pub fn seat_line(alloc: Global, seat: &Seat) -> Result<Vec<u8>, AllocError>
+    ensures { IfOk result (λ line. line.items ≡ seat_text seat.now) }
+{
+    match seat {
+        Seat::Joined(greeting) => joined_line(alloc, greeting),
+        Seat::Missing(mon) => missing_line(alloc, *mon),
+    }
+}
+
 fn push_cause(line: &mut Vec<u8>, cause: Cause) -> Result<(), AllocError>
     ensures { OnOk result (line.new.items ≡ line.old.items ++ cause_text cause) }
 {
@@ -83,6 +104,8 @@ fn push_cause(line: &mut Vec<u8>, cause: Cause) -> Result<(), AllocError>
         Cause::Refused(mon) => push_named(line, b"refused ", mon.0),
         Cause::Bad(mon) => push_named(line, b"bad ", mon.0),
         Cause::Again(mon) => push_named(line, b"again ", mon.0),
+        Cause::Back(mon) => push_named(line, b"back ", mon.0),
+        Cause::Early(mon) => push_named(line, b"early ", mon.0),
         Cause::Full => line.extend_from_slice(b"full"),
         Cause::Memory => line.extend_from_slice(b"memory"),
     }
@@ -143,6 +166,22 @@ fn push_absolute(
     Ok(())
 }
 
+/// The absolute places of a monitor; a stand-in has none.
+fn push_places(
+    line: &mut Vec<u8>,
+    roster: &Roster,
+    mon: u64,
+    places: &Places,
+) -> Result<(), AllocError>
+    ensures { OnOk result (line.new.items ≡ line.old.items ++ places_text roster.now mon places.now) }
+{
+    if roster.misses(mon) {
+        line.extend_from_slice(b"-")
+    } else {
+        push_absolute(line, roster.beginnings(mon), places)
+    }
+}
+
 fn push_monitor(
     line: &mut Vec<u8>,
     roster: &Roster,
@@ -150,11 +189,11 @@ fn push_monitor(
     places: &Places,
 ) -> Result<(), AllocError>
     ensures { OnOk result (line.new.items
-        ≡ line.old.items ++ (codes " " ++ decimal mon ++ codes ":" ++ absolute_text (beginnings_of roster.now mon) places.now)) }
+        ≡ line.old.items ++ (codes " " ++ decimal mon ++ codes ":" ++ places_text roster.now mon places.now)) }
 {
     push_named(line, b" ", mon)?;
     line.extend_from_slice(b":")?;
-    push_absolute(line, roster.beginnings(mon), places)
+    push_places(line, roster, mon, places)
 }
 
 fn push_cut(line: &mut Vec<u8>, roster: &Roster, cut: &Cut) -> Result<(), AllocError>

@@ -33,7 +33,7 @@ fn drain_all<W: Wire>(links: &mut [W]) -> bool {
 
 /// Keeps the links of a hub that has finished until each has ended, or so many waits have passed: a link that is closed
 /// while something comes over it may lose what was given to it.
-pub fn linger<H: Host>(host: &mut H, hub: Hub<H::Link>, waits: u64)
+pub fn linger<H: Host, W: Wire + Drop>(host: &mut H, hub: Hub<W>, waits: u64)
     requires { (H.state host.old).listens ≡ true }
 {
     let (end, mut links) = hub.into_end();

@@ -1,55 +1,100 @@
-ghost use Rattle.std.specs.Prelude.{◌≡◌, ◌++◌, ◌∷◌, [], OnErr, OnOk};
-ghost use Rattle.tk_host.specs.Origins.{beginnings_of};
-ghost use Rattle.tk_host.specs.Session.{has_joined};
+ghost use Rattle.std.specs.Prelude.{◌≡◌, ◌++◌, ◌∷◌, ◌≤◌, ◌<◌, [], false, true, IfNone, IfSome, OnErr, OnOk, length};
+ghost use Rattle.tk_host.specs.Seats.{beginnings_of, has_joined, has_stand_in, is_missing};
 
+use crate::seat::Seat;
 use std::alloc::Global;
 use std::marker::Model;
 use tk_base::{Mon, NoMemory};
-use tk_wire::{Beginning, Greeting};
+use tk_wire::Beginning;
 
-/// The monitors that have joined a session, in order, each by its greeting. Contracts see the greetings.
+/// The seats that are taken in a session, in order. Contracts see the seats.
 #[derive(Drop)]
 pub struct Roster {
-    joined: Vec<Greeting>,
+    seats: Vec<Seat>,
 }
 
 impl Model for Roster {
     ghost use Rattle.std.specs.Prelude.{List};
-    ghost use Rattle.tk_wire.specs.declared.greeting.Greeting.{Greeting};
+    ghost use Rattle.tk_host.specs.declared.seat.Seat.{Seat};
 
-    ghost Value = { List Greeting };
+    ghost Value = { List Seat };
 
-    ghost view = { λ r. r.joined.items };
+    ghost view = { λ r. r.seats.items };
 }
 
 impl Roster {
-    /// Nobody has joined.
+    /// Nobody is there.
     pub fn new(alloc: Global) -> Roster
         ensures { result ≡ [] }
     {
         Roster {
-            joined: Vec::new(alloc),
+            seats: Vec::new(alloc),
         }
     }
 
-    /// Whether a monitor has joined.
-    pub fn has(&self, mon: Mon) -> bool
-        ensures { result ≡ has_joined self.now mon.0 }
+    /// How many seats are taken.
+    pub fn len(&self) -> usize
+        ensures { result ≡ length self.now }
     {
-        for i in 0..self.joined.len() {
-            if self.joined[i].mon.0 == mon.0 {
+        self.seats.len()
+    }
+
+    /// Whether a monitor has joined.
+    pub fn has(&self, mon: u64) -> bool
+        ensures { result ≡ has_joined self.now mon }
+    {
+        for i in 0..self.seats.len() {
+            if self.seats[i].joins(mon) {
                 return true;
             }
         }
         false
     }
 
-    /// One more joins.
-    pub fn join(&mut self, greeting: Greeting) -> Result<(), NoMemory>
-        ensures ok { OnOk result (self.new ≡ self.old ++ greeting ∷ []) }
+    /// Whether a stand-in sits there for a monitor.
+    pub fn misses(&self, mon: u64) -> bool
+        ensures { result ≡ is_missing self.now mon }
+    {
+        for i in 0..self.seats.len() {
+            if self.seats[i].misses(mon) {
+                return true;
+            }
+        }
+        false
+    }
+
+    /// The first monitor for which a stand-in sits there, if there is one.
+    pub fn missing(&self) -> Option<Mon>
+        ensures none { IfNone result (has_stand_in self.now ≡ false) }
+        ensures some { IfSome result (λ mon. is_missing self.now mon.0 ≡ true) }
+    {
+        for i in 0..self.seats.len() {
+            if let Seat::Missing(mon) = &self.seats[i] {
+                return Some(*mon);
+            }
+        }
+        None
+    }
+
+    /// The least of so many monitors that has no seat, if there is one.
+    pub fn absent(&self, monitors: u32) -> Option<Mon>
+        ensures { IfSome result (λ mon. (0 < mon.0) × (mon.0 ≤ monitors)) }
+    {
+        for i in 0..monitors {
+            let mon = u64::from(i) + 1;
+            if !self.has(mon) && !self.misses(mon) {
+                return Some(Mon(i + 1));
+            }
+        }
+        None
+    }
+
+    /// One more seat is taken.
+    pub fn seat(&mut self, seat: Seat) -> Result<(), NoMemory>
+        ensures ok { OnOk result (self.new ≡ self.old ++ seat ∷ []) }
         ensures err { OnErr result (self.new ≡ self.old) }
     {
-        self.joined.push(greeting)?;
+        self.seats.push(seat)?;
         Ok(())
     }
 
@@ -57,9 +102,9 @@ impl Roster {
     pub fn beginnings(&self, mon: u64) -> &[Beginning]
         ensures { result.now ≡ beginnings_of self.now mon }
     {
-        for i in 0..self.joined.len() {
-            if u64::from(self.joined[i].mon.0) == mon {
-                return self.joined[i].beginnings.as_slice();
+        for i in 0..self.seats.len() {
+            if self.seats[i].joins(mon) {
+                return self.seats[i].beginnings();
             }
         }
         &[]

@@ -3,6 +3,7 @@ ghost use Rattle.tk_journal.specs.Legal.{opened, start};
 
 mod telling;
 mod turning;
+mod waiting;
 mod weighing;
 
 use crate::knock::Knock;
@@ -15,14 +16,17 @@ use tk_coord::Coordinator;
 use tk_hub::Hub;
 use tk_wire::Wire;
 
-/// One run of the protocol while it goes on: the hub, who has joined, how many sets are told, how many bytes its frames have,
-/// and a connection on which a monitor greeted again, with which the next session begins. Contracts see all but that.
+/// One run of the protocol while it goes on: the hub, the seats that are taken, how many sets are told, how many bytes its frames
+/// have, after how many seconds a stand-in takes a seat, and a connection with which the next session begins. Contracts see
+/// all but the run and that.
 #[derive(Drop)]
 pub struct Session<W: Wire> {
     hub: Hub<W>,
     roster: Roster,
     told: usize,
     tally: Tally,
+    missing: Option<u64>,
+    run: u64,
     again: Option<Knock<W>>,
 }
 
@@ -31,17 +35,23 @@ impl<W: Wire> Model for Session<W> {
 
     ghost Value = { SessionView W };
 
-    ghost view = { λ s. record { hub = s.hub; roster = s.roster; told = s.told; tally = s.tally } };
+    ghost view = { λ s. record { hub = s.hub; roster = s.roster; told = s.told; tally = s.tally; missing = s.missing } };
 }
 
 impl<W: Wire + Drop> Session<W> {
     ghost use Rattle.tk_host.specs.Going.{IsGoing};
 
-    /// Nobody has joined.
-    pub fn new(alloc: Global, settings: Settings, run: u64) -> Result<Session<W>, NoMemory>
+    /// Nobody is there.
+    pub fn new(
+        alloc: Global,
+        settings: Settings,
+        run: u64,
+        missing: Option<u64>,
+    ) -> Result<Session<W>, NoMemory>
         ensures settings { IfOk result (λ s. s.hub.coordinator.settings ≡ settings) }
         ensures journal { IfOk result (λ s. s.hub.coordinator.journal ≡ opened (start settings)) }
         ensures roster { IfOk result (λ s. s.roster ≡ []) }
+        ensures missing { IfOk result (λ s. s.missing ≡ missing) }
         ensures told { IfOk result (λ s. s.told ≡ 0) }
         ensures going { IfOk result IsGoing }
     {
@@ -52,6 +62,8 @@ impl<W: Wire + Drop> Session<W> {
             roster: Roster::new(alloc),
             told: 0,
             tally: Tally::new(),
+            missing,
+            run,
             again: None,
         })
     }

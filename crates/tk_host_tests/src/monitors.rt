@@ -9,7 +9,7 @@ use tk_net::{DialedLink, MemDialer, MemLink};
 use tk_wire::{Beginning, Dialed, Dialer, Gave, Greeting, Took, Wire};
 
 /// The link of a monitor.
-type Line = DialedLink<MemLink>;
+pub type Line = DialedLink<MemLink>;
 
 /// How often a monitor looks for what comes.
 const LOOKS: u32 = 1_000_000;
@@ -144,6 +144,15 @@ pub fn knock(alloc: Global, dialer: &mut MemDialer, run: u64, mon: u32, beginnin
         say(&mut link, &HELLO_1);
         drop(link);
     }
+}
+
+/// Monitor 1, which is at the end of its log, a,5, and says no more.
+pub fn settled(alloc: Global, dialer: &mut MemDialer) -> Option<Line> {
+    let new = Beginning { count: 0, start: 0 };
+    let mut one = greet(alloc, dialer, RUN, 1, new)?;
+    say(&mut one, &HELLO_1);
+    say(&mut one, &SETTLED_1);
+    Some(one)
 }
 
 /// What the two monitors say and hear, until each has heard Stop.

@@ -30,4 +30,4 @@ pub data EndsCoordinator (words : CoordinateWords) (met : Surroundings) (status 
   Unread : LoadsCoordinator met.reads words (Err status) → IsUnwritten met.output → EndsCoordinator words met status
   Unhosted : (input : CoordinatorInput) (fault : NetFault) → LoadsCoordinator met.reads words (Ok input) → status ≡ status_of_net fault → IsUnwritten met.output → EndsCoordinator words met status
   Ran : (input : CoordinatorInput) (end : Coordinated) → LoadsCoordinator met.reads words (Ok input) → status ≡ status_of end
-      → Coordinates end input.names input.settings words.sessions met.output.before met.output.after → EndsCoordinator words met status
+      → Coordinates end input.names input.settings words.missing words.sessions met.output.before met.output.after → EndsCoordinator words met status

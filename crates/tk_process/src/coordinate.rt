@@ -71,6 +71,7 @@ pub fn serve_coordinator<R: Wait + Clock, F: Files, M: Hosts, O: Sink>(
         input.run,
         words.listen,
         words.sessions,
+        words.missing,
         words.silence,
         out,
     );

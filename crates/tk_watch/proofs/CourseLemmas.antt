@@ -41,7 +41,7 @@ goes_first W named a = record { pasts = []; each = tt; numbered = refl; text = g
 -- one more was left
 pub goes_on : (W : Type 0) (named : Named) (number next : ℕ) (cause : Cause) (a b c : Option (List ℕ)) → next ≡ raised_by 1 number → GoesOn W named number a b → PassesOn W named number cause b c → GoesOn W named next a c
 goes_on W named number next cause a b c raised goes passes =
-    let p : Past = record { counts = passes.counts; cause = cause } in
+    let p : Past = record { counts = passes.counts; ticks = passes.ticks; cause = cause } in
     let numbered : Grows b c (said_text (number_after 1 (length goes.pasts)) (said_of p)) = subst (λ (n : ℕ). Grows b c (said_text n (said_of p))) goes.numbered passes.text in
     record {
       pasts = goes.pasts ++ p ∷ [];

@@ -3,6 +3,7 @@ mod BeginningLemmas
 mod CourseLemmas
 mod TakingLemmas
 mod EachLemmas
+mod EndsLemmas
 mod HeldLemmas
 mod JoinLemmas
 mod LastTicksLemmas
@@ -16,3 +17,4 @@ mod BegunLemmas
 mod FreshLemmas
 mod FeedingLemmas
 mod GreetingLemmas
+mod TallyLemmas

@@ -1,19 +1,20 @@
 -- What no call changes of a watch, and what is known of its connections.
 use Rattle.std.proofs.Common.{◌≡◌, ◌≤◌, ℕ, Bool, true, false, List, length, inl, inr, refl, sym, ap, ◌∙◌, subst}
-use Rattle.std.specs.Prelude.{ℤ}
+use Rattle.std.specs.Prelude.{ℤ, IfSome, Option}
 use Rattle.tk_base.specs.declared.ids.Feeder.{Feeder}
 use Rattle.tk_monitor.specs.declared.outcome.Raised.{Raised}
 use Rattle.tk_monitor.specs.declared.outcome.Raised.TheVariants as o
 use Rattle.tk_trail.proofs.GrowingLemmas.{length-grown_parts}
 use Rattle.tk_trail.proofs.LawLemmas.{stopped_rest}
 use Rattle.tk_compact.proofs.BeginLemmas.{count_anew}
+use Rattle.tk_port.specs.Port.{PortView}
 use Rattle.tk_watch.specs.Connections.{GoesOnAs, HasEnded, HasJoined, IsLeft}
 use Rattle.tk_watch.specs.Told.{Closes, Counts, Tells, made_room}
-use Rattle.tk_watch.specs.Watch.{Begins, IsWatch, Named, Turns, WatchView, named_of, refilled}
+use Rattle.tk_watch.specs.Watch.{Begins, IsEndOf, IsWatch, Named, Turns, WatchView, named_of, refilled}
+use Rattle.tk_watch.specs.declared.cause.Cause.{Cause}
 use Rattle.tk_watch.specs.declared.cause.Cause.TheVariants as cause_
 use Rattle.tk_watch.specs.declared.told.Told.{Told}
 use Rattle.tk_watch.specs.declared.told.Told.TheVariants as t
-use Rattle.tk_watch.specs.declared.turned.Turned.{Turned}
 use Rattle.tk_watch.specs.declared.turned.Turned.TheVariants as u
 use Rattle.tk_watch.proofs.TurningLemmas.{turned_named}
 
@@ -56,18 +57,34 @@ has_joined named old new counts is kept now begins same = record {
   counts_are = ap (λ (w : WatchView _). w.counts) begins.joined ∙ sym same;
 }
 
-pub goes_on_as : {W : Type 0} (named : Named) (turned : Turned) (old new : WatchView W) → named_of old ≡ named → IsWatch new → Turns turned old new → GoesOnAs W named
-goes_on_as named turned old new is kept turns = record { watch = new; named_is = turned_named turned old new turns ∙ is; kept = kept }
+pub goes_on_as : {W : Type 0} (named : Named) (old new : WatchView W) → named_of old ≡ named → IsWatch new → Turns u.Quiet old new → GoesOnAs W named
+goes_on_as named old new is kept turns = record { watch = new; named_is = turned_named u.Quiet old new turns ∙ is; kept = kept; connected = turns.end }
 
 -- a rest that fails is a failed link
 pub link_left : {W : Type 0} (named : Named) → GoesOnAs W named → IsLeft W named cause_.Link
-link_left named goes = record { watch = goes.watch; named_is = goes.named_is; kept = goes.kept; shows = tt }
+link_left named goes = record {
+  watch = goes.watch;
+  named_is = goes.named_is;
+  kept = goes.kept;
+  shows = tt;
+  end = subst (λ (o : Option (PortView _)). IfSome o (IsEndOf goes.watch)) (sym goes.connected.joined) goes.connected.end;
+}
+
+pub has_left : {W : Type 0} (named : Named) (cause : Cause) (old new : WatchView W) → named_of old ≡ named → IsWatch new → Turns (u.Left cause) old new → IsLeft W named cause
+has_left named cause old new is kept turns = record {
+  watch = new;
+  named_is = turned_named (u.Left cause) old new turns ∙ is;
+  kept = kept;
+  shows = turns.tells;
+  end = turns.end;
+}
 
 pub has_ended : {W : Type 0} (named : Named) (old new : WatchView W) (counts : List ℕ) → named_of old ≡ named → IsWatch new → Turns u.Stopped old new → counts ≡ new.counts → HasEnded W named counts
 has_ended named old new counts is kept turns same = record {
   watch = new;
   named_is = turned_named u.Stopped old new turns ∙ is;
   kept = kept;
+  connected = turns.end;
   stopped = turns.tells;
   ends = (stopped_rest new.monitor.setup new.monitor.trail kept.within.from.shape kept.legal turns.tells).ends;
   counts_are = sym same;

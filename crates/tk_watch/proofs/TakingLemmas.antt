@@ -59,7 +59,7 @@ taking_from : (r : Run) (item : Item) → taking r item ≡ record { kept = (run
 taking_from r (i.Record c) = refl
 taking_from r i.Tick = refl
 
-run_more : (k : Kept) (items : List Item) (item : Item) → run_on k (items ++ item ∷ []) ≡ taking (run_on k items) item
+pub run_more : (k : Kept) (items : List Item) (item : Item) → run_on k (items ++ item ∷ []) ≡ taking (run_on k items) item
 run_more k items item = fold_push taking (record { kept = k; told = [] }) items item
 
 pub takes_more : {W : Type 0} (old now new : WatchView W) (ks mid after : List Kept) (f : Feeder) (items : List Item) (item : Item)

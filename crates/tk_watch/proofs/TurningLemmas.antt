@@ -12,13 +12,14 @@ use Rattle.tk_trail.specs.declared.entry.Entry.{Entry}
 use Rattle.tk_trail.specs.declared.entry.Entry.TheVariants.{Took}
 use Rattle.tk_trail.proofs.PlacesLemmas.{places_at-sent, places_at-took}
 use Rattle.tk_compact.specs.Room.{IsWaiting, IsWeighed}
-use Rattle.tk_port.specs.Port.{PortView}
+use Rattle.tk_port.specs.Port.{IsPort, PortView}
 use Rattle.tk_port.specs.Turn.{Checks, Reaches, Stays, Takes}
 use Rattle.tk_port.proofs.ExchangeLemmas.{reaches_setup}
 use Rattle.tk_port.proofs.PortLemmas.{reaches_legal}
 use Rattle.tk_watch.specs.Standing.{StandingView}
+use Rattle.tk_watch.specs.TrailSize.{KeepsRoom}
 use Rattle.tk_watch.specs.Turning.{Looks, LooksAt, LooksOn, SaysOf}
-use Rattle.tk_watch.specs.Watch.{IsWatch, Shows, Tells, Turns, WatchView, named_of}
+use Rattle.tk_watch.specs.Watch.{IsConnected, IsEndOf, IsWatch, KeepsPort, Shows, Tells, Turns, WatchView, named_of}
 use Rattle.tk_watch.specs.declared.cause.Cause.TheVariants as c
 use Rattle.tk_watch.specs.declared.turned.Turned.{Turned}
 use Rattle.tk_watch.specs.declared.turned.Turned.TheVariants as t
@@ -86,16 +87,29 @@ tells_of t.Quiet w after monitor port says = tt
 tells_of t.Stopped w after monitor port says = ap (λ (m : MonitorView). is_stopped m.trail) monitor ∙ says
 tells_of (t.Left cause) w after monitor port says = subst (λ (o : Option (PortView _)). Shows cause o) (sym port) says
 
+-- it leaves the watch at its end of the connection
+port_of : {W : Type 0} (turned : Turned) (w : WatchView W) → IsConnected w → KeepsPort turned w
+port_of t.More w is = is
+port_of t.Quiet w is = is
+port_of t.Stopped w is = is
+port_of (t.Left cause) w is = subst (λ (o : Option (PortView _)). IfSome o (IsEndOf w)) (sym is.joined) is.end
+
 turns_on : {W : Type 0} (turned : Turned) (w : WatchView W) (new : StandingView W) → LooksOn turned (record { monitor = w.monitor; port = w.port }) new → Turns turned w (record w { monitor = new.monitor; port = new.port })
 turns_on turned w new on = record {
   reaches = on.reaches;
   tells = tells_of turned (record w { monitor = new.monitor; port = new.port }) on.after (ap (λ (s : StandingView _). s.monitor) on.is) (ap (λ (s : StandingView _). s.port) on.is) on.says;
+  room = subst (λ (m : MonitorView). KeepsRoom turned m.trail) (sym (ap (λ (s : StandingView _). s.monitor) on.is)) on.room;
+  end = port_of turned (record w { monitor = new.monitor; port = new.port }) (record {
+    port = on.after;
+    joined = ap (λ (s : StandingView _). s.port) on.is;
+    end = record { monitor = sym (ap (λ (s : StandingView _). s.monitor) on.is); kept = on.kept };
+  });
   rest = refl;
 }
 
 -- without a connection nothing happens
 turns_off : {W : Type 0} (w : WatchView W) → w.port ≡ None → Turns (t.Left c.Full) w w
-turns_off w none = record { reaches = Stays w.monitor w.monitor refl; tells = none; rest = refl }
+turns_off w none = record { reaches = Stays w.monitor w.monitor refl; tells = subst (λ (o : Option (PortView _)). Shows c.Full o) (sym none) tt; room = tt; end = subst (λ (o : Option (PortView _)). IfSome o (IsEndOf w)) (sym none) tt; rest = refl }
 
 -- either way
 pub turns_by : {W : Type 0} (p : Option (PortView W)) (turned : Turned) (w : WatchView W) (new : StandingView W) → w.port ≡ p
@@ -114,7 +128,7 @@ turns_by (Some before) turned w new is idle looks =
 pub looks_idle : {W : Type 0} (turned : Turned) (old new : StandingView W) → old.port ≡ None → LooksAt turned old new
 looks_idle turned old new none = subst (λ (o : Option (PortView _)). IfSome o (λ before. LooksOn turned old new)) (sym none) tt
 
-pub looks_joined : {W : Type 0} (turned : Turned) (old : StandingView W) (before after : PortView W) → old ≡ record { monitor = before.monitor; port = Some before } → Looks turned before after → LooksAt turned old (record { monitor = after.monitor; port = Some after })
-looks_joined {W} turned old before after is looks =
+pub looks_joined : {W : Type 0} (turned : Turned) (old : StandingView W) (before after : PortView W) → old ≡ record { monitor = before.monitor; port = Some before } → Looks turned before after → KeepsRoom turned after.monitor.trail → IsPort after → LooksAt turned old (record { monitor = after.monitor; port = Some after })
+looks_joined {W} turned old before after is looks room kept =
     let new : StandingView W = record { monitor = after.monitor; port = Some after } in
-    subst (λ (s : StandingView W). LooksAt turned s new) (sym is) (record { after = after; is = refl; reaches = looks.reaches; says = looks.says })
+    subst (λ (s : StandingView W). LooksAt turned s new) (sym is) (record { after = after; is = refl; reaches = looks.reaches; says = looks.says; room = room; kept = kept })

@@ -1,13 +1,14 @@
 -- What is known of the connections of a monitor, and what its process writes of them.
-use Rattle.std.specs.Prelude.{◌≡◌, ℕ, zero, suc, List, [], ◌∷◌, ◌++◌, length, Option, true, codes, decimal, ⊤}
+use Rattle.std.specs.Prelude.{◌≡◌, ℕ, zero, suc, List, [], ◌∷◌, ◌++◌, length, flat_map, Option, IfSome, true, codes, decimal, ⊤}
 use Rattle.std.specs.List.{AllByRecursion}
 use Rattle.tk_input.specs.Files.{one_more}
 use Rattle.tk_input.specs.Sink.{Grows, GrowsByFront}
 use Rattle.tk_journal.specs.Line.{places_text}
 use Rattle.tk_trail.specs.Readings.{at_ends, is_stopped}
 use Rattle.tk_wire.specs.Meanings.{raised_by}
+use Rattle.tk_watch.specs.Ends.{HaveTicked, TickEndView}
 use Rattle.tk_watch.specs.Leaving.{word_of}
-use Rattle.tk_watch.specs.Watch.{IsWatch, Named, Shows, WatchView, named_of}
+use Rattle.tk_watch.specs.Watch.{IsConnected, IsEndOf, IsWatch, Named, Shows, WatchView, named_of}
 use Rattle.tk_watch.specs.declared.attended.Attended.{Attended}
 use Rattle.tk_watch.specs.declared.attended.Attended.TheVariants as a
 use Rattle.tk_watch.specs.declared.cause.Cause.{Cause}
@@ -24,11 +25,12 @@ pub record HasJoined (W : Type 0) (named : Named) (counts : List ℕ) : Type 0 w
   pub begins : watch.monitor.trail ≡ []
   pub counts_are : watch.counts ≡ counts
 
--- a watch of this name goes on
+-- a watch of this name goes on, connected
 pub record GoesOnAs (W : Type 0) (named : Named) : Type 0 where
   pub watch : WatchView W
   pub named_is : named_of watch ≡ named
   pub kept : IsWatch watch
+  pub connected : IsConnected watch
 
 -- a watch of this name shows that its connection is over for this cause
 pub record IsLeft (W : Type 0) (named : Named) (cause : Cause) : Type 0 where
@@ -36,12 +38,14 @@ pub record IsLeft (W : Type 0) (named : Named) (cause : Cause) : Type 0 where
   pub named_is : named_of watch ≡ named
   pub kept : IsWatch watch
   pub shows : Shows cause watch.port
+  pub end : IfSome watch.port (IsEndOf watch)
 
 -- a watch of this name took Stop, with these counts: each of its streams is closed
 pub record HasEnded (W : Type 0) (named : Named) (counts : List ℕ) : Type 0 where
   pub watch : WatchView W
   pub named_is : named_of watch ≡ named
   pub kept : IsWatch watch
+  pub connected : IsConnected watch
   pub stopped : is_stopped watch.monitor.trail ≡ true
   pub ends : at_ends watch.monitor.setup watch.monitor.trail ≡ true
   pub counts_are : watch.counts ≡ counts
@@ -68,6 +72,14 @@ Ends W named (a.Fed fault) = ⊤
 abbrev pub joined_text : ℕ → List ℕ → List ℕ
 joined_text number counts = codes "joined " ++ decimal number ++ codes " at " ++ places_text counts ++ codes "\n"
 
+-- the line of the last ends of ticks: how many ticks each stream has ended, and its place where the last of them did
+abbrev pub tick_text : TickEndView → List ℕ
+tick_text end = codes "tick " ++ places_text end.ticks ++ codes " at " ++ places_text end.places ++ codes "\n"
+
+-- the line of one that was made, and those of the ends of ticks behind it
+abbrev pub begun_text : ℕ → List ℕ → List TickEndView → List ℕ
+begun_text number counts ticks = joined_text number counts ++ flat_map tick_text ticks
+
 -- the line of one that was left
 abbrev pub left_text : ℕ → Cause → List ℕ
 left_text number cause = codes "left " ++ decimal number ++ codes " " ++ word_of cause ++ codes "\n"
@@ -76,37 +88,44 @@ left_text number cause = codes "left " ++ decimal number ++ codes " " ++ word_of
 abbrev pub ended_text : List ℕ → ℕ → List ℕ
 ended_text counts skipped = codes "ended at " ++ places_text counts ++ codes " skipped " ++ decimal skipped ++ codes "\n"
 
--- what was said of a connection: nothing, that it was made, that it was left so, or that the monitor took Stop by it
+-- what was said of a connection: nothing, or that it was made and which ticks ended then, with that it was left so, or that the monitor
+-- took Stop by it
 pub data Said : Type 0 where
   Nothing : Said
-  Joined : List ℕ → Said
-  Left : List ℕ → Cause → Said
-  Ended : List ℕ → List ℕ → ℕ → Said
+  Joined : List ℕ → List TickEndView → Said
+  Left : List ℕ → List TickEndView → Cause → Said
+  Ended : List ℕ → List TickEndView → List ℕ → ℕ → Said
 
 -- its lines
 abbrev pub said_text : ℕ → Said → List ℕ
 said_text number Nothing = []
-said_text number (Joined counts) = joined_text number counts
-said_text number (Left counts cause) = joined_text number counts ++ left_text number cause
-said_text number (Ended counts ends skipped) = joined_text number counts ++ ended_text ends skipped
+said_text number (Joined counts ticks) = begun_text number counts ticks
+said_text number (Left counts ticks cause) = begun_text number counts ticks ++ left_text number cause
+said_text number (Ended counts ticks ends skipped) = begun_text number counts ticks ++ ended_text ends skipped
+
+-- it began so, and each end of ticks that was told is one
+pub record HasBegun (W : Type 0) (named : Named) (counts : List ℕ) (ticks : List TickEndView) : Type 0 where
+  pub joined : HasJoined W named counts
+  pub ticked : AllByRecursion (λ end. HaveTicked W named end) ticks
 
 -- what was said is so
 abbrev pub IsSo : (W : Type 0) → Named → Said → Type 0
 IsSo W named Nothing = ⊤
-IsSo W named (Joined counts) = HasJoined W named counts
-IsSo W named (Left counts cause) = HasJoined W named counts × IsLeft W named cause
-IsSo W named (Ended counts ends skipped) = HasJoined W named counts × HasEnded W named ends
+IsSo W named (Joined counts ticks) = HasBegun W named counts ticks
+IsSo W named (Left counts ticks cause) = HasBegun W named counts ticks × IsLeft W named cause
+IsSo W named (Ended counts ticks ends skipped) = HasBegun W named counts ticks × HasEnded W named ends
 
 -- ---- what the process says
 
--- a connection that was left: with which counts it began, and the cause
+-- a connection that was left: with which counts it began, the ends of ticks told of it, and the cause
 pub record Past : Type 0 where
   pub counts : List ℕ
+  pub ticks : List TickEndView
   pub cause : Cause
 
 -- what was said of it
 abbrev pub said_of : Past → Said
-said_of p = Left p.counts p.cause
+said_of p = Left p.counts p.ticks p.cause
 
 -- the number of the connection that is so many after another, which stands still at the greatest u64
 abbrev pub number_after : ℕ → ℕ → ℕ
@@ -121,19 +140,19 @@ pasts_text number (p ∷ ps) = said_text number (said_of p) ++ pasts_text (raise
 -- what may have been said of the last connection
 abbrev pub FitsLast : Verdict → Said → Type 0
 FitsLast v.Done Nothing = ⊥
-FitsLast v.Done (Joined counts) = ⊥
-FitsLast v.Done (Left counts cause) = ⊥
-FitsLast v.Done (Ended counts ends skipped) = ⊤
+FitsLast v.Done (Joined counts ticks) = ⊥
+FitsLast v.Done (Left counts ticks cause) = ⊥
+FitsLast v.Done (Ended counts ticks ends skipped) = ⊤
 FitsLast v.WriteFault said = ⊤
 FitsLast v.LinkFault said = said ≡ Nothing
 FitsLast (v.Fed fault) Nothing = ⊤
-FitsLast (v.Fed fault) (Joined counts) = ⊤
-FitsLast (v.Fed fault) (Left counts cause) = ⊥
-FitsLast (v.Fed fault) (Ended counts ends skipped) = ⊥
+FitsLast (v.Fed fault) (Joined counts ticks) = ⊤
+FitsLast (v.Fed fault) (Left counts ticks cause) = ⊥
+FitsLast (v.Fed fault) (Ended counts ticks ends skipped) = ⊥
 FitsLast v.NoMemory Nothing = ⊤
-FitsLast v.NoMemory (Joined counts) = ⊤
-FitsLast v.NoMemory (Left counts cause) = ⊥
-FitsLast v.NoMemory (Ended counts ends skipped) = ⊥
+FitsLast v.NoMemory (Joined counts ticks) = ⊤
+FitsLast v.NoMemory (Left counts ticks cause) = ⊥
+FitsLast v.NoMemory (Ended counts ticks ends skipped) = ⊥
 
 -- a text was written, of which after a failed write there is a front
 abbrev pub GrowsAs : Verdict → Option (List ℕ) → Option (List ℕ) → List ℕ → Type 0

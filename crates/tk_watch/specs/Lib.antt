@@ -1,5 +1,6 @@
 pub mod Connections
 pub mod Each
+pub mod Ends
 pub mod Feeding
 pub mod Fresh
 pub mod Greeted
@@ -9,7 +10,9 @@ pub mod Names
 pub mod Passing
 pub mod Standing
 pub mod StandingInside
+pub mod Tally
 pub mod Told
+pub mod TrailSize
 pub mod Turning
 pub mod Untold
 pub mod Watch

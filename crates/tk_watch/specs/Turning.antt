@@ -1,6 +1,6 @@
 -- What a look at a connection does inside. No public clause cites this file.
-use Rattle.std.specs.Prelude.{◌≡◌, Some, IfSome, true, ⊤}
-use Rattle.tk_port.specs.Port.{PortView}
+use Rattle.std.specs.Prelude.{◌≡◌, Bool, Some, IfSome, true, false, ⊤}
+use Rattle.tk_port.specs.Port.{IsPort, PortView}
 use Rattle.tk_port.specs.Turn.{Reaches}
 use Rattle.tk_port.specs.declared.turn.Turn.{Turn}
 use Rattle.tk_port.specs.declared.turn.Turn.TheVariants as p
@@ -8,6 +8,7 @@ use Rattle.tk_trail.specs.Readings.{is_stopped}
 use Rattle.tk_compact.specs.Begun.{begun}
 use Rattle.tk_port.specs.declared.course.Course.TheVariants as course
 use Rattle.tk_watch.specs.Standing.{StandingView}
+use Rattle.tk_watch.specs.TrailSize.{KeepsRoom}
 use Rattle.tk_watch.specs.Watch.{Shows, WatchView}
 use Rattle.tk_watch.specs.declared.cause.Cause.TheVariants as c
 use Rattle.tk_watch.specs.declared.turned.Turned.{Turned}
@@ -22,6 +23,13 @@ turned_by p.Failed = t.Left c.Link
 turned_by (p.Refused why) = t.Left c.Refused
 turned_by (p.Bad fault) = t.Left c.Bad
 turned_by p.NoMemory = t.Left c.Memory
+
+-- whether a connection goes on behind a look
+abbrev pub turns_on : Turned → Bool
+turns_on t.More = true
+turns_on t.Quiet = true
+turns_on t.Stopped = false
+turns_on (t.Left cause) = false
 
 -- what a look says of the port that it left
 abbrev pub SaysOf : {W : Type 0} → Turned → PortView W → Type 0
@@ -41,6 +49,8 @@ pub record LooksOn {W : Type 0} (turned : Turned) (old new : StandingView W) : T
   pub is : new ≡ record { monitor = after.monitor; port = Some after }
   pub reaches : Reaches old.monitor new.monitor
   pub says : SaysOf turned after
+  pub room : KeepsRoom turned after.monitor.trail
+  pub kept : IsPort after
 
 -- a look where there may be one
 abbrev pub LooksAt : {W : Type 0} → Turned → StandingView W → StandingView W → Type 0

@@ -1,5 +1,5 @@
 -- A watch, as contracts see it, and what its type keeps.
-use Rattle.std.specs.Prelude.{◌≡◌, ◌<◌, ◌≤◌, ℕ, List, [], ◌∷◌, length, replicate, Option, Some, None, true, ⊤}
+use Rattle.std.specs.Prelude.{◌≡◌, ◌<◌, ◌≤◌, ℕ, List, [], ◌∷◌, length, replicate, Option, Some, None, IfSome, true, ⊤}
 use Rattle.tk_base.specs.Settings.{Setup}
 use Rattle.tk_frames.specs.Spelling.{IsVersion}
 use Rattle.tk_input.specs.Changes.{closing}
@@ -10,9 +10,10 @@ use Rattle.tk_trail.specs.Setup.{IsSetup}
 use Rattle.tk_compact.specs.Anew.{size_of_values}
 use Rattle.tk_compact.specs.Begun.{begun}
 use Rattle.tk_compact.specs.Room.{IsWaiting, IsWeighed}
-use Rattle.tk_port.specs.Port.{PortView}
+use Rattle.tk_port.specs.Port.{IsPort, PortView}
 use Rattle.tk_port.specs.Turn.{Reaches}
 use Rattle.tk_port.specs.declared.course.Course.TheVariants as course
+use Rattle.tk_watch.specs.TrailSize.{KeepsRoom, frames_size, most_bytes}
 use Rattle.tk_watch.specs.declared.cause.Cause.{Cause}
 use Rattle.tk_watch.specs.declared.cause.Cause.TheVariants as c
 use Rattle.tk_watch.specs.declared.turned.Turned.{Turned}
@@ -95,7 +96,8 @@ Shows c.Refused None = ⊥
 Shows c.Refused (Some p) = (why : _) × (p.course ≡ course.Refused why)
 Shows c.Bad None = ⊥
 Shows c.Bad (Some p) = (fault : _) × (p.course ≡ course.Bad fault)
-Shows c.Full port = port ≡ None
+Shows c.Full None = ⊤
+Shows c.Full (Some p) = most_bytes < frames_size p.monitor.trail
 Shows c.Memory port = ⊤
 
 -- what a look at a connection says of what it left
@@ -105,8 +107,28 @@ Tells t.Quiet w = ⊤
 Tells t.Stopped w = is_stopped w.monitor.trail ≡ true
 Tells (t.Left cause) w = Shows cause w.port
 
+-- a port is a watch's end of its connection: what came and went by it is what its monitor took and sent, as a port keeps it
+pub record IsEndOf {W : Type 0} (w : WatchView W) (port : PortView W) : Type 0 where
+  pub monitor : port.monitor ≡ w.monitor
+  pub kept : IsPort port
+
+-- a watch is connected
+pub record IsConnected {W : Type 0} (w : WatchView W) : Type 0 where
+  pub port : PortView W
+  pub joined : w.port ≡ Some port
+  pub end : IsEndOf w port
+
+-- a look leaves the watch at its end of the connection, if it had one; where that goes on it has
+abbrev pub KeepsPort : {W : Type 0} → Turned → WatchView W → Type 0
+KeepsPort t.More w = IsConnected w
+KeepsPort t.Quiet w = IsConnected w
+KeepsPort t.Stopped w = IsConnected w
+KeepsPort (t.Left cause) w = IfSome w.port (IsEndOf w)
+
 -- a look at a connection: the monitor took frames and was checked, and what no frame changes stays
 pub record Turns {W : Type 0} (turned : Turned) (old new : WatchView W) : Type 0 where
   pub reaches : Reaches old.monitor new.monitor
   pub tells : Tells turned new
+  pub room : KeepsRoom turned new.monitor.trail
+  pub end : KeepsPort turned new
   pub rest : new ≡ record old { monitor = new.monitor; port = new.port }

@@ -12,7 +12,7 @@ pub enum Cause {
     Refused,
     /// What came was no frame.
     Bad,
-    /// There was no room for a record more.
+    /// There was no room for a record more, or the frames of the trail have too many bytes together.
     Full,
     /// There was no memory.
     Memory,

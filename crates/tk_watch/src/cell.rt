@@ -1,8 +1,9 @@
 //! A watch under a lock, named so that proofs know which watch is found behind it.
 
-ghost use Rattle.std.specs.Prelude.{◌≡◌, ◌≤◌, None, false, IfErr, IfOk, OnErr, OnOk};
+ghost use Rattle.std.specs.Prelude.{◌≡◌, ◌≤◌, None, false, IfErr, IfOk, IfSome, OnErr, OnOk};
 ghost use Rattle.tk_input.specs.Logs.{IsObject};
 ghost use Rattle.tk_watch.specs.Connections.{HasJoined, IsOver};
+ghost use Rattle.tk_watch.specs.Ends.{AreEnds, HaveTicked, ends_for};
 ghost use Rattle.tk_watch.specs.Fresh.{IsUncounted, windows_for};
 ghost use Rattle.tk_watch.specs.Names.{nobody};
 ghost use Rattle.tk_watch.specs.Told.{Closes, Tells};
@@ -17,6 +18,8 @@ use crate::cause::Cause;
 use crate::ended::Ended;
 use crate::fault::FeedFault;
 use crate::plan::Window;
+use crate::tick_end::TickEnd;
+use crate::tick_ends::TickEnds;
 use crate::timing::{clock_of, windows_of};
 use crate::told::Told;
 use crate::turned::Turned;
@@ -48,6 +51,8 @@ impl WatchName for Brand {
 pub struct Watched<W: Wire, B, N: WatchName> {
     pub watch: Watch<W>,
     pub windows: Windows,
+    /// Where their ticks ended.
+    pub ends: TickEnds,
     // Ends the ticks of all streams, where a clock does.
     clock: Option<Metronome>,
     // Wakes the one who serves the connection.
@@ -60,6 +65,7 @@ pub struct Watched<W: Wire, B, N: WatchName> {
     pub ghost named_is: { named_of watch ≡ N.named },
     pub ghost are_windows: { AreWindows N.named windows },
     pub ghost balanced: { AreBalanced watch.monitor windows },
+    pub ghost are_ends: { AreEnds W N.named windows ends },
 }
 
 /// A watch under a lock.
@@ -78,6 +84,7 @@ impl<W: Wire + Drop, B: Bell + Drop, N: WatchName> Watched<W, B, N> {
         requires uncounted { IsUncounted watch }
         ensures watch { IfOk result (λ watched. watched.watch ≡ watch) }
         ensures windows { IfOk result (λ watched. watched.windows ≡ windows_for window N.named.streams N.named.objects) }
+        ensures ends { IfOk result (λ watched. watched.ends ≡ ends_for window watch.counts) }
     {
         let streams = watch.counts().len() as u32;
         let objects = watch.monitor().settings().objects();
@@ -85,9 +92,15 @@ impl<W: Wire + Drop, B: Bell + Drop, N: WatchName> Watched<W, B, N> {
             drop(watch);
             return Err(NoMemory);
         };
+        let Ok(ends) = TickEnds::new(alloc, window, watch.counts()) else {
+            drop(watch);
+            drop(windows);
+            return Err(NoMemory);
+        };
         Ok(Watched {
             watch,
             windows,
+            ends,
             clock: clock_of(window, now),
             bell: None,
             fault: None,
@@ -188,6 +201,13 @@ impl<W: Wire + Drop, B: Bell + Drop, N: WatchName> Watched<W, B, N> {
     {
         self.watch.leave();
         self.bell = None;
+    }
+
+    /// Where the ticks of the streams ended last, if one did since that was told.
+    pub(crate) fn take_end(&mut self, alloc: Global) -> Result<Option<TickEnd>, NoMemory>
+        ensures { IfOk result (λ told. IfSome told (HaveTicked W N.named)) }
+    {
+        self.ends.take(alloc)
     }
 
     /// One look at the connection.

@@ -2,9 +2,10 @@
 
 ghost use Rattle.std.specs.Prelude.{◌≡◌, ◌++◌, [], IfOk, OnOk, codes, decimal, if◌then◌else◌};
 ghost use Rattle.tk_journal.specs.Line.{places_text};
-ghost use Rattle.tk_watch.specs.Connections.{ended_text, joined_text, left_text};
+ghost use Rattle.tk_watch.specs.Connections.{ended_text, joined_text, left_text, tick_text};
 
 use crate::cause::Cause;
+use crate::tick_end::TickEnd;
 use itoa::{Buffer, Integer};
 use std::alloc::{AllocError, Global};
 use tk_base::NoMemory;
@@ -43,6 +44,18 @@ pub(crate) fn joined_line(alloc: Global, number: u64, counts: &[u64]) -> Result<
     push_number(&mut line, number)?;
     line.extend_from_slice(b" at ")?;
     push_counts(&mut line, counts)?;
+    line.extend_from_slice(b"\n")?;
+    Ok(line)
+}
+
+/// The line of the last ends of ticks.
+pub(crate) fn tick_line(alloc: Global, end: &TickEnd) -> Result<Vec<u8>, NoMemory>
+    ensures { IfOk result (λ line. line.items ≡ tick_text end.now) }
+{
+    let mut line = Vec::from_slice(alloc, b"tick ")?;
+    push_counts(&mut line, end.ticks())?;
+    line.extend_from_slice(b" at ")?;
+    push_counts(&mut line, end.places())?;
     line.extend_from_slice(b"\n")?;
     Ok(line)
 }

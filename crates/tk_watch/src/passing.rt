@@ -1,10 +1,9 @@
 //! One connection: its lines, and what its serving comes to.
 
-ghost use Rattle.std.specs.Prelude.{◌≡◌, false, Err, IfErr, IfOk, OnOk};
-ghost use Rattle.tk_input.specs.Sink.{Grows};
+ghost use Rattle.std.specs.Prelude.{◌≡◌, false, Err, IfOk};
 ghost use Rattle.tk_wire.specs.Net.{IsNew};
-ghost use Rattle.tk_watch.specs.Connections.{Ends, HasJoined, ended_text, joined_text, left_text};
-ghost use Rattle.tk_watch.specs.Passing.{Passes, PassesBehind, Stops, faults_passed, faults_stopped};
+ghost use Rattle.tk_watch.specs.Connections.{Ends, HasJoined};
+ghost use Rattle.tk_watch.specs.Passing.{Passes, PassesBehind, faults_passed};
 ghost use Rattle.tk_watch.specs.declared.verdict.Verdict.TheVariants.{LinkFault as Unlinked};
 
 use crate::attended::Attended;
@@ -12,75 +11,15 @@ use crate::attending::attend;
 use crate::cause::Cause;
 use crate::cell::{WatchCell, WatchName};
 use crate::feeding::Shared;
-use crate::lines::{ended_line, joined_line, left_line};
+use crate::saying::{tell_ended, tell_joined, tell_left};
 use crate::verdict::Verdict;
 use std::alloc::Global;
 use std::marker::{Send, Sync};
 use std::sync::Wait;
 use std::time::Clock;
 use tk_base::NoMemory;
-use tk_input::{PutFailed, Sink};
+use tk_input::Sink;
 use tk_wire::{Bell, Dialed, Rest, Wire};
-
-/// Writes a line.
-fn put_line<O: Sink>(line: Vec<u8>, out: &mut O) -> Result<(), Verdict>
-    ensures ok { OnOk result (Grows (O.written out.old) (O.written out.new) line.items) }
-    ensures err { IfErr result (λ v. Stops v (O.written out.old) (O.written out.new) line.items) }
-    ensures counted { O.fault_count out.new ≡ faults_stopped result (O.fault_count out.old) }
-{
-    let put = out.put(line.as_slice());
-    drop(line);
-    match put {
-        Ok(()) => Ok(()),
-        Err(PutFailed) => Err(Verdict::WriteFault),
-    }
-}
-
-/// Writes the line of a connection that was made.
-fn tell_joined<O: Sink>(
-    alloc: Global,
-    number: u64,
-    counts: &[u64],
-    out: &mut O,
-) -> Result<(), Verdict>
-    ensures ok { OnOk result (Grows (O.written out.old) (O.written out.new) (joined_text number counts.now)) }
-    ensures err { IfErr result (λ v. Stops v (O.written out.old) (O.written out.new) (joined_text number counts.now)) }
-    ensures counted { O.fault_count out.new ≡ faults_stopped result (O.fault_count out.old) }
-{
-    match joined_line(alloc, number, counts) {
-        Ok(line) => put_line(line, out),
-        Err(NoMemory) => Err(Verdict::NoMemory),
-    }
-}
-
-/// Writes the line of a connection that was left.
-fn tell_left<O: Sink>(alloc: Global, number: u64, cause: Cause, out: &mut O) -> Result<(), Verdict>
-    ensures ok { OnOk result (Grows (O.written out.old) (O.written out.new) (left_text number cause)) }
-    ensures err { IfErr result (λ v. Stops v (O.written out.old) (O.written out.new) (left_text number cause)) }
-    ensures counted { O.fault_count out.new ≡ faults_stopped result (O.fault_count out.old) }
-{
-    match left_line(alloc, number, cause) {
-        Ok(line) => put_line(line, out),
-        Err(NoMemory) => Err(Verdict::NoMemory),
-    }
-}
-
-/// Writes the last line, of a monitor that took Stop.
-fn tell_ended<O: Sink>(
-    alloc: Global,
-    counts: &[u64],
-    skipped: u64,
-    out: &mut O,
-) -> Result<(), Verdict>
-    ensures ok { OnOk result (Grows (O.written out.old) (O.written out.new) (ended_text counts.now skipped)) }
-    ensures err { IfErr result (λ v. Stops v (O.written out.old) (O.written out.new) (ended_text counts.now skipped)) }
-    ensures counted { O.fault_count out.new ≡ faults_stopped result (O.fault_count out.old) }
-{
-    match ended_line(alloc, counts, skipped) {
-        Ok(line) => put_line(line, out),
-        Err(NoMemory) => Err(Verdict::NoMemory),
-    }
-}
 
 /// Writes the line of a connection that is over so, behind the line that it was made.
 fn tell_over<W: Wire, N: WatchName, O: Sink>(
@@ -126,11 +65,11 @@ fn serve<R: Wait + Clock, W: Wire + Drop, B: Bell + Drop, N: WatchName, Q: Rest,
     ensures linked { result ≡ Err Unlinked → ⊥ }
     ensures counted { O.fault_count out.new ≡ faults_passed result (O.fault_count out.old) }
 {
-    let attended = attend(rt, alloc, &shared.cell, rest, &shared.wish);
+    let attended = attend(rt, alloc, &shared.cell, rest, &shared.wish, out);
     shared.cell.lock(rt).leave();
     match attended {
         Ok(over) => tell_over::<W, N, O>(alloc, number, over, out),
-        Err(NoMemory) => Err(Verdict::NoMemory),
+        Err(verdict) => Err(verdict),
     }
 }
 

@@ -10,7 +10,8 @@ ghost use Rattle.tk_watch.specs.Standing.{over};
 ghost use Rattle.tk_watch.specs.Turning.{LooksAt};
 
 use crate::cause::Cause;
-use crate::look::look;
+use crate::look::look_within;
+use crate::tally::Tally;
 use crate::turned::Turned;
 use std::marker::Model;
 use tk_base::{Feeder, NoMemory};
@@ -23,7 +24,7 @@ use tk_wire::Wire;
 #[derive(Drop)]
 enum Form<W: Wire> {
     Idle(Monitor),
-    Joined(Port<W>),
+    Joined(Port<W>, Tally),
 }
 
 /// A monitor, connected or not.
@@ -34,11 +35,13 @@ pub(crate) struct Standing<W: Wire> {
 
 impl<W: Wire> Model for Standing<W> {
     ghost use Rattle.tk_watch.specs.Standing.{StandingView};
-    ghost use Rattle.tk_watch.specs.StandingInside.{standing_in};
+    ghost use Rattle.tk_watch.specs.StandingInside.{IsTallied, standing_in};
 
     ghost Value = { StandingView W };
 
     ghost view = { λ s. standing_in s.form };
+
+    ghost invariant = { λ s. IsTallied s.form };
 }
 
 impl<W: Wire> Standing<W> {
@@ -56,7 +59,7 @@ impl<W: Wire> Standing<W> {
         ensures { result ≡ record { monitor = port.monitor; port = Some port } }
     {
         Standing {
-            form: Form::Joined(port),
+            form: Form::Joined(port, Tally::new()),
         }
     }
 
@@ -66,7 +69,7 @@ impl<W: Wire> Standing<W> {
     {
         match &self.form {
             Form::Idle(monitor) => monitor,
-            Form::Joined(port) => port.monitor(),
+            Form::Joined(port, _) => port.monitor(),
         }
     }
 
@@ -77,7 +80,7 @@ impl<W: Wire> Standing<W> {
     {
         match &self.form {
             Form::Idle(_) => None,
-            Form::Joined(port) => Some(port),
+            Form::Joined(port, _) => Some(port),
         }
     }
 
@@ -90,7 +93,7 @@ impl<W: Wire> Standing<W> {
     {
         match &mut self.form {
             Form::Idle(monitor) => monitor.grow(f, change),
-            Form::Joined(port) => port.grow(f, change),
+            Form::Joined(port, _) => port.grow(f, change),
         }
     }
 
@@ -103,7 +106,7 @@ impl<W: Wire> Standing<W> {
     {
         match &mut self.form {
             Form::Idle(monitor) => monitor.raise(f),
-            Form::Joined(port) => port.raise(f),
+            Form::Joined(port, _) => port.raise(f),
         }
     }
 
@@ -114,7 +117,7 @@ impl<W: Wire> Standing<W> {
     {
         match &mut self.form {
             Form::Idle(_) => return Turned::Left(Cause::Full),
-            Form::Joined(port) => look(port),
+            Form::Joined(port, tally) => look_within(port, tally),
         }
     }
 
@@ -125,7 +128,7 @@ impl<W: Wire> Standing<W> {
     {
         match &mut self.form {
             Form::Idle(_) => {}
-            Form::Joined(port) => port.halt(),
+            Form::Joined(port, _) => port.halt(),
         }
     }
 }

@@ -80,6 +80,7 @@ asked_coordinate c = record {
   listen = c.listen.now;
   silence = c.silence;
   sessions = c.sessions;
+  missing = c.missing;
 }
 
 -- the window that a monitor asks for
@@ -161,6 +162,7 @@ HasCarriage Versioned = Unit
 pub record IsCoordinate (c : Coordinate) : Type 0 where
   pub silence : (1 ≤ c.silence) × (c.silence ≤ 3600)
   pub sessions : IfSome c.sessions (λ n. 1 ≤ n)
+  pub missing : IfSome c.missing (λ n. (1 ≤ n) × (n ≤ 3600))
 
 -- the width of a window, and the seconds of a tick, where it has such
 pub record IsRecent (r : Recent) : Type 0 where

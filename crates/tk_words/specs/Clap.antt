@@ -76,12 +76,13 @@ gen_app =
 -- `coordinate`
 abbrev pub coordinate_app : App
 coordinate_app =
-    with_rule (with_rule (with_rule (with_rule (with_rule (with_source_rules (new_app (codes "coordinate")))
+    with_rule (with_rule (with_rule (with_rule (with_rule (with_rule (with_source_rules (new_app (codes "coordinate")))
     (option_rule (codes "monitors") true))
     (option_rule (codes "run") true))
     (option_rule (codes "listen") true))
     (option_rule (codes "silence") false))
-    (option_rule (codes "sessions") false)
+    (option_rule (codes "sessions") false))
+    (option_rule (codes "missing") false)
 
 -- the sources of a monitor, at least one
 abbrev pub sources_rule : Rule

@@ -51,7 +51,8 @@ pub record MultiWords : Type 0 where
   pub logs : List (ℕ × List ℕ)
 
 -- what a coordinator asks for that runs as a process of its own: the numbers of its settings, the file of its objects, its run,
--- where it listens, how many seconds a link may be silent, and after how many sessions it ends, where it does
+-- where it listens, how many seconds a link may be silent, after how many sessions it ends, where it does, and for how many seconds
+-- it waits for a monitor, where it does not wait for ever
 pub record CoordinateWords : Type 0 where
   pub monitors : ℕ
   pub k : ℕ
@@ -62,6 +63,7 @@ pub record CoordinateWords : Type 0 where
   pub listen : List ℕ
   pub silence : ℕ
   pub sessions : Option ℕ
+  pub missing : Option ℕ
 
 -- the window of a monitor: its width in ticks, and how many seconds a tick takes, where no lines end ticks
 pub record RecentWords : Type 0 where
@@ -202,7 +204,8 @@ silence_of rows = optional seconds_in (codes "silence") 20 rows
 abbrev pub coordinate_of : List Row → Option CoordinateWords
 coordinate_of rows =
     option_and_then (λ monitors. option_and_then (λ k. option_and_then (λ epsilon. option_and_then (λ own_weight. option_and_then (λ objects.
-    option_and_then (λ run. option_and_then (λ listen. option_and_then (λ silence. option_map (λ sessions. record {
+    option_and_then (λ run. option_and_then (λ listen. option_and_then (λ silence. option_and_then (λ sessions.
+    option_map (λ missing. record {
       monitors = monitors;
       k = k;
       epsilon = epsilon;
@@ -212,7 +215,9 @@ coordinate_of rows =
       listen = listen;
       silence = silence;
       sessions = sessions;
+      missing = missing;
     })
+    (seconds_of (codes "missing") rows))
     (times_of (codes "sessions") rows))
     (silence_of rows))
     (required listen_in (codes "listen") rows))

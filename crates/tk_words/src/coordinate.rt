@@ -5,7 +5,7 @@ ghost use Rattle.tk_words.specs.Clap.{coordinate_app};
 ghost use Rattle.tk_words.specs.Words.{coordinate_of};
 
 use crate::options::{option, with_sources};
-use crate::parsing::{listen_address, long, named_file, short, silence, times};
+use crate::parsing::{listen_address, long, named_file, seconds, short, silence, times};
 use crate::sources::own_weight;
 use clap::{ArgMatches, Command};
 use std::alloc::{AllocError, Global};
@@ -26,6 +26,8 @@ pub struct Coordinate<'a> {
     pub silence: u64,
     /// After how many sessions it ends, where it does.
     pub sessions: Option<u64>,
+    /// For how many seconds a session waits for a monitor, where it does not wait for ever, 1 to 3,600.
+    pub missing: Option<u64>,
 }
 
 /// What clap reads the words of `coordinate` by.
@@ -37,7 +39,8 @@ pub fn command<'a>(alloc: Global) -> Result<Command<'a>, AllocError>
         .arg(option(alloc, "run", true))?
         .arg(option(alloc, "listen", true))?
         .arg(option(alloc, "silence", false))?
-        .arg(option(alloc, "sessions", false))
+        .arg(option(alloc, "sessions", false))?
+        .arg(option(alloc, "missing", false))
 }
 
 /// What they ask for by what clap found.
@@ -55,5 +58,6 @@ pub fn values<'a>(matches: &ArgMatches<'a>) -> Option<Coordinate<'a>>
         listen: listen_address(matches)?,
         silence: silence(matches)?,
         sessions: times(matches, "sessions")?,
+        missing: seconds(matches, "missing")?,
     })
 }

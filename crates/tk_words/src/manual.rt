@@ -181,7 +181,7 @@ topk gen --seed 7 --monitors 8 --objects 256 --updates 20000 --k 10 --epsilon 50
 const COORDINATE: &[u8] = b"\
 topk coordinate --monitors M --k K --epsilon E --objects FILE --run N\n\
 \x20               --listen ADDRESS:PORT [--own-weight W] [--silence S]\n\
-\x20               [--sessions C]\n\
+\x20               [--sessions C] [--missing T]\n\
 \n\
 Listens for its monitors, which run on other hosts, and prints each new set.\n\
 \n\
@@ -196,6 +196,8 @@ Listens for its monitors, which run on other hosts, and prints each new set.\n\
 \x20                 out\n\
 \x20 --sessions C    after how many sessions it ends: 1 or more; only behind a\n\
 \x20                 final set if left out\n\
+\x20 --missing T     for how many seconds it waits for a monitor: 1 to 3600; then it\n\
+\x20                 goes on without it; for ever if left out\n\
 \n\
 topk coordinate --monitors 2 --k 1 --epsilon 0 --objects objects.csv --run 5\n\
 \x20               --listen 0.0.0.0:7070\n";

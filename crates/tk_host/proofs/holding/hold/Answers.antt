@@ -1,8 +1,9 @@
 use Rattle.tk_host.proofs.HoldingLemmas.{held_session}
 use Rattle.tk_host.proofs.holding.hold.Goals as goal
 
-pub returns-clause-holds : goal.returns-clause-holds
-returns-clause-holds g c =
-    held_session c.in_ok-session.session c.begin-over.new.session c.args.plan.now.settings c.args.plan.now.names.now c.in_ok-line.line.items c.begin-over.result c.leave.result c.args.number
+pub returns-in-Ok-clause-holds : goal.returns-in-Ok-clause-holds
+returns-in-Ok-clause-holds g c =
+    let made = c.in-Ok.ensures in
+    held_session c.in-Ok.session c.begin-over.new.session c.args.plan.now.settings c.args.plan.now.missing c.args.plan.now.names.now c.in-Ok.line.items c.begin-over.result c.leave.result c.args.number
     (g.O.Sink.written c.args.out.now) (g.O.Sink.written c.begin-over.new.out) (g.O.Sink.written c.leave.new.out)
-    c.in_ok-session.ensures.settings c.begin-over.ensures.steps c.in_ok-line.ensures c.begin-over.ensures.begins c.leave.ensures.parts
+    made.settings made.missing c.begin-over.ensures.steps made.line c.begin-over.ensures.begins c.leave.ensures.parts

@@ -4,11 +4,19 @@ use Rattle.tk_host.proofs.hosting.play_turn.Goals as goal
 pub tell-requires-clause-within : goal.tell-requires-clause-within
 tell-requires-clause-within g c = turned_within c.turn-turn.result _ _ c.turn-turn.ensures c.requires.going.all
 
+pub returns-in_err-end_early-clause-tells : goal.returns-in_err-end_early-clause-tells
+returns-in_err-end_early-clause-tells g c = λ before h.
+    let e = c.turn-turn.ensures in
+    let over = c.in_err-end_early.field-0.0 in
+    let told = told_grown c.args.names.now _ _ before (g.O.Sink.written c.args.out.now) h e.grows e.roster e.told in
+    told_parted {A = Unit {0}} over c.from_residual.result c.args.names.now c.turn-turn.new.self before (g.O.Sink.written c.args.out.now) c.from_residual.ensures.1
+    (told_left c.args.names.now c.turn-turn.new.self c.turn-turn.new.self before (g.O.Sink.written c.args.out.now) told over (turned_written over c.in_err-end_early.ensures.turned))
+
 pub returns-in_err-tell-clause-tells : goal.returns-in_err-tell-clause-tells
 returns-in_err-tell-clause-tells g c = λ before h.
     let e = c.turn-turn.ensures in
     let told = c.in_err-tell.ensures.tells before (told_grown c.args.names.now _ _ before (g.O.Sink.written c.args.out.now) h e.grows e.roster e.told) in
-    told_parted c.in_err-tell.field-0.0 c.from_residual.result c.args.names.now c.tell.new.self before (g.O.Sink.written c.tell.new.out) c.from_residual.ensures.1 told
+    told_parted c.in_err-tell.field-0.0 c.from_residual-in_err-tell.result c.args.names.now c.tell.new.self before (g.O.Sink.written c.tell.new.out) c.from_residual-in_err-tell.ensures.1 told
 
 pub returns-in_err-after-clause-tells : goal.returns-in_err-after-clause-tells
 returns-in_err-after-clause-tells g c = λ before h.

@@ -11,4 +11,5 @@ returns c =
     let run = c.in_ok-arg-2.ensures.shape c.option-2.ensures.local ∙ ap₂ with_rule monitors c.option-2.ensures.rule in
     let listen = c.in_ok-arg-3.ensures.shape c.option-3.ensures.local ∙ ap₂ with_rule run c.option-3.ensures.rule in
     let silence = c.in_ok-arg-4.ensures.shape c.option-4.ensures.local ∙ ap₂ with_rule listen c.option-4.ensures.rule in
-    IfOk-weaker c.arg-5.result _ _ (λ r added. added.shape c.option-5.ensures.local ∙ ap₂ with_rule silence c.option-5.ensures.rule) c.arg-5.ensures
+    let sessions = c.in_ok-arg-5.ensures.shape c.option-5.ensures.local ∙ ap₂ with_rule silence c.option-5.ensures.rule in
+    IfOk-weaker c.arg-6.result _ _ (λ r added. added.shape c.option-6.ensures.local ∙ ap₂ with_rule sessions c.option-6.ensures.rule) c.arg-6.ensures

@@ -1,5 +1,5 @@
 use Rattle.std.proofs.Common.{◌≡◌, drop}
-use Rattle.tk_host.specs.Origins.{beginnings_of}
+use Rattle.tk_host.specs.Seats.{beginnings_of}
 use Rattle.tk_host.proofs.roster.Roster.beginnings.Given as goal
 
 -- it is none of those passed

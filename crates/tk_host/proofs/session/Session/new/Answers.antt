@@ -11,4 +11,4 @@ pub returns-clause-going : goal.returns-clause-going
 returns-clause-going g c =
     let same = c.in_ok-hub.ensures.coordinator in
     going_first _ c.args.settings c.in_ok-hub.ensures.kept (ap (λ k. k.settings) same ∙ c.in_ok-coordinator.ensures.settings)
-    (ap (λ k. k.journal) same ∙ c.in_ok-coordinator.ensures.journal) c.in_ok-hub.ensures.course refl c.new-4.ensures
+    (ap (λ k. k.journal) same ∙ c.in_ok-coordinator.ensures.journal) c.in_ok-hub.ensures.course refl c.new-4.ensures c.new-3.ensures

@@ -6,6 +6,8 @@ use Rattle.tk_host.proofs.session.Session.tell.Given as goal
 abbrev pub invariant-loop : goal.invariant-loop
 invariant-loop g l = record {
   hub : l.self.hub ≡ l.fn.self.hub;
+  roster : l.self.roster ≡ l.fn.self.roster;
+  missing : l.self.missing ≡ l.fn.self.missing;
   tally : l.self.tally ≡ l.fn.self.tally;
   count : l.self.told ≡ l.counter;
   end : l.end ≡ length (published_by l.fn.self);

@@ -6,4 +6,4 @@ pub returns : goal.returns
 returns g c =
     let e = c.turn.ensures in
     turned c.turn.result _ _ _ c.self.view_is c.requires.going.standing e.kept e.settings e.grows e.course
-    (λ is. let rise = e.failed is (omega arith) in absurd (omega (arith, rise))) (λ is. (e.finished is).stopped) refl refl refl
+    (λ is. let rise = e.failed is (omega arith) in absurd (omega (arith, rise))) (λ is. (e.finished is).stopped) refl refl refl refl

@@ -17,11 +17,11 @@ weigh-requires g c =
 pub returns-then-weigh-clause-steps : goal.returns-then-weigh-clause-steps
 returns-then-weigh-clause-steps g c =
     let s = c.self.inside in
-    let new : SessionView _ = record { hub = s.hub; roster = s.roster; told = s.told; tally = c.weigh.new.self } in
+    let new : SessionView _ = record { hub = s.hub; roster = s.roster; told = s.told; tally = c.weigh.new.self; missing = s.missing } in
     let same = c.journal.ensures.value ∙ ap (λ k. k.journal) c.coordinator.ensures.value in
     let counted = subst (λ (j : List Noted). IsCounted j c.weigh.new.self) same c.weigh.ensures.counted in
     let on = subst IsGoing (sym c.self.view_is) c.requires in
-    subst (λ old. Steps going old new) c.self.view_is (weighed_on _ new on refl refl refl counted)
+    subst (λ old. Steps going old new) c.self.view_is (weighed_on _ new on refl refl refl counted refl)
 
 pub returns-then-weigh-clause-room : goal.returns-then-weigh-clause-room
 returns-then-weigh-clause-room g c = subst HasRoom (c.journal.ensures.value ∙ ap (λ k. k.journal) c.coordinator.ensures.value) (c.weigh.ensures.room c.if-weigh.true)
@@ -29,9 +29,9 @@ returns-then-weigh-clause-room g c = subst HasRoom (c.journal.ensures.value ∙ 
 pub returns-clause-steps : goal.returns-clause-steps
 returns-clause-steps g c =
     let s = c.self.inside in
-    let new : SessionView _ = record { hub = s.hub; roster = s.roster; told = s.told; tally = c.weigh.new.self } in
+    let new : SessionView _ = record { hub = s.hub; roster = s.roster; told = s.told; tally = c.weigh.new.self; missing = s.missing } in
     let same = c.journal.ensures.value ∙ ap (λ k. k.journal) c.coordinator.ensures.value in
     let counted = subst (λ (j : List Noted). IsCounted j c.weigh.new.self) same c.weigh.ensures.counted in
     let on = subst IsGoing (sym c.self.view_is) c.requires in
     let full = subst IsFull same (c.weigh.ensures.full c.if-weigh.false) in
-    subst (λ old. Steps (left (o.Ended cause.Full)) old new) c.self.view_is (weighed_full _ new on refl refl refl counted full)
+    subst (λ old. Steps (left (o.Ended cause.Full)) old new) c.self.view_is (weighed_full _ new on refl refl refl counted refl full)

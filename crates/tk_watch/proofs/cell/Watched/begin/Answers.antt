@@ -9,5 +9,6 @@ invariant_of-self-2 g c =
     record {
       named_is = begins_named s.watch c.begin.new.self c.counts.ensures.kept c.in_ok-begin.ensures.ok ∙ s.named_is;
       are_windows = s.are_windows;
+      are_ends = s.are_ends;
       balanced = begun_balanced s.watch c.begin.new.self s.windows c.counts.ensures.kept c.in_ok-begin.ensures.ok s.balanced;
     }

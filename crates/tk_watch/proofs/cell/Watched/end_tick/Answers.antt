@@ -1,32 +1,8 @@
-use Rattle.std.proofs.Common.{refl, ◌∙◌, ap, List}
-use Rattle.std.proofs.lemmas.Result.{IfErr-weaker, on_ok_weaker}
-use Rattle.tk_recent.specs.Kept.{Kept}
-use Rattle.tk_watch.specs.Windows.{ticked_in, window_of}
-use Rattle.tk_watch.proofs.TakingLemmas.{settled_back, stops_further, tick_ended, tick_stops, tick_told}
+use Rattle.tk_watch.proofs.EndsLemmas.{end_of}
 use Rattle.tk_watch.proofs.cell.Watched.end_tick.Goals as goal
 
-pub move_on-requires-clause-settled : goal.move_on-requires-clause-settled
-move_on-requires-clause-settled g c =
-    ap (λ (ks : List Kept). (window_of ks c.args.f.0).back) c.in-Ok.ensures.settled ∙ settled_back c.args.self.now.windows c.args.f.0
-
-pub returns-in-Ok-clause-told : goal.returns-in-Ok-clause-told
-returns-in-Ok-clause-told g c =
+pub note_end-requires-clause-at_end : goal.note_end-requires-clause-at_end
+note_end-requires-clause-at_end g c =
     let s = c.args.self.now in
-    let mid = c.settle.new.self in
-    on_ok_weaker c.move_on.result (λ each. tick_told s.watch mid.watch c.move_on.new.self.watch s.windows mid.windows (ticked_in mid.windows c.args.f.0) c.args.f c.in-Ok.ensures.told c.in-Ok.ensures.settled refl each) c.move_on.ensures.told
-
-pub returns-in-Ok-clause-ended : goal.returns-in-Ok-clause-ended
-returns-in-Ok-clause-ended g c =
-    let s = c.args.self.now in
-    let mid = c.settle.new.self in
-    on_ok_weaker c.move_on.result (λ is. tick_ended s.windows mid.windows (ticked_in mid.windows c.args.f.0) c.move_on.new.self.windows c.args.f.0 c.in-Ok.ensures.settled refl is) c.move_on.ensures.ended
-
-pub returns-in-Ok-clause-stops : goal.returns-in-Ok-clause-stops
-returns-in-Ok-clause-stops g c =
-    let s = c.args.self.now in
-    let mid = c.settle.new.self in
-    let then = c.move_on.new.self in
-    IfErr-weaker c.move_on.result _ _ (λ untold stops. tick_stops s.watch mid.watch then.watch s.windows mid.windows (ticked_in mid.windows c.args.f.0) then.windows c.args.f untold c.in-Ok.ensures.told c.in-Ok.ensures.settled refl stops) c.move_on.ensures.stops
-
-pub returns-in-Err-clause-stops : goal.returns-in-Err-clause-stops
-returns-in-Err-clause-stops g c = stops_further _ _ _ _ _ _ _ c.in-Err.ensures.stops
+    let then = c.tick_over.new.self in
+    end_of _ _ s.windows then.windows s.ends then.ends c.args.f.0 c.requires.from_one s.are_ends c.in-Ok.ensures.ended c.in-Ok.ensures.counted

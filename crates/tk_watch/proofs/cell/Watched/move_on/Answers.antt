@@ -5,6 +5,7 @@ use Rattle.tk_watch.specs.Each.{Stops, TellsEach}
 use Rattle.tk_watch.specs.Watch.{Named}
 use Rattle.tk_watch.specs.Windows.{settled_in, window_of}
 use Rattle.tk_watch.proofs.BalanceLemmas.{either_balanced, either_windows}
+use Rattle.tk_watch.proofs.EndsLemmas.{ends_ticked}
 use Rattle.tk_watch.proofs.TakingLemmas.{wants_none}
 use Rattle.tk_watch.proofs.cell.Watched.move_on.Goals as goal
 
@@ -16,6 +17,7 @@ invariant_of-self g c =
       named_is = s.named_is;
       are_windows = either_windows c.tick.result _ s.windows c.tick.new.self c.args.f.0 s.are_windows e.ok e.err;
       balanced = either_balanced c.tick.result _ s.watch.monitor s.windows c.tick.new.self c.args.f.0 (ap (λ (n : Named). n.objects) s.named_is) s.are_windows c.requires.from_one c.requires.stream c.requires.settled e.ok e.err s.balanced;
+      are_ends = ends_ticked _ _ s.windows c.tick.new.self s.ends c.count.new.self c.args.f.0 c.requires.from_one s.are_ends c.in-Ok.ensures.ok c.count.ensures;
     }
 
 pub returns-in-Ok-clause-told : goal.returns-in-Ok-clause-told

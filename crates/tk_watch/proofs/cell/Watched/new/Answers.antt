@@ -2,10 +2,12 @@ use Rattle.std.proofs.Common.{◌≡◌, ℕ, List, length, sym, ap, ◌∙◌, 
 use Rattle.tk_base.specs.Settings.{Setup}
 use Rattle.tk_monitor.specs.Monitored.{MonitorView}
 use Rattle.tk_recent.specs.Kept.{Kept}
+use Rattle.tk_watch.specs.Ends.{ends_for}
 use Rattle.tk_watch.specs.Fresh.{windows_for}
 use Rattle.tk_watch.specs.Watch.{Named}
 use Rattle.tk_watch.specs.Windows.{AreBalanced, AreWindows}
 use Rattle.tk_watch.proofs.BeginningLemmas.{fresh_are, fresh_balanced}
+use Rattle.tk_watch.proofs.EndsLemmas.{ends_first}
 use Rattle.tk_watch.proofs.cell.Watched.new.Goals as goal
 
 pub invariant_of-result : goal.invariant_of-result
@@ -22,8 +24,14 @@ invariant_of-result g c =
     c.in-Ok.ensures
     ∙ ap (λ n. windows_for c.args.window n c.objects-objects.result) streams
     ∙ ap (λ n. windows_for c.args.window named.streams n) objects in
+    let are : AreWindows named c.in-Ok.windows = subst (λ (ks : List Kept). AreWindows named ks) (sym same) (fresh_are named c.args.window) in
+    let balanced : AreBalanced c.args.watch.monitor c.in-Ok.windows = subst (λ (ks : List Kept). AreBalanced c.args.watch.monitor ks) (sym same) (fresh_balanced named c.args.watch c.args.window c.requires.uncounted) in
     record {
       named_is = c.requires.named;
-      are_windows = subst (λ (ks : List Kept). AreWindows named ks) (sym same) (fresh_are named c.args.window);
-      balanced = subst (λ (ks : List Kept). AreBalanced c.args.watch.monitor ks) (sym same) (fresh_balanced named c.args.watch c.args.window c.requires.uncounted);
+      are_windows = are;
+      balanced = balanced;
+      are_ends =
+          ends_first named c.args.watch c.args.window c.in-Ok.windows c.in-Ok-new.ends same
+          (c.in-Ok-new.ensures ∙ ap (λ (ns : List ℕ). ends_for c.args.window ns) c.counts-2.ensures.value)
+          c.requires.named c.counts.ensures.kept (c.counts.ensures.kept.counts ∙ ap (λ (n : Named). n.streams) c.requires.named) are balanced;
     }

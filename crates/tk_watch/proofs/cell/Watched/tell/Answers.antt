@@ -1,6 +1,7 @@
 use Rattle.std.proofs.Common.{◌∙◌, ℕ}
 use Rattle.std.specs.Prelude.{ℤ}
 use Rattle.tk_watch.proofs.BalanceLemmas.{noted_balanced, windows_noted}
+use Rattle.tk_watch.proofs.EndsLemmas.{ends_noted}
 use Rattle.tk_watch.proofs.NamedLemmas.{tells_named}
 use Rattle.tk_watch.proofs.cell.Watched.tell.Goals as goal
 
@@ -14,4 +15,5 @@ invariant_of-self g c =
       named_is = tells_named s.watch c.tell-told.new.self c.args.f change c.tell-told.result c.monitor.ensures.kept tells ∙ s.named_is;
       are_windows = windows_noted _ s.windows c.note_told.new.self c.args.f.0 change c.tell-told.result s.are_windows notes;
       balanced = noted_balanced _ s.watch c.tell-told.new.self s.windows c.note_told.new.self c.args.f change c.tell-told.result s.named_is c.monitor.ensures.kept s.are_windows c.requires.from_one c.requires.stream c.requires.object tells notes s.balanced;
+      are_ends = ends_noted _ _ s.windows c.note_told.new.self s.ends c.args.f.0 c.args.change c.tell-told.result c.requires.from_one c.requires.object s.are_ends notes;
     }

@@ -11,4 +11,4 @@ returns-in-Idle-clause-looks g c =
 
 pub returns-clause-looks : goal.returns-clause-looks
 returns-clause-looks g c =
-    looks_joined _ _ _ _ (sym c.self.view_is ∙ ap (λ (f : Form _). standing_in f) c.in-Joined.is) c.look.ensures
+    looks_joined _ _ _ _ (sym c.self.view_is ∙ ap (λ (f : Form _). standing_in f) c.in-Joined.is) c.look_within.ensures.looks c.look_within.ensures.room c.look_within.ensures.kept
