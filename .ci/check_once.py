@@ -25,11 +25,10 @@ EXCEPTIONS = {
     "len": "lists of pairs and of changes, each with forms of its own",
     "row_of": "parts of one monitor, and logs with ticks of one monitor",
     "IsSteady halted": "a hub and a port, neither below the other",
-    "ledger_behind ledger_lines no_fault opened_running opened_unstopped no_publications opened_unpublished "
-    "session_text session_title": "tk_host, tk_live and tk_run, none below another",
-    "flat_map-push join_by-push publications_line push_kind push_names push_place push_places push_count session_line answered_places "
-    "strip_return number_after next_number far_none or_left none_of whole_number_of put_line left_at bytes_in "
-    "none_left none_back undone": "lines of sets, of orders, of streams and of ticks: short, and private below",
+    "ledger_behind ledger_lines session_text session_title": "tk_host, tk_live and tk_run, none below another",
+    "publications_line push_kind push_names push_place push_places push_count session_line "
+    "strip_return number_after next_number far_none or_left none_of whole_number_of put_line bytes_in "
+    "none_left none_back": "lines of sets, of orders, of streams and of ticks: short, and private below",
 }
 
 LEMMA = re.compile(r"(?:pub |abbrev |unfoldable )*([a-z][^\s:]*) : (.*)")

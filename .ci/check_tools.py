@@ -9,6 +9,7 @@ import random
 import re
 import shutil
 import subprocess
+import sys
 import tempfile
 import xml.etree.ElementTree as xml
 
@@ -229,12 +230,38 @@ def live_runs(awk):
         yield f"live_pages: {awk} does not tell its sets"
 
 
+def leeways_of(text):
+    done = subprocess.run([sys.executable, TOOLS / "leeways.py"], input=text, capture_output=True, text=True, timeout=60)
+    return done.stdout, done.returncode
+
+
+def leeways():
+    """The leeways of a round that docs/protocol.md reckons, a factor that is not dealt so, and no text."""
+    text, right = (EXAMPLES / "show_two_monitors" / "expected.txt").read_text(), "event 12, up 1: leeways a 0 b -2\n"
+    rows = [(text, (right, 0)), ("", ("", 2)),
+            (text.replace("factors a 0 b 4", "factors a 0 b 5", 1), (right + "WRONG: monitor 1 gets b 5, not 4\n", 1))]
+    for given, wanted in rows:
+        if leeways_of(given) != wanted:
+            yield f"leeways.py: tells {leeways_of(given)}, not {wanted}"
+
+
+def dealt():
+    """What each replay among the examples deals is what its leeways give."""
+    for folder, _ in with_sets(("replay",)):
+        with tempfile.NamedTemporaryFile() as trace:
+            subprocess.run([PROGRAM, "trace", *words_in(folder)[1:]], cwd=folder, stdout=trace, check=True, timeout=60)
+            shown = subprocess.run([PROGRAM, "show", trace.name], capture_output=True, text=True, check=True, timeout=60)
+        if leeways_of(shown.stdout)[1]:
+            yield f"{folder.name}: its factors are not dealt as leeways.py says"
+
+
 def tried():
+    yield from leeways()
     for awk in AWKS:
         yield from [*as_kept(awk), *pictured(awk), *ends_of_drawing(awk), *judged(awk), *ends_of_judging(awk), *fields_logs(awk)]
         yield from live_runs(awk) if PROGRAM.exists() else ()
     if PROGRAM.exists():
-        yield from [*generated(), *(installed() if AWKS else ())]
+        yield from [*generated(), *dealt(), *(installed() if AWKS else ())]
 
 
 def main():

@@ -12,7 +12,6 @@ mod laws;
 mod limit;
 mod mending;
 mod own_border;
-mod pair_list;
 mod picking;
 mod reallocating;
 mod reported;

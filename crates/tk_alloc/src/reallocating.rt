@@ -10,12 +10,11 @@ ghost use Rattle.tk_alloc.specs.Parts.{IsReallocation, above, by_monitor, leeway
 ghost use Rattle.tk_alloc.specs.Rounds.{AreValues};
 ghost use Rattle.tk_alloc.specs.Terms.{AreTerms, TakesPart, border_by, coordinator_in, dealt_by, dealt_in, dealt_to, leeways_in, object_at, parts_of};
 
-use crate::pair_list::{add, into_pairs};
 use crate::picking::is_member;
 use crate::reported::Reported;
 use crate::terms::Terms;
 use std::alloc::Global;
-use tk_base::{NoMemory, Obj, ObjSet, Pairs};
+use tk_base::{NoMemory, Obj, ObjSet, Pairs, PairsBuilder};
 use tk_rows::{MonChange, Reallocation, Table};
 use tk_share::Participant;
 
@@ -35,12 +34,12 @@ pub fn own_values(
 ) -> Result<Pairs, NoMemory>
     ensures { IfOk result (λ p. p ≡ map (λ o. (o, if is_in members.now o then epsilon else pos 0)) (objects_of objects.now)) }
 {
-    let mut list = Vec::with_capacity(alloc, objects.len())?;
+    let mut list = PairsBuilder::with_capacity(alloc, objects.len())?;
     for place in 0..objects.len() {
         let (o, _) = objects.at(place);
-        add(&mut list, o, own_value(epsilon, members, o))?;
+        list.push(o, own_value(epsilon, members, o))?;
     }
-    Ok(into_pairs(list))
+    Ok(list.finish().unwrap())
 }
 
 fn gap(value: i128, factor: i128, border: i128) -> i128
@@ -152,14 +151,14 @@ pub fn factors(
     requires weight { sum weights.now ≤ 1064 }
     ensures { IfOk result (λ c. c ≡ dealt_by values.now border weights.now p (objects_of values.now) leeways.now) }
 {
-    let mut list = Vec::with_capacity(alloc, values.len())?;
+    let mut list = PairsBuilder::with_capacity(alloc, values.len())?;
     let participant = Participant::new(weights, p);
     for place in 0..values.len() {
         let (o, value) = values.at(place);
         let share = participant.deal(leeways[place]);
-        add(&mut list, o, new_factor(border, value, share))?;
+        list.push(o, new_factor(border, value, share))?;
     }
-    Ok(into_pairs(list))
+    Ok(list.finish().unwrap())
 }
 
 fn changes_at(

@@ -8,13 +8,12 @@ ghost use Rattle.tk_rows.specs.Replacing.{IsReplacement};
 ghost use Rattle.tk_alloc.specs.Parts.{value_of};
 ghost use Rattle.tk_alloc.specs.Rounds.{AreReports, AreSlight, AreValues, IsOfSize, IsWideRound, KeepsLevels, KeepsOwn, total as total_of, totals as totals_of};
 
-use crate::pair_list::{add, into_pairs};
 use crate::picking::pick;
 use crate::reallocating::{own_values, reallocated};
 use crate::reported::Reported;
 use crate::terms::{Borders, Terms};
 use std::alloc::Global;
-use tk_base::{NoMemory, Obj, ObjSet, Pairs, Settings};
+use tk_base::{NoMemory, Obj, ObjSet, Pairs, PairsBuilder, Settings};
 use tk_rows::{Reallocation, Table};
 
 fn value_at(objects: &Pairs, report: &Reported, place: usize) -> i128
@@ -46,12 +45,12 @@ pub fn totals(alloc: Global, objects: &Pairs, reports: &[Reported]) -> Result<Pa
     requires count { length reports.now ≤ 64 }
     ensures { IfOk result (λ p. p ≡ totals_of reports.now (objects_of objects.now)) }
 {
-    let mut list = Vec::with_capacity(alloc, objects.len())?;
+    let mut list = PairsBuilder::with_capacity(alloc, objects.len())?;
     for place in 0..objects.len() {
         let (o, _) = objects.at(place);
-        add(&mut list, o, total(objects, reports, place))?;
+        list.push(o, total(objects, reports, place))?;
     }
-    Ok(into_pairs(list))
+    Ok(list.finish().unwrap())
 }
 
 /// The round over all objects, with every border taken as 0. The settings hold the k and epsilon with which

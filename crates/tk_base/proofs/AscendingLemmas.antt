@@ -1,8 +1,9 @@
 -- Laws of ascending lists.
-use Rattle.std.proofs.Common.{◌≡◌, ℕ, suc, zero, ◌+◌, ◌<◌, ◌≤◌, List, ◌∷◌, length, take, get_or, refl, sym, subst, arith, inl, inr}
-use Rattle.std.proofs.lemmas.List.{get_or-take, length-take}
+use Rattle.std.proofs.Common.{◌≡◌, ℕ, suc, zero, ◌+◌, ◌<◌, ◌≤◌, List, [], ◌∷◌, ◌++◌, length, take, get_or, Option, Some, None, refl, sym, ap, ◌∙◌, subst, arith, inl, inr}
+use Rattle.std.proofs.Math.Seq.{take-length, take-append_seam, get_or-append_seam}
+use Rattle.std.proofs.lemmas.List.{get_or-take, length-take, length-append, get_or_append_left, take-append-le}
 use Rattle.std.proofs.lemmas.Bool.{cases_lt}
-use Rattle.tk_base.specs.Ascending.{IsAscending, FirstDisorder}
+use Rattle.tk_base.specs.Ascending.{IsAscending, FirstDisorder, IsKnownOrder}
 
 -- what stands before a place within a front stands there in the whole list
 before-take : (xs : List ℕ) (n k : ℕ) → k < n → get_or (0 ∷ take n xs) k 0 ≡ get_or (0 ∷ xs) k 0
@@ -55,3 +56,48 @@ ascending_positive xs up i within = let rise = up i within in omega arith
 -- a list with a disorder does not ascend
 pub disorder_refuses : (xs : List ℕ) (place : ℕ) → FirstDisorder xs place → IsAscending xs → ⊥
 disorder_refuses xs place d up = let rise = up place d.within in omega (arith, d.falls)
+
+-- the last number, with 0 in front, of a list with one more in front of another
+last_but_one : (xs : List ℕ) (o : ℕ) → get_or (0 ∷ xs ++ o ∷ []) (length xs) 0 ≡ get_or (0 ∷ xs) (length xs) 0
+last_but_one xs o = get_or_append_left (0 ∷ xs) (o ∷ []) 0 (length xs) (omega arith)
+
+-- a list that ascends does so with a number that is above its last
+pub ascending_one_more : (xs : List ℕ) (o : ℕ) → IsAscending xs → get_or (0 ∷ xs) (length xs) 0 < o → IsAscending (xs ++ o ∷ [])
+ascending_one_more xs o up above =
+    let all = xs ++ o ∷ [] in
+    let front = subst IsAscending (sym (take-append_seam xs (o ∷ []))) up in
+    let rise : get_or (0 ∷ all) (length xs) 0 < get_or all (length xs) 0 = omega (arith, above, last_but_one xs o, get_or-append_seam xs o [] 0) in
+    let more = ascending_more all (length xs) (omega (arith, length-append xs (o ∷ []))) front rise in
+    subst IsAscending (ap (λ (n : ℕ). take n all) (sym (length-append xs (o ∷ []))) ∙ take-length all) more
+
+-- the first number that is not above the one before is where the list stops to ascend
+pub stops_here : (xs : List ℕ) (o : ℕ) → IsAscending xs → o ≤ get_or (0 ∷ xs) (length xs) 0 → FirstDisorder (xs ++ o ∷ []) (length xs)
+stops_here xs o up below = record {
+  within = omega (arith, length-append xs (o ∷ []));
+  front = subst IsAscending (sym (take-append_seam xs (o ∷ []))) up;
+  falls = omega (arith, below, last_but_one xs o, get_or-append_seam xs o [] 0);
+}
+
+-- it stays where it was with one more
+pub stopped_before : (xs : List ℕ) (o place : ℕ) → FirstDisorder xs place → FirstDisorder (xs ++ o ∷ []) place
+stopped_before xs o place d = record {
+  within = omega (arith, d.within, length-append xs (o ∷ []));
+  front = subst IsAscending (sym (take-append-le place xs (o ∷ []) (omega (arith, d.within)))) d.front;
+  falls = omega (arith, d.falls, get_or_append_left xs (o ∷ []) 0 place d.within, get_or_append_left (0 ∷ xs) (o ∷ []) 0 place (omega (arith, d.within)));
+}
+
+last_of_more : (xs : List ℕ) (o : ℕ) → get_or (0 ∷ xs ++ o ∷ []) (length (xs ++ o ∷ [])) 0 ≡ o
+last_of_more xs o =
+    let more : length (xs ++ o ∷ []) ≡ suc (length xs) = omega (arith, length-append xs (o ∷ [])) in
+    ap (λ (n : ℕ). get_or (0 ∷ xs ++ o ∷ []) n 0) more ∙ get_or-append_seam xs o [] 0
+
+-- the same of what is known of a list that grows
+rises : (xs : List ℕ) (last o : ℕ) → IsKnownOrder xs last None → last < o → IsKnownOrder (xs ++ o ∷ []) o None
+rises xs last o (up, is) above = (ascending_one_more xs o up (omega (arith, above, is)), sym (last_of_more xs o))
+
+pub falls : (xs : List ℕ) (last o : ℕ) → IsKnownOrder xs last None → o ≤ last → IsKnownOrder (xs ++ o ∷ []) o (Some (length xs))
+falls xs last o (up, is) below = stops_here xs o up (omega (arith, below, is))
+
+pub stays : (xs : List ℕ) (last o : ℕ) (d : Option ℕ) → IsKnownOrder xs last d → (d ≡ None → last < o) → IsKnownOrder (xs ++ o ∷ []) o d
+stays xs last o None known above = rises xs last o known (above refl)
+stays xs last o (Some place) known above = stopped_before xs o place known

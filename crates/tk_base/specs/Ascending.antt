@@ -1,5 +1,5 @@
 -- Lists of objects in order.
-use Rattle.std.specs.Prelude.{ℕ, ◌<◌, ◌≤◌, Bool, nat_lt, List, ◌∷◌, length, map, take, slice_index, EachIndex}
+use Rattle.std.specs.Prelude.{◌≡◌, ℕ, ◌<◌, ◌≤◌, Bool, Option, Some, None, nat_lt, List, ◌∷◌, length, map, take, slice_index, EachIndex}
 use Rattle.std.specs.List.{list_all, zip}
 use Rattle.tk_base.specs.declared.ids.Obj.{Obj}
 
@@ -16,6 +16,11 @@ pub record FirstDisorder (xs : List ℕ) (place : ℕ) : Type 0 where
   pub within : place < length xs
   pub front : IsAscending (take place xs)
   pub falls : slice_index xs place ≤ slice_index (0 ∷ xs) place
+
+-- what is known of a list that grows: its last number where it ascends, else where it stops to
+abbrev pub IsKnownOrder : List ℕ → ℕ → Option ℕ → Type 0
+IsKnownOrder xs last None = IsAscending xs × (last ≡ slice_index (0 ∷ xs) (length xs))
+IsKnownOrder xs last (Some place) = FirstDisorder xs place
 
 -- the same as a test
 abbrev pub ascends : List ℕ → Bool

@@ -2,7 +2,7 @@
 //!
 //! It promises that a set and a list of pairs ascend strictly, that settings are within the limits of
 //! this system, and that a clone equals what it was made of. It stands on nothing.
-//! Only the four `try_clone` and the clone of `Places` answer want of memory; `Pairs::new` takes some for its small
+//! Only the four `try_clone`, the clone of `Places` and a `PairsBuilder` answer want of memory; `Pairs::new` takes some for its small
 //! form, and does without.
 #![tactic(auto)]
 
@@ -24,6 +24,6 @@ pub use memory::NoMemory;
 pub use narrow_pair::NarrowPair;
 pub use numbered::NotAscending;
 pub use obj_set::ObjSet;
-pub use pairs::Pairs;
+pub use pairs::{Pairs, PairsBuilder};
 pub use places::Places;
 pub use settings::{SettingFault, Settings};

@@ -2,12 +2,15 @@
 
 ghost use Rattle.std.specs.Prelude.{◌≡◌, ◌<◌, ◌↔◌, IsTrue, IfOk, IfErr, IsOk, IfSome, IfNone, length, map, Some, slice_get, slice_index, Contains};
 ghost use Rattle.tk_base.specs.Ascending.{IsAscending, FirstDisorder};
-ghost use Rattle.tk_base.specs.Pairs.{objects_of, value_at, pairs_of, narrow_pair_of};
+ghost use Rattle.tk_base.specs.Pairs.{objects_of, value_at, pairs_of, pairs_in, narrow_pair_of};
+
+mod builder;
 
 use crate::ids::Obj;
 use crate::memory::NoMemory;
 use crate::narrow_pair::NarrowPair;
 use crate::numbered::{NotAscending, first_disorder, place_of};
+pub use builder::PairsBuilder;
 use std::alloc::Global;
 use std::marker::Model;
 
@@ -23,6 +26,17 @@ enum Form {
 #[derive(Debug, Drop)]
 pub struct Pairs {
     form: Form,
+}
+
+impl Form {
+    fn len(&self) -> usize
+        ensures { result ≡ length (pairs_in self.now) }
+    {
+        match self {
+            Form::Narrow(list) => list.len(),
+            Form::Wide(list) => list.len(),
+        }
+    }
 }
 
 impl Model for Pairs {
@@ -96,10 +110,7 @@ impl Pairs {
         ensures value { result ≡ length self.now }
         ensures ascends { IsAscending (objects_of self.now) }
     {
-        match &self.form {
-            Form::Narrow(list) => list.len(),
-            Form::Wide(list) => list.len(),
-        }
+        self.form.len()
     }
 
     /// The pair at a place from 0, in ascending order of objects.

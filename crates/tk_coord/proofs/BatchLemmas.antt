@@ -5,6 +5,7 @@ use Rattle.tk_journal.specs.declared.publication.Publication.{Publication}
 use Rattle.std.specs.List.{range_with_len, enumerate_from, filter_map, cons_option}
 use Rattle.std.specs.Option.{option_map}
 use Rattle.tk_frames.specs.Assigns.{Assign, assign_in}
+use Rattle.tk_journal.specs.Publishing.{publications}
 use Rattle.tk_journal.specs.Readings.{is_stopped, members_in}
 use Rattle.tk_journal.proofs.Published.{batch_wanted, no_stop}
 use Rattle.std.proofs.lemmas.List.{append_assoc}
@@ -51,6 +52,14 @@ started s = sym (no_factors (objects s.k) 1 s.monitors)
 -- Assigns end no journal
 pub opened_running : (o : Opening) → is_stopped (opened o) ≡ false
 opened_running o = no_stop (opened o) (batch_wanted (λ (p : ℕ × List (ℕ × ℤ)). p.0) (λ p. f.Assign 1 o.members p.1) (enumerate_from 1 o.factors) (λ _. refl))
+
+no_publications : (members : List ℕ) (rows : List (ℕ × List (ℕ × ℤ))) → publications (map (λ p. n.Sent (record { 0 = p.0 }) (f.Assign 1 members p.1)) rows) ≡ []
+no_publications members [] = refl
+no_publications members (p ∷ rows) = no_publications members rows
+
+-- and publish nothing
+pub opened_unpublished : (o : Opening) → publications (opened o) ≡ []
+opened_unpublished o = no_publications o.members (enumerate_from 1 o.factors)
 
 -- an empty journal has not ended
 pub none_stops : is_stopped [] ≡ false

@@ -23,7 +23,7 @@ use Rattle.tk_coord.specs.Steps.{IsCounted, asks_wide, quiet_turn, report_frame}
 use Rattle.tk_coord.specs.declared.peer.Peer.{Peer}
 use Rattle.tk_coord.specs.declared.outcomes.Grounds.{Grounds}
 use Rattle.tk_coord.specs.declared.phase.Phase.{Phase}
-use Rattle.tk_coord.specs.declared.step.Outcome.{Outcome}
+use Rattle.tk_coord.specs.declared.step.TurnOutcome.{TurnOutcome}
 use Rattle.tk_coord.proofs.DemandLemmas.{fails_fresh, report_kind, with_values}
 use Rattle.tk_coord.proofs.GroundLemmas.{force_large}
 use Rattle.tk_coord.proofs.ReportTurns.{late_never, same_full, same_short}
@@ -99,7 +99,7 @@ end_counts s j mon number seq border values wide closed is =
 -- ---- a fresh Report that finds no round open
 
 -- the end of a round opens a wide one where a factor would be past its limit
-ends_wide : (grid : Grid) (peers : List Peer) (phase : Phase) (rounds : ℕ) (decided : Decided) (outcome : Outcome) (within : Bool) → is_within_limit decided ≡ within
+ends_wide : (grid : Grid) (peers : List Peer) (phase : Phase) (rounds : ℕ) (decided : Decided) (outcome : TurnOutcome) (within : Bool) → is_within_limit decided ≡ within
     → Ends grid peers phase rounds decided outcome → asks_wide outcome.reply ≡ not within
 ends_wide grid peers phase rounds decided outcome true fits ends = ap asks_wide (ends.within fits).reply
 ends_wide grid peers phase rounds decided outcome false fits ends = ap asks_wide (ends.past fits).reply
@@ -132,7 +132,7 @@ short_counts_as s j report frame false true a passed fits is = answered_counts s
 short_counts_as s j report frame true false a passed fits is = answered_counts s j report frame true false (nat_lt (streak s j) 8) true Wide a passed fits refl refl refl
 short_counts_as s j report frame false false a passed fits is = absurd (cc)
 
-pub short_counts : (s : Setup) (j : List Noted) (g : Grounds) (report : Reported) (frame : Frame) (outcome : Outcome) → IsGrounded s j g → (a : IsAnswered s j frame report) → passes_at s j report ≡ true
+pub short_counts : (s : Setup) (j : List Noted) (g : Grounds) (report : Reported) (frame : Frame) (outcome : TurnOutcome) → IsGrounded s j g → (a : IsAnswered s j frame report) → passes_at s j report ≡ true
     → Ends g.board.now.table g.peers.now g.phase g.rounds (short_decides g.phase.settings g.board.now.table g.board.now.members report) outcome
     → IsCounted s j report.mon.0 (report_frame j report a.failed) (if asks_wide outcome.reply then Wide else Short) false (asks_wide outcome.reply)
 short_counts s j g report frame outcome h a passed ends =
@@ -141,13 +141,13 @@ short_counts s j g report frame outcome h a passed ends =
     (ap is_within_limit (same_short s j g report h)) ends)
 
 -- it fails, and eight have failed before
-pub tired_counts : (s : Setup) (j : List Noted) (g : Grounds) (report : Reported) (frame : Frame) (outcome : Outcome) → (a : IsAnswered s j frame report) → passes_at s j report ≡ false
+pub tired_counts : (s : Setup) (j : List Noted) (g : Grounds) (report : Reported) (frame : Frame) (outcome : TurnOutcome) → (a : IsAnswered s j frame report) → passes_at s j report ≡ false
     → nat_lt (streak s j) 8 ≡ false → OpensWide g.phase g.rounds outcome → IsCounted s j report.mon.0 (report_frame j report a.failed) Wide true (asks_wide outcome.reply)
 tired_counts s j g report frame outcome a failed many o =
     answered_counts s j report frame false (is_within_limit (short_at s j report)) false (asks_wide outcome.reply) Wide a failed refl many refl (ap asks_wide o.reply)
 
 -- it fails, and fewer have failed before: with one monitor its full round ends at once
-full_wide : (s : Setup) (j : List Noted) (g : Grounds) (report : Reported) (outcome : Outcome) (one : Bool) → IsGrounded s j g → s.monitors == 1 ≡ one
+full_wide : (s : Setup) (j : List Noted) (g : Grounds) (report : Reported) (outcome : TurnOutcome) (one : Bool) → IsGrounded s j g → s.monitors == 1 ≡ one
     → OpensOrEnds g.board.now.table g.peers.now g.phase g.rounds g.board.now.members report outcome
     → asks_wide outcome.reply ≡ ((s.monitors == 1) && not (is_within_limit (full_at s j (report ∷ []))))
 full_wide s j g report outcome true h one o =
@@ -159,7 +159,7 @@ full_wide s j g report outcome false h one o =
     let large = force_large s j g.phase.settings h.stands.settings in
     ap asks_wide (o.others (ap (λ (k : ℕ). k == 1) large.monitors ∙ one)).reply ∙ sym (ap (λ b. b && not (is_within_limit (full_at s j (report ∷ [])))) one)
 
-pub full_counts : (s : Setup) (j : List Noted) (g : Grounds) (report : Reported) (frame : Frame) (outcome : Outcome) → IsGrounded s j g → (a : IsAnswered s j frame report) → passes_at s j report ≡ false
+pub full_counts : (s : Setup) (j : List Noted) (g : Grounds) (report : Reported) (frame : Frame) (outcome : TurnOutcome) → IsGrounded s j g → (a : IsAnswered s j frame report) → passes_at s j report ≡ false
     → nat_lt (streak s j) 8 ≡ true → OpensOrEnds g.board.now.table g.peers.now g.phase g.rounds g.board.now.members report outcome
     → IsCounted s j report.mon.0 (report_frame j report a.failed) Full true (asks_wide outcome.reply)
 full_counts s j g report frame outcome h a failed few o =
@@ -168,7 +168,7 @@ full_counts s j g report frame outcome h a failed few o =
 -- ---- the end of a round
 
 -- the end of a wide round sends Assigns, and so does that of a full one, or it opens a wide one
-pub end_is_counted : (s : Setup) (j : List Noted) (g : Grounds) (v : Values) (reports : List Reported) (wide : Bool) (outcome : Outcome) → AreLast s j g v reports wide
+pub end_is_counted : (s : Setup) (j : List Noted) (g : Grounds) (v : Values) (reports : List Reported) (wide : Bool) (outcome : TurnOutcome) → AreLast s j g v reports wide
     → (wide ≡ true → IsAssigned g.board.now.table g.peers.now (closed g.phase) (wide_decides g.phase.next g.board.now.table g.board.now.members reports) outcome)
     → (wide ≡ false → Ends g.board.now.table g.peers.now (closed g.phase) g.rounds (full_decides g.phase.next g.board.now.table g.board.now.members reports) outcome)
     → IsCounted s j v.mon.0 (frame_of v) End false (asks_wide outcome.reply)

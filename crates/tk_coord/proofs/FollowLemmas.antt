@@ -28,7 +28,7 @@ use Rattle.tk_coord.specs.Steps.{Follows, IsAsked, IsReply, with_got}
 use Rattle.tk_coord.specs.declared.peer.Peer.{Peer}
 use Rattle.tk_coord.specs.declared.round.Round.{Round}
 use Rattle.tk_coord.specs.declared.phase.Phase.{Phase}
-use Rattle.tk_coord.specs.declared.step.Outcome.{Outcome}
+use Rattle.tk_coord.specs.declared.step.TurnOutcome.{TurnOutcome}
 use Rattle.tk_coord.specs.declared.step.Reply.TheVariants as reply
 use Rattle.tk_coord.proofs.AskedLemmas.{CanAsk, asked_open, full_is_asked, wide_is_asked}
 use Rattle.tk_coord.proofs.ClosingLemmas.{uncalm_closing, uncalm_unsettled}
@@ -36,7 +36,7 @@ use Rattle.tk_coord.proofs.DealtLemmas.{assigns_by_peers, decided_nodes, demande
 use Rattle.tk_coord.proofs.StandLemmas.{IsBetween, IsTaken, frame_between, nothing_stops, said, turned_stands}
 
 -- where what is prepared is what is demanded, and nothing ends the turn
-follows_whole : (s : Setup) (j : List Noted) (mon : Mon) (frame : Frame) (outcome : Outcome) → IsTaken s j mon frame → outcome.entries.items ≡ demanded s j mon.0 frame → closing s (said s j mon frame) ≡ []
+follows_whole : (s : Setup) (j : List Noted) (mon : Mon) (frame : Frame) (outcome : TurnOutcome) → IsTaken s j mon frame → outcome.entries.items ≡ demanded s j mon.0 frame → closing s (said s j mon frame) ≡ []
     → IsReply s (with_got j mon frame) (demanded s j mon.0 frame) outcome.reply → All (IsEntryOf s.monitors s.objects) outcome.entries.items
     → IsBetween s j mon frame outcome.phase → outcome.phase.stopped ≡ false → Follows s j mon frame outcome
 follows_whole s j mon frame outcome taken is none reply range between going = record {
@@ -57,7 +57,7 @@ none_of : (s : Setup) (entries : List Noted) → entries ≡ [] → All (IsEntry
 none_of s entries is = subst (All (IsEntryOf s.monitors s.objects)) (sym is) (λ k d below. absurd (omega (arith, below)))
 
 -- nothing follows a frame that demands nothing, ends no round, and after which nothing ends the turn
-pub quiet_follows : (s : Setup) (j : List Noted) (mon : Mon) (frame : Frame) (outcome : Outcome) → IsTaken s j mon frame → is_open s (with_got j mon frame) ≡ is_open s j → demanded s j mon.0 frame ≡ []
+pub quiet_follows : (s : Setup) (j : List Noted) (mon : Mon) (frame : Frame) (outcome : TurnOutcome) → IsTaken s j mon frame → is_open s (with_got j mon frame) ≡ is_open s j → demanded s j mon.0 frame ≡ []
     → closing s (with_got j mon frame) ≡ [] → outcome.entries.items ≡ [] → outcome.reply ≡ reply.Nothing → Stands s j outcome.phase → Follows s j mon frame outcome
 quiet_follows s j mon frame outcome taken same demands ends none reply stands =
     follows_whole s j mon frame outcome taken (none ∙ sym demands) (ap (closing s) (nothing_said s j mon frame demands) ∙ ends)
@@ -65,7 +65,7 @@ quiet_follows s j mon frame outcome taken same demands ends none reply stands =
     (none_of s outcome.entries.items none) (frame_between s j mon frame outcome.phase same stands) (stands.stopped ∙ taken.going)
 
 -- the end of a turn in which all have settled
-pub calm_follows : (s : Setup) (j : List Noted) (mon : Mon) (frame : Frame) (phase : Phase) (ends : Bool) (outcome : Outcome) → IsTaken s j mon frame
+pub calm_follows : (s : Setup) (j : List Noted) (mon : Mon) (frame : Frame) (phase : Phase) (ends : Bool) (outcome : TurnOutcome) → IsTaken s j mon frame
     → is_open s (with_got j mon frame) ≡ is_open s j → demanded s j mon.0 frame ≡ [] → outcome.entries.items ≡ closing s (with_got j mon frame)
     → outcome.reply ≡ reply.Nothing → All (IsEntryOf s.monitors s.objects) outcome.entries.items → is_stopped outcome.entries.items ≡ ends → outcome.phase ≡ record phase { stopped = ends }
     → Stands s j phase → Follows s j mon frame outcome
@@ -97,7 +97,7 @@ assigned_calm s now decided (d ∷ rows) is some range =
     uncalm_unsettled s (now ++ assigns now decided) d.0 (All-head (λ (e : Row). IsMonitor s e.0) d rows range) (ap settled_in (first_cleared now decided d rows is))
 
 -- what follows where a round ends in Assigns
-pub assigned_follows : (s : Setup) (j : List Noted) (mon : Mon) (frame : Frame) (decided : Decided) (peers : List Peer) (phase : Phase) (outcome : Outcome) → IsTaken s j mon frame
+pub assigned_follows : (s : Setup) (j : List Noted) (mon : Mon) (frame : Frame) (decided : Decided) (peers : List Peer) (phase : Phase) (outcome : TurnOutcome) → IsTaken s j mon frame
     → ArePeers s j peers
     → IsAssigned (table_at s j) peers phase decided outcome → demanded s j mon.0 frame ≡ assigns j decided → is_open s (with_got j mon frame) ≡ false → 0 < length (drop 1 decided.dealt)
     → All (IsEntryOf s.monitors s.objects) outcome.entries.items → IsBetween s j mon frame phase → phase.stopped ≡ false → Follows s j mon frame outcome
@@ -123,7 +123,7 @@ pub wide_over : (a b : Setup) (number : ℕ) → IsAsLarge a b → wide_collects
 wide_over a b number same = ap (λ (k : ℕ). collects number (objects k) (monitors a)) same.objects ∙ ap (λ (k : ℕ). collects number (objects b.objects) (range_with_len 1 k)) same.monitors
 
 -- what follows where Collects were prepared
-asked_follows : (s : Setup) (j : List Noted) (mon : Mon) (frame : Frame) (round : Round) (opener : Option Reported) (phase : Phase) (outcome : Outcome) → IsTaken s j mon frame
+asked_follows : (s : Setup) (j : List Noted) (mon : Mon) (frame : Frame) (round : Round) (opener : Option Reported) (phase : Phase) (outcome : TurnOutcome) → IsTaken s j mon frame
     → AreCounted s (with_got j mon frame)
     → IsAsked s (with_got j mon frame) (demanded s j mon.0 frame) round opener → outcome.reply ≡ reply.Ask round opener → outcome.entries.items ≡ demanded s j mon.0 frame
     → All (IsEntryOf s.monitors s.objects) outcome.entries.items → outcome.phase ≡ phase → IsBetween s j mon frame phase → phase.stopped ≡ false → Follows s j mon frame outcome
@@ -134,7 +134,7 @@ asked_follows s j mon frame round opener phase outcome t counted asked reply sen
     (subst (IsBetween s j mon frame) (sym holds) between) (ap (λ (x : Phase). x.stopped) holds ∙ going)
 
 -- what follows where a wide round is opened
-pub wide_follows : (s : Setup) (j : List Noted) (mon : Mon) (frame : Frame) (phase : Phase) (rounds most : ℕ) (outcome : Outcome) → IsTaken s j mon frame → OpensWide phase rounds outcome
+pub wide_follows : (s : Setup) (j : List Noted) (mon : Mon) (frame : Frame) (phase : Phase) (rounds most : ℕ) (outcome : TurnOutcome) → IsTaken s j mon frame → OpensWide phase rounds outcome
     → IsAsLarge phase.settings s → demanded s j mon.0 frame ≡ wide_collects s (rounds + 1) → CanAsk s (with_got j mon frame) most → most ≤ rounds
     → All (IsEntryOf s.monitors s.objects) outcome.entries.items → IsBetween s j mon frame phase → phase.stopped ≡ false → Follows s j mon frame outcome
 wide_follows s j mon frame phase rounds most outcome t o large demands can few range between going =
@@ -147,7 +147,7 @@ wide_follows s j mon frame phase rounds most outcome t o large demands can few r
     (o.sends ∙ wide_over phase.settings s number large ∙ sym demands) range o.holds between going
 
 -- what follows where a full round is opened
-pub full_follows : (s : Setup) (j : List Noted) (mon : Mon) (frame : Frame) (phase : Phase) (rounds : ℕ) (report : Reported) (most : ℕ) (outcome : Outcome) → IsTaken s j mon frame
+pub full_follows : (s : Setup) (j : List Noted) (mon : Mon) (frame : Frame) (phase : Phase) (rounds : ℕ) (report : Reported) (most : ℕ) (outcome : TurnOutcome) → IsTaken s j mon frame
     → OpensFull phase rounds report outcome
     → IsAsLarge phase.settings s → demanded s j mon.0 frame ≡ collects (rounds + 1) (objects_of report.values) (filter (λ q. not (q == report.mon.0)) (monitors s)) → 1 < s.monitors
     → IsMonitor s report.mon.0

@@ -19,7 +19,7 @@ use Rattle.tk_coord.specs.Grounds.{IsGrounded, OpensOver}
 use Rattle.tk_coord.specs.State.{Stands}
 use Rattle.tk_coord.specs.declared.outcomes.Grounds.{Grounds}
 use Rattle.tk_coord.specs.declared.phase.Phase.{Phase}
-use Rattle.tk_coord.specs.declared.step.Outcome.{Outcome}
+use Rattle.tk_coord.specs.declared.step.TurnOutcome.{TurnOutcome}
 use Rattle.tk_coord.proofs.FollowLemmas.{IsAsLarge}
 use Rattle.tk_coord.proofs.GrowLemmas.{firm_at, limits_at, orderly_at}
 use Rattle.tk_coord.proofs.StandLemmas.{IsTaken}
@@ -49,7 +49,7 @@ entries_of s j phase entries h each =
     subst (λ (k : ℕ). All (IsEntryOf k s.objects) entries) (force_large s j phase.settings h.settings).monitors each
 
 -- a wide round that opens by the fields opens over the journal
-pub opened_over : (s : Setup) (j : List Noted) (g : Grounds) (outcome : Outcome) → IsGrounded s j g → OpensWide g.phase g.rounds outcome
+pub opened_over : (s : Setup) (j : List Noted) (g : Grounds) (outcome : TurnOutcome) → IsGrounded s j g → OpensWide g.phase g.rounds outcome
     → All (IsEntryOf g.phase.settings.monitors s.objects) outcome.entries.items → OpensOver s j outcome
 opened_over s j g outcome grounded opens each = record {
   stands = subst (Stands s j) (sym opens.holds) grounded.stands;

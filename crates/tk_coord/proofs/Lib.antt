@@ -2,7 +2,7 @@ pub mod AnswerLemmas
 pub mod AskLemmas
 pub mod AskedLemmas
 pub mod AssignLemmas
-mod BatchLemmas
+pub mod BatchLemmas
 mod BeginLemmas
 mod BegunLemmas
 pub mod BoardLemmas

@@ -23,7 +23,7 @@ use Rattle.tk_coord.specs.State.{Holds, Stands}
 use Rattle.tk_coord.specs.Steps.{Follows, IsStep}
 use Rattle.tk_coord.specs.declared.phase.Phase.{Phase}
 use Rattle.tk_coord.specs.declared.state.State.{State}
-use Rattle.tk_coord.specs.declared.step.Outcome.{Outcome}
+use Rattle.tk_coord.specs.declared.step.TurnOutcome.{TurnOutcome}
 use Rattle.tk_coord.specs.declared.step.Step.{Step}
 use Rattle.tk_coord.proofs.GrowLemmas.{journal_grows}
 use Rattle.tk_coord.proofs.KeepLemmas.{holds_same}
@@ -39,7 +39,7 @@ turn_whole s j mon frame entries is =
     ∙ ap (λ (xs : List Noted). n.Got mon frame ∷ demanded s j mon.0 frame ++ closing s xs) (append_assoc j (n.Got mon frame ∷ []) (demanded s j mon.0 frame))
 
 -- the journal with a frame and what follows it has one turn more
-pub noted_turn : (s : Setup) (j after : List Noted) (mon : Mon) (frame : Frame) (outcome : Outcome) → Follows s j mon frame outcome → after ≡ j ++ n.Got mon frame ∷ outcome.entries.items
+pub noted_turn : (s : Setup) (j after : List Noted) (mon : Mon) (frame : Frame) (outcome : TurnOutcome) → Follows s j mon frame outcome → after ≡ j ++ n.Got mon frame ∷ outcome.entries.items
     → after ≡ j ++ turn_of s j (n.Got mon frame)
 noted_turn s j after mon frame outcome h is = is ∙ ap (λ (xs : List Noted). j ++ xs) (turn_whole s j mon frame outcome.entries.items h.entries)
 

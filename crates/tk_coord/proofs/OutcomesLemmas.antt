@@ -21,7 +21,7 @@ use Rattle.tk_coord.specs.declared.dealing.Dealt.{Dealt}
 use Rattle.tk_coord.specs.declared.dealing.Dealt.TheVariants as dealt
 use Rattle.tk_coord.specs.declared.peer.Peer.{Peer}
 use Rattle.tk_coord.specs.declared.phase.Phase.{Phase}
-use Rattle.tk_coord.specs.declared.step.Outcome.{Outcome}
+use Rattle.tk_coord.specs.declared.step.TurnOutcome.{TurnOutcome}
 
 -- ---- what is dealt, and its Assigns
 
@@ -44,7 +44,7 @@ pub decides_same : (grid : Grid) (decided : Decided) (r : Reallocation) → IsDe
 decides_same grid decided r is = λ i. record { members = is.members i; dealt = is.dealt i }
 
 -- where each factor is within its limit, the Assigns are the end
-pub ends_within : (grid : Grid) (peers : List Peer) (phase : Phase) (rounds : ℕ) (decided : Decided) (outcome : Outcome) → is_within_limit decided ≡ true
+pub ends_within : (grid : Grid) (peers : List Peer) (phase : Phase) (rounds : ℕ) (decided : Decided) (outcome : TurnOutcome) → is_within_limit decided ≡ true
     → IsAssigned grid peers phase decided outcome → Ends grid peers phase rounds decided outcome
 ends_within grid peers phase rounds decided outcome within is = record { within = λ _. is; past = λ past. absurd (true≢false (sym within ∙ past)) }
 

@@ -20,7 +20,7 @@ use Rattle.tk_coord.specs.Dealing.{Ends, OpensOrEnds, OpensWide}
 use Rattle.tk_coord.specs.Grounds.{IsAnswered, IsGrounded}
 use Rattle.tk_coord.specs.Steps.{Follows, report_frame, with_got}
 use Rattle.tk_coord.specs.declared.outcomes.Grounds.{Grounds}
-use Rattle.tk_coord.specs.declared.step.Outcome.{Outcome}
+use Rattle.tk_coord.specs.declared.step.TurnOutcome.{TurnOutcome}
 use Rattle.tk_coord.proofs.AskedLemmas.{CanAsk, can_ask, fresh_report}
 use Rattle.tk_coord.proofs.DealtLemmas.{full_deals, short_deals}
 use Rattle.tk_coord.proofs.DemandLemmas.{report_demanded, report_kind}
@@ -75,7 +75,7 @@ pub same_full : (s : Setup) (j : List Noted) (g : Grounds) (reports : List Repor
 same_full s j g reports h = over_fields (λ q t ms. full_decides q t ms reports) s j g.phase.settings g.board.now.table g.board.now.members (grounds_are s j g h)
 
 -- what ends by the fields ends by the journal
-ends_by : (s : Setup) (j : List Noted) (g : Grounds) (rounds : ℕ) (decided d : Decided) (outcome : Outcome) → IsGrounded s j g → decided ≡ d
+ends_by : (s : Setup) (j : List Noted) (g : Grounds) (rounds : ℕ) (decided d : Decided) (outcome : TurnOutcome) → IsGrounded s j g → decided ≡ d
     → Ends g.board.now.table g.peers.now g.phase rounds decided outcome → Ends (table_at s j) g.peers.now g.phase rounds d outcome
 ends_by s j g rounds decided d outcome h is ends =
     subst (λ (q : Decided). Ends (table_at s j) g.peers.now g.phase rounds q outcome) is (subst (λ (t : Grid). Ends t g.peers.now g.phase rounds decided outcome) h.dealt ends)
@@ -83,7 +83,7 @@ ends_by s j g rounds decided d outcome h is ends =
 -- ---- the rounds that open or end
 
 -- a wide round opens, where so many rounds were opened by the fields and by the journal
-wide_as : (s : Setup) (j : List Noted) (g : Grounds) (report : Reported) (frame : Frame) (kept count : ℕ) (outcome : Outcome) → IsGrounded s j g → (a : IsAnswered s j frame report)
+wide_as : (s : Setup) (j : List Noted) (g : Grounds) (report : Reported) (frame : Frame) (kept count : ℕ) (outcome : TurnOutcome) → IsGrounded s j g → (a : IsAnswered s j frame report)
     → OpensWide g.phase kept outcome → kept ≡ count → rounds s j ≤ count → demanded s j report.mon.0 (report_frame j report a.failed) ≡ wide_collects s (count + 1)
     → All (IsEntryOf s.monitors s.objects) outcome.entries.items → Follows s j report.mon (report_frame j report a.failed) outcome
 wide_as s j g report frame kept count outcome h a opens is high demands range =
@@ -92,7 +92,7 @@ wide_as s j g report frame kept count outcome h a opens is high demands range =
     (demands ∙ ap (λ (k : ℕ). wide_collects s (k + 1)) (sym is)) fresh.asks (omega (arith, is, high)) range fresh.between fresh.going
 
 -- Assigns end one
-assigns_as : (s : Setup) (j : List Noted) (g : Grounds) (report : Reported) (frame : Frame) (rounds : ℕ) (decided : Decided) (outcome : Outcome) → IsGrounded s j g → (a : IsAnswered s j frame report)
+assigns_as : (s : Setup) (j : List Noted) (g : Grounds) (report : Reported) (frame : Frame) (rounds : ℕ) (decided : Decided) (outcome : TurnOutcome) → IsGrounded s j g → (a : IsAnswered s j frame report)
     → Ends (table_at s j) g.peers.now g.phase rounds decided outcome → is_within_limit decided ≡ true → demanded s j report.mon.0 (report_frame j report a.failed) ≡ assigns j decided
     → 0 < length (drop 1 decided.dealt) → All (IsEntryOf s.monitors s.objects) outcome.entries.items → Follows s j report.mon (report_frame j report a.failed) outcome
 assigns_as s j g report frame rounds decided outcome h a ends fits demands some range =
@@ -102,7 +102,7 @@ assigns_as s j g report frame rounds decided outcome h a ends fits demands some 
 -- ---- the short test passes
 
 -- what follows then, by whether the factors are within their limit
-short_as : (s : Setup) (j : List Noted) (g : Grounds) (report : Reported) (frame : Frame) (outcome : Outcome) (within : Bool) → IsGrounded s j g → (a : IsAnswered s j frame report)
+short_as : (s : Setup) (j : List Noted) (g : Grounds) (report : Reported) (frame : Frame) (outcome : TurnOutcome) (within : Bool) → IsGrounded s j g → (a : IsAnswered s j frame report)
     → passes_at s j report ≡ true → is_within_limit (short_at s j report) ≡ within → Ends (table_at s j) g.peers.now g.phase g.rounds (short_at s j report) outcome
     → All (IsEntryOf s.monitors s.objects) outcome.entries.items → Follows s j report.mon (report_frame j report a.failed) outcome
 short_as s j g report frame outcome true h a passed fits ends =
@@ -111,7 +111,7 @@ short_as s j g report frame outcome false h a passed fits ends =
     wide_as s j g report frame g.rounds (rounds s j) outcome h a (ends.past fits) h.counted (omega arith) (demands_by s j report frame true false (nat_lt (streak s j) 8) Wide a passed fits refl refl)
 
 -- what follows then
-pub short_follows : (s : Setup) (j : List Noted) (g : Grounds) (report : Reported) (frame : Frame) (outcome : Outcome) → IsGrounded s j g → (a : IsAnswered s j frame report) → passes_at s j report ≡ true
+pub short_follows : (s : Setup) (j : List Noted) (g : Grounds) (report : Reported) (frame : Frame) (outcome : TurnOutcome) → IsGrounded s j g → (a : IsAnswered s j frame report) → passes_at s j report ≡ true
     → Ends g.board.now.table g.peers.now g.phase g.rounds (short_decides g.phase.settings g.board.now.table g.board.now.members report) outcome
     → All (IsEntryOf s.monitors s.objects) outcome.entries.items → Follows s j report.mon (report_frame j report a.failed) outcome
 short_follows s j g report frame outcome h a passed ends =
@@ -120,7 +120,7 @@ short_follows s j g report frame outcome h a passed ends =
 
 -- ---- it fails, and eight have failed before
 
-pub tired_follows : (s : Setup) (j : List Noted) (g : Grounds) (report : Reported) (frame : Frame) (outcome : Outcome) → IsGrounded s j g → (a : IsAnswered s j frame report) → passes_at s j report ≡ false
+pub tired_follows : (s : Setup) (j : List Noted) (g : Grounds) (report : Reported) (frame : Frame) (outcome : TurnOutcome) → IsGrounded s j g → (a : IsAnswered s j frame report) → passes_at s j report ≡ false
     → nat_lt (streak s j) 8 ≡ false → OpensWide g.phase g.rounds outcome → All (IsEntryOf s.monitors s.objects) outcome.entries.items
     → Follows s j report.mon (report_frame j report a.failed) outcome
 tired_follows s j g report frame outcome h a failed many opens =
@@ -129,7 +129,7 @@ tired_follows s j g report frame outcome h a failed many opens =
 -- ---- it fails, and fewer have failed before
 
 -- with one monitor the round ends at once
-alone_as : (s : Setup) (j : List Noted) (g : Grounds) (report : Reported) (frame : Frame) (outcome : Outcome) (within : Bool) → IsGrounded s j g → (a : IsAnswered s j frame report)
+alone_as : (s : Setup) (j : List Noted) (g : Grounds) (report : Reported) (frame : Frame) (outcome : TurnOutcome) (within : Bool) → IsGrounded s j g → (a : IsAnswered s j frame report)
     → is_within_limit (full_at s j (report ∷ [])) ≡ within → demanded s j report.mon.0 (report_frame j report a.failed) ≡ full_end s j (rounds s j + 1 + 1) (report ∷ [])
     → Ends (table_at s j) g.peers.now g.phase (g.rounds + 1) (full_at s j (report ∷ [])) outcome → All (IsEntryOf s.monitors s.objects) outcome.entries.items
     → Follows s j report.mon (report_frame j report a.failed) outcome
@@ -146,7 +146,7 @@ several_of : (s : Setup) → 0 < s.monitors → s.monitors == 1 ≡ false → 1 
 several_of s some more = let ne = eqb-false s.monitors 1 more in omega (arith, some, ne)
 
 -- what follows where a full round opens, by whether there is one monitor
-full_as : (s : Setup) (j : List Noted) (g : Grounds) (report : Reported) (frame : Frame) (outcome : Outcome) (one : Bool) → IsGrounded s j g → (a : IsAnswered s j frame report)
+full_as : (s : Setup) (j : List Noted) (g : Grounds) (report : Reported) (frame : Frame) (outcome : TurnOutcome) (one : Bool) → IsGrounded s j g → (a : IsAnswered s j frame report)
     → demanded s j report.mon.0 (report_frame j report a.failed) ≡ full_turn s j report → s.monitors == 1 ≡ one
     → OpensOrEnds g.board.now.table g.peers.now g.phase g.rounds g.board.now.members report outcome
     → All (IsEntryOf s.monitors s.objects) outcome.entries.items → Follows s j report.mon (report_frame j report a.failed) outcome
@@ -170,7 +170,7 @@ full_as s j g report frame outcome false h a demands one o range =
     fresh.asks few range fresh.between fresh.going
 
 -- what follows then
-pub open_follows : (s : Setup) (j : List Noted) (g : Grounds) (report : Reported) (frame : Frame) (outcome : Outcome) → IsGrounded s j g → (a : IsAnswered s j frame report) → passes_at s j report ≡ false
+pub open_follows : (s : Setup) (j : List Noted) (g : Grounds) (report : Reported) (frame : Frame) (outcome : TurnOutcome) → IsGrounded s j g → (a : IsAnswered s j frame report) → passes_at s j report ≡ false
     → nat_lt (streak s j) 8 ≡ true → OpensOrEnds g.board.now.table g.peers.now g.phase g.rounds g.board.now.members report outcome → All (IsEntryOf s.monitors s.objects) outcome.entries.items
     → Follows s j report.mon (report_frame j report a.failed) outcome
 open_follows s j g report frame outcome h a failed few o =

@@ -29,7 +29,7 @@ use Rattle.tk_coord.specs.Steps.{IsAsked, IsReply, IsRetuned, retuned_to}
 use Rattle.tk_coord.specs.declared.round.Round.{Round}
 use Rattle.tk_coord.specs.declared.phase.Phase.{Phase}
 use Rattle.tk_coord.specs.declared.state.State.{State}
-use Rattle.tk_coord.specs.declared.step.Outcome.{Outcome}
+use Rattle.tk_coord.specs.declared.step.TurnOutcome.{TurnOutcome}
 use Rattle.tk_coord.specs.declared.step.Reply.{Reply}
 use Rattle.tk_coord.specs.declared.step.Reply.TheVariants as reply
 use Rattle.tk_coord.proofs.AskedLemmas.{wide_is_asked}
@@ -128,7 +128,7 @@ new_round : (s : Setup) (j : List Noted) (k e : ℕ) → IsOrderly s j → last_
 new_round s j k e o = let l = o.counted.last in let t = tuned_round j k (pos e) in omega (arith, l, t)
 
 -- the Collects of its round
-pub tuned_is_asked : (s : Setup) (j : List Noted) (k e : ℕ) (next : Setup) (outcome : Outcome) → IsJournal s j → IsRetuned s j k e next → OpensOver s j outcome
+pub tuned_is_asked : (s : Setup) (j : List Noted) (k e : ℕ) (next : Setup) (outcome : TurnOutcome) → IsJournal s j → IsRetuned s j k e next → OpensOver s j outcome
     → (outcome.entries.items ≡ wide_collects s (rounds s j + 1)) × IsReply s (with_tuned j k e) outcome.entries.items outcome.reply
 tuned_is_asked s j k e next outcome h r o =
     let number = rounds s j + 1 in

@@ -27,7 +27,7 @@ use Rattle.tk_journal.proofs.StandLemmas.{nothing_stays_due, open_not_calm}
 use Rattle.tk_journal.proofs.Tuning.{force_monitors}
 use Rattle.tk_coord.specs.declared.peer.Peer.{Peer}
 use Rattle.tk_coord.specs.declared.phase.Phase.{Phase}
-use Rattle.tk_coord.specs.declared.step.Outcome.{Outcome}
+use Rattle.tk_coord.specs.declared.step.TurnOutcome.{TurnOutcome}
 use Rattle.tk_coord.specs.declared.step.Reply.TheVariants as reply
 use Rattle.tk_coord.specs.Closing.{settled_by, said_at, said_by, are_last, closing_by}
 use Rattle.tk_coord.specs.Coordinator.{IsJournal}
@@ -50,13 +50,13 @@ undue_at s j mon frame h none =
     subst (λ (q : Setup). is_due q j ≡ false) h.settings (nothing_stays_due h.opening j h.set_up h.legal (accepted_kind s j mon.0 frame none).0)
 
 -- nothing follows a frame that changes no reading and demands nothing
-unchanged_follows : (s : Setup) (j : List Noted) (mon : Mon) (frame : Frame) (outcome : Outcome) → IsJournal s j → IsMonitor s mon.0 → refusal_of s j mon.0 frame ≡ None
+unchanged_follows : (s : Setup) (j : List Noted) (mon : Mon) (frame : Frame) (outcome : TurnOutcome) → IsJournal s j → IsMonitor s mon.0 → refusal_of s j mon.0 frame ≡ None
     → AreSame s j (with_got j mon frame) → demanded s j mon.0 frame ≡ [] → outcome.entries.items ≡ [] → outcome.reply ≡ reply.Nothing → Stands s j outcome.phase → Follows s j mon frame outcome
 unchanged_follows s j mon frame outcome h m none same demands =
     quiet_follows s j mon frame outcome (taken_at s j mon frame h m none) (open_same s j (with_got j mon frame) same) demands (closing_unchanged s j mon frame same (undue_at s j mon frame h none))
 
 -- nothing follows a stale Report
-pub stale_report_follows : (s : Setup) (j : List Noted) (mon : Mon) (seq : ℕ) (border : ℤ) (failed : List ℕ) (values : List (ℕ × ℤ)) (outcome : Outcome) → IsJournal s j → IsMonitor s mon.0
+pub stale_report_follows : (s : Setup) (j : List Noted) (mon : Mon) (seq : ℕ) (border : ℤ) (failed : List ℕ) (values : List (ℕ × ℤ)) (outcome : TurnOutcome) → IsJournal s j → IsMonitor s mon.0
     → refusal_of s j mon.0 (f.Report seq border failed values) ≡ None → nat_lt seq (assigns_sent mon.0 j) ≡ true → outcome.entries.items ≡ [] → outcome.reply ≡ reply.Nothing
     → Stands s j outcome.phase → Follows s j mon (f.Report seq border failed values) outcome
 stale_report_follows s j mon seq border failed values outcome h m none late =
@@ -64,7 +64,7 @@ stale_report_follows s j mon seq border failed values outcome h m none late =
     (report_changes_nothing s j mon seq border failed values (ltb-true seq (assigns_sent mon.0 j) late)) (report_demands_none s j mon.0 seq border failed values true late (λ e. cc))
 
 -- nothing follows a stale Settled
-pub stale_settled_follows : (s : Setup) (j : List Noted) (mon : Mon) (seq : ℕ) (last : Bool) (places : List ℕ) (outcome : Outcome) → IsJournal s j → IsMonitor s mon.0
+pub stale_settled_follows : (s : Setup) (j : List Noted) (mon : Mon) (seq : ℕ) (last : Bool) (places : List ℕ) (outcome : TurnOutcome) → IsJournal s j → IsMonitor s mon.0
     → refusal_of s j mon.0 (f.Settled seq last places) ≡ None → nat_lt seq (assigns_sent mon.0 j) ≡ true → outcome.entries.items ≡ [] → outcome.reply ≡ reply.Nothing
     → Stands s j outcome.phase → Follows s j mon (f.Settled seq last places) outcome
 stale_settled_follows s j mon seq last places outcome h m none late =
@@ -74,7 +74,7 @@ stale_settled_follows s j mon seq last places outcome h m none late =
 -- ---- frames that are noted
 
 -- nothing follows a Report while a round is open
-pub noted_report_follows : (s : Setup) (j : List Noted) (mon : Mon) (seq : ℕ) (border : ℤ) (failed : List ℕ) (values : List (ℕ × ℤ)) (outcome : Outcome) → IsJournal s j → IsMonitor s mon.0
+pub noted_report_follows : (s : Setup) (j : List Noted) (mon : Mon) (seq : ℕ) (border : ℤ) (failed : List ℕ) (values : List (ℕ × ℤ)) (outcome : TurnOutcome) → IsJournal s j → IsMonitor s mon.0
     → refusal_of s j mon.0 (f.Report seq border failed values) ≡ None → nat_lt seq (assigns_sent mon.0 j) ≡ false → is_open s j ≡ true → outcome.entries.items ≡ [] → outcome.reply ≡ reply.Nothing
     → Stands s j outcome.phase → Follows s j mon (f.Report seq border failed values) outcome
 noted_report_follows s j mon seq border failed values outcome h m none fresh opened =
@@ -106,7 +106,7 @@ stirred_by s j peers mon seq last places are m (inr other) =
     (others_say j mon frame (suc i) apart ∙ sym (ap (λ (x : Peer). settled_by (Some x)) (are.each i l there)) ∙ other.4)
 
 -- nothing follows a Settled after which not all have settled
-pub stirred_follows : (s : Setup) (j : List Noted) (peers : List Peer) (mon : Mon) (seq : ℕ) (last : Bool) (places : List ℕ) (outcome : Outcome) → IsJournal s j → ArePeers s j peers → IsMonitor s mon.0
+pub stirred_follows : (s : Setup) (j : List Noted) (peers : List Peer) (mon : Mon) (seq : ℕ) (last : Bool) (places : List ℕ) (outcome : TurnOutcome) → IsJournal s j → ArePeers s j peers → IsMonitor s mon.0
     → refusal_of s j mon.0 (f.Settled seq last places) ≡ None → (is_open s j ≡ true) ⊎ ((i : ℕ) × (l : Peer) × (i ≢ mon.0 - 1) × (slice_get peers i ≡ Some l) × (settled_by (Some l) ≡ None))
     → outcome.entries.items ≡ [] → outcome.reply ≡ reply.Nothing → Stands s j outcome.phase → Follows s j mon (f.Settled seq last places) outcome
 stirred_follows s j peers mon seq last places outcome h are m none which =
@@ -245,7 +245,7 @@ settled_seq s j mon seq last places none late =
 
 -- the end of a turn in which all have settled follows a Settled
 pub calm_follows_settled : (s : Setup) (j : List Noted) (peers : List Peer) (mon : Mon) (seq : ℕ) (last : Bool) (places : List ℕ) (progress : Progress)
-    (setup : Setup) (members : List ℕ) (news : Bool) (number : ℕ) (ends : Bool) (phase : Phase) (outcome : Outcome)
+    (setup : Setup) (members : List ℕ) (news : Bool) (number : ℕ) (ends : Bool) (phase : Phase) (outcome : TurnOutcome)
     → IsJournal s j → ArePeers s j peers → IsMonitor s mon.0 → refusal_of s j mon.0 (f.Settled seq last places) ≡ None → nat_lt seq (assigns_sent mon.0 j) ≡ false
     → is_open s j ≡ false → HaveOthersSettled peers (mon.0 - 1) → progress ≡ record { places = places; last = last } → setup ≡ in_force s j → members ≡ members_at j
     → news ≡ differs (in_force s j) (members_at j) (last_of (publications j)) → number ≡ length (publications j) + 1 → Stands s j phase

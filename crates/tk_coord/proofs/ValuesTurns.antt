@@ -38,7 +38,7 @@ use Rattle.tk_coord.specs.Steps.{Follows, with_got}
 use Rattle.tk_coord.specs.declared.peer.Peer.{Peer}
 use Rattle.tk_coord.specs.declared.round.Round.{Round}
 use Rattle.tk_coord.specs.declared.outcomes.Grounds.{Grounds}
-use Rattle.tk_coord.specs.declared.step.Outcome.{Outcome}
+use Rattle.tk_coord.specs.declared.step.TurnOutcome.{TurnOutcome}
 use Rattle.tk_coord.specs.declared.step.Reply.TheVariants as reply
 use Rattle.tk_coord.proofs.AskedLemmas.{can_ask_again}
 use Rattle.tk_coord.proofs.DealtLemmas.{full_deals, wide_deals}
@@ -54,7 +54,7 @@ use Rattle.tk_coord.proofs.TellLemmas.{values_kept, values_told}
 -- ---- Values that leave a round open
 
 -- nothing follows Values while their round waits for more
-pub more_follows : (s : Setup) (j : List Noted) (mon : Mon) (number seq : ℕ) (border : ℤ) (values : List (ℕ × ℤ)) (outcome : Outcome)
+pub more_follows : (s : Setup) (j : List Noted) (mon : Mon) (number seq : ℕ) (border : ℤ) (values : List (ℕ × ℤ)) (outcome : TurnOutcome)
     → IsJournal s j → IsMonitor s mon.0 → refusal_of s j mon.0 (f.Values number seq border values) ≡ None → is_open s (with_values j mon number seq border values) ≡ true
     → outcome.entries.items ≡ [] → outcome.reply ≡ reply.Nothing → Stands s j outcome.phase → Follows s j mon (f.Values number seq border values) outcome
 more_follows s j mon number seq border values outcome journal range none opened empty silent stands =
@@ -215,7 +215,7 @@ can_end_wide s j g v reports wide l whole =
 -- ---- what follows the end of the round
 
 -- Assigns follow it
-assigns_end : (s : Setup) (j : List Noted) (g : Grounds) (v : Values) (reports : List Reported) (wide : Bool) (decided : Decided) (outcome : Outcome) → AreLast s j g v reports wide
+assigns_end : (s : Setup) (j : List Noted) (g : Grounds) (v : Values) (reports : List Reported) (wide : Bool) (decided : Decided) (outcome : TurnOutcome) → AreLast s j g v reports wide
     → IsAssigned (table_at s j) g.peers.now (closed g.phase) decided outcome → demanded s j v.mon.0 (frame_of v) ≡ assigns (heard j v) decided → 0 < length (drop 1 decided.dealt)
     → All (IsEntryOf s.monitors s.objects) outcome.entries.items → Follows s j v.mon (frame_of v) outcome
 assigns_end s j g v reports wide decided outcome l assigned demands some range =
@@ -229,7 +229,7 @@ some_at s j g v reports wide l =
     subst (λ (rs : List Reported). 0 < length rs) l.told (some_told s reports (limits_at s j l.grounds.journal).some_monitor (all_told s j g v reports wide l).all)
 
 -- the end of a wide round sends its Assigns
-wide_end_follows : (s : Setup) (j : List Noted) (g : Grounds) (v : Values) (reports : List Reported) (wide : Bool) (outcome : Outcome) → AreLast s j g v reports wide → wide ≡ true
+wide_end_follows : (s : Setup) (j : List Noted) (g : Grounds) (v : Values) (reports : List Reported) (wide : Bool) (outcome : TurnOutcome) → AreLast s j g v reports wide → wide ≡ true
     → IsAssigned g.board.now.table g.peers.now (closed g.phase) (wide_decides g.phase.next g.board.now.table g.board.now.members reports) outcome
     → All (IsEntryOf s.monitors s.objects) outcome.entries.items → Follows s j v.mon (frame_of v) outcome
 wide_end_follows s j g v reports wide outcome l whole assigned =
@@ -244,7 +244,7 @@ wide_end_follows s j g v reports wide outcome l whole assigned =
     (wide_deals s now told (some_at s j g v reports wide l))
 
 -- the end of a full round, by whether each new factor is within its limit
-full_end_as : (s : Setup) (j : List Noted) (g : Grounds) (v : Values) (reports : List Reported) (wide : Bool) (outcome : Outcome) (within : Bool) → AreLast s j g v reports wide → wide ≡ false
+full_end_as : (s : Setup) (j : List Noted) (g : Grounds) (v : Values) (reports : List Reported) (wide : Bool) (outcome : TurnOutcome) (within : Bool) → AreLast s j g v reports wide → wide ≡ false
     → is_within_limit (full_at s (heard j v) (reports_at s (heard j v))) ≡ within
     → Ends (table_at s j) g.peers.now (closed g.phase) g.rounds (full_at s (heard j v) (reports_at s (heard j v))) outcome
     → All (IsEntryOf s.monitors s.objects) outcome.entries.items → Follows s j v.mon (frame_of v) outcome
@@ -278,7 +278,7 @@ full_same s j g v reports wide l =
     over_fields (λ x t ms. full_decides x t ms reports) s (heard j v) g.phase.next g.board.now.table g.board.now.members (fields_after s j g v reports wide l) ∙ ap (full_at s (heard j v)) l.told
 
 -- the end of a full round sends its Assigns, or opens a wide round where a factor is past its limit
-full_end_follows : (s : Setup) (j : List Noted) (g : Grounds) (v : Values) (reports : List Reported) (wide : Bool) (outcome : Outcome) → AreLast s j g v reports wide → wide ≡ false
+full_end_follows : (s : Setup) (j : List Noted) (g : Grounds) (v : Values) (reports : List Reported) (wide : Bool) (outcome : TurnOutcome) → AreLast s j g v reports wide → wide ≡ false
     → Ends g.board.now.table g.peers.now (closed g.phase) g.rounds (full_decides g.phase.next g.board.now.table g.board.now.members reports) outcome
     → All (IsEntryOf s.monitors s.objects) outcome.entries.items → Follows s j v.mon (frame_of v) outcome
 full_end_follows s j g v reports wide outcome l full ends =
@@ -293,7 +293,7 @@ range_by : (s setup : Setup) (entries : List Noted) → IsAsLarge setup s → ((
 range_by s setup entries large each = subst (λ m. All (IsEntryOf m s.objects) entries) large.monitors (each s.objects)
 
 -- the end of the round, wide or full
-end_as : (s : Setup) (j : List Noted) (g : Grounds) (v : Values) (reports : List Reported) (wide : Bool) (outcome : Outcome) → AreLast s j g v reports wide
+end_as : (s : Setup) (j : List Noted) (g : Grounds) (v : Values) (reports : List Reported) (wide : Bool) (outcome : TurnOutcome) → AreLast s j g v reports wide
     → (wide ≡ true → IsAssigned g.board.now.table g.peers.now (closed g.phase) (wide_decides g.phase.next g.board.now.table g.board.now.members reports) outcome)
     → (wide ≡ false → Ends g.board.now.table g.peers.now (closed g.phase) g.rounds (full_decides g.phase.next g.board.now.table g.board.now.members reports) outcome)
     → All (IsEntryOf s.monitors s.objects) outcome.entries.items → Follows s j v.mon (frame_of v) outcome
@@ -301,7 +301,7 @@ end_as s j g v reports true outcome l all some = wide_end_follows s j g v report
 end_as s j g v reports false outcome l all some = full_end_follows s j g v reports false outcome l refl (some refl)
 
 -- what follows the end of the round, as the call that ends it tells
-pub end_follows : (s : Setup) (j : List Noted) (g : Grounds) (v : Values) (reports : List Reported) (wide : Bool) (outcome : Outcome) → AreLast s j g v reports wide
+pub end_follows : (s : Setup) (j : List Noted) (g : Grounds) (v : Values) (reports : List Reported) (wide : Bool) (outcome : TurnOutcome) → AreLast s j g v reports wide
     → (wide ≡ true → IsAssigned g.board.now.table g.peers.now (closed g.phase) (wide_decides g.phase.next g.board.now.table g.board.now.members reports) outcome)
     → (wide ≡ false → Ends g.board.now.table g.peers.now (closed g.phase) g.rounds (full_decides g.phase.next g.board.now.table g.board.now.members reports) outcome)
     → ((k : ℕ) → All (IsEntryOf g.phase.next.monitors k) outcome.entries.items) → Follows s j v.mon (frame_of v) outcome

@@ -13,7 +13,7 @@ use Rattle.tk_coord.specs.declared.answer.Answer.TheVariants as a
 use Rattle.tk_coord.specs.declared.peer.Peer.{Peer}
 use Rattle.tk_coord.specs.declared.publishing.Answers.{Answers}
 use Rattle.tk_coord.specs.declared.phase.Phase.{Phase}
-use Rattle.tk_coord.specs.declared.step.Outcome.{Outcome}
+use Rattle.tk_coord.specs.declared.step.TurnOutcome.{TurnOutcome}
 use Rattle.tk_coord.specs.declared.step.Reply.TheVariants as reply
 use Rattle.tk_coord.specs.State.{Stands}
 
@@ -62,7 +62,7 @@ abbrev pub has_news_at : Setup → List Noted → Bool
 has_news_at s j = differs (in_force s j) (members_at j) (last_of (publications j))
 
 -- what ends a turn over a journal in which all say this: it stops where Stop is sent, and leaves the rest as it was
-pub record Closes (s : Setup) (j : List Noted) (said : List Progress) (outcome : Outcome) : Type 0 where
+pub record Closes (s : Setup) (j : List Noted) (said : List Progress) (outcome : TurnOutcome) : Type 0 where
   pub sends : outcome.entries.items ≡ closing_by (in_force s j) (members_at j) said (has_news_at s j) (length (publications j) + 1)
   pub range : All (IsEntryOf s.monitors s.objects) outcome.entries.items
   pub replies : outcome.reply ≡ reply.Nothing

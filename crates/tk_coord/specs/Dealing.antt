@@ -26,7 +26,7 @@ use Rattle.tk_coord.specs.declared.dealing.Dealt.{Dealt}
 use Rattle.tk_coord.specs.declared.dealing.Dealt.TheVariants as dealt
 use Rattle.tk_coord.specs.declared.peer.Peer.{Peer}
 use Rattle.tk_coord.specs.declared.phase.Phase.{Phase}
-use Rattle.tk_coord.specs.declared.step.Outcome.{Outcome}
+use Rattle.tk_coord.specs.declared.step.TurnOutcome.{TurnOutcome}
 use Rattle.tk_coord.specs.declared.step.Reply.TheVariants as reply
 
 -- ---- what is dealt
@@ -114,7 +114,7 @@ assigns_over peers decided =
     map (λ d. n.Sent (record { 0 = d.0 }) (f.Assign (assigns_by peers d.0 + 1) decided.members d.1)) (drop 1 decided.dealt)
 
 -- the Assigns of what was decided
-pub record IsAssigned (grid : Grid) (peers : List Peer) (phase : Phase) (decided : Decided) (outcome : Outcome) : Type 0 where
+pub record IsAssigned (grid : Grid) (peers : List Peer) (phase : Phase) (decided : Decided) (outcome : TurnOutcome) : Type 0 where
   pub change : Reallocation
   pub decides : IsDecided grid decided change
   pub reply : outcome.reply ≡ reply.Assign change
@@ -123,23 +123,23 @@ pub record IsAssigned (grid : Grid) (peers : List Peer) (phase : Phase) (decided
   pub holds : outcome.phase ≡ phase
 
 -- the Collects of a wide round, where so many rounds were opened before
-pub record OpensWide (phase : Phase) (rounds : ℕ) (outcome : Outcome) : Type 0 where
+pub record OpensWide (phase : Phase) (rounds : ℕ) (outcome : TurnOutcome) : Type 0 where
   pub reply : outcome.reply ≡ reply.Ask (record { number = rounds + 1; waiting = true; wide = true; asked = objects phase.settings.objects }) None
   pub sends : outcome.entries.items ≡ wide_collects phase.settings (rounds + 1)
   pub holds : outcome.phase ≡ phase
 
 -- the Assigns of what was decided where each factor is within its limit, else a wide round
-pub record Ends (grid : Grid) (peers : List Peer) (phase : Phase) (rounds : ℕ) (decided : Decided) (outcome : Outcome) : Type 0 where
+pub record Ends (grid : Grid) (peers : List Peer) (phase : Phase) (rounds : ℕ) (decided : Decided) (outcome : TurnOutcome) : Type 0 where
   pub within : is_within_limit decided ≡ true → IsAssigned grid peers phase decided outcome
   pub past : is_within_limit decided ≡ false → OpensWide phase rounds outcome
 
 -- the Collects of a full round, to every monitor but the reporter
-pub record OpensFull (phase : Phase) (rounds : ℕ) (report : Reported) (outcome : Outcome) : Type 0 where
+pub record OpensFull (phase : Phase) (rounds : ℕ) (report : Reported) (outcome : TurnOutcome) : Type 0 where
   pub reply : outcome.reply ≡ reply.Ask (record { number = rounds + 1; waiting = true; wide = false; asked = objects_of report.values }) (Some report)
   pub sends : outcome.entries.items ≡ collects (rounds + 1) (objects_of report.values) (filter (λ mon. not (mon == report.mon.0)) (monitors phase.settings))
   pub holds : outcome.phase ≡ phase
 
 -- a full round opens, and with one monitor it ends at once
-pub record OpensOrEnds (grid : Grid) (peers : List Peer) (phase : Phase) (rounds : ℕ) (members : List ℕ) (report : Reported) (outcome : Outcome) : Type 0 where
+pub record OpensOrEnds (grid : Grid) (peers : List Peer) (phase : Phase) (rounds : ℕ) (members : List ℕ) (report : Reported) (outcome : TurnOutcome) : Type 0 where
   pub alone : phase.settings.monitors == 1 ≡ true → Ends grid peers phase (rounds + 1) (full_decides phase.settings grid members (report ∷ [])) outcome
   pub others : phase.settings.monitors == 1 ≡ false → OpensFull phase rounds report outcome

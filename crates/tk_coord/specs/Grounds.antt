@@ -15,7 +15,7 @@ use Rattle.tk_coord.specs.Dealing.{OpensWide}
 use Rattle.tk_coord.specs.State.{ArePeers, Stands}
 use Rattle.tk_coord.specs.Steps.{report_frame}
 use Rattle.tk_coord.specs.declared.outcomes.Grounds.{Grounds}
-use Rattle.tk_coord.specs.declared.step.Outcome.{Outcome}
+use Rattle.tk_coord.specs.declared.step.TurnOutcome.{TurnOutcome}
 
 -- the fields that rounds are dealt over are the journal's
 pub record IsGrounded (s : Setup) (j : List Noted) (g : Grounds) : Type 0 where
@@ -35,7 +35,7 @@ pub record IsAnswered (s : Setup) (j : List Noted) (frame : Frame) (report : Rep
   pub closed : is_open s j ≡ false
 
 -- a wide round opens over the journal
-pub record OpensOver (s : Setup) (j : List Noted) (outcome : Outcome) : Type 0 where
+pub record OpensOver (s : Setup) (j : List Noted) (outcome : TurnOutcome) : Type 0 where
   pub stands : Stands s j outcome.phase
   pub opens : OpensWide outcome.phase (rounds s j) outcome
   pub range : All (IsEntryOf s.monitors s.objects) outcome.entries.items

@@ -33,7 +33,7 @@ use Rattle.tk_coord.specs.declared.step.Statement.{Statement}
 use Rattle.tk_coord.specs.declared.step.Statement.TheVariants as stated
 use Rattle.tk_coord.specs.declared.step.Reply.{Reply}
 use Rattle.tk_coord.specs.declared.step.Reply.TheVariants as reply
-use Rattle.tk_coord.specs.declared.step.Outcome.{Outcome}
+use Rattle.tk_coord.specs.declared.step.TurnOutcome.{TurnOutcome}
 use Rattle.tk_coord.specs.declared.step.Step.{Step}
 use Rattle.tk_coord.specs.declared.state.State.{State}
 use Rattle.tk_coord.specs.State.{Holds, Stands, peer_at}
@@ -168,7 +168,7 @@ NotesReply r old new = (s : Setup) (j entries : List Noted) → IsReply s j entr
 -- ---- the turn
 
 -- what follows a frame: what it demands, and what ends its turn
-pub record Follows (s : Setup) (j : List Noted) (mon : Mon) (frame : Frame) (outcome : Outcome) : Type 0 where
+pub record Follows (s : Setup) (j : List Noted) (mon : Mon) (frame : Frame) (outcome : TurnOutcome) : Type 0 where
   pub reply : IsReply s (with_got j mon frame) (demanded s j mon.0 frame) outcome.reply
   pub entries : outcome.entries.items ≡ demanded s j mon.0 frame ++ closing s (with_got j mon frame ++ demanded s j mon.0 frame)
   pub range : All (IsEntryOf s.monitors s.objects) outcome.entries.items
@@ -185,7 +185,7 @@ abbrev pub quiet_turn : TurnKind → Turn
 quiet_turn kind = record { kind = kind; fails = false; widens = false; calm = false }
 
 -- the step of a frame that tells this, with a turn of this kind before its end
-abbrev pub step_with : Outcome → Statement → TurnKind → Bool → Step
+abbrev pub step_with : TurnOutcome → Statement → TurnKind → Bool → Step
 step_with outcome statement kind fails = record {
   statement = statement;
   outcome = outcome;

@@ -13,7 +13,7 @@ use crate::entries::{assigns, collects, first_objects, objects_of};
 use crate::peer::Peer;
 use crate::phase::Phase;
 use crate::round::Round;
-use crate::step::{Outcome, Reply};
+use crate::step::{Reply, TurnOutcome};
 use std::alloc::Global;
 use std::slice;
 use tk_alloc::Reported;
@@ -34,12 +34,12 @@ pub struct Grounds<'a> {
 }
 
 /// Nothing follows.
-pub fn nothing(alloc: Global, phase: Phase) -> Outcome
+pub fn nothing(alloc: Global, phase: Phase) -> TurnOutcome
     ensures entries { result.entries.items ≡ [] }
     ensures reply { result.reply ≡ NoReply }
     ensures holds { result.phase ≡ phase }
 {
-    Outcome {
+    TurnOutcome {
         entries: Vec::new(alloc),
         reply: Reply::Nothing,
         phase,
@@ -57,7 +57,7 @@ fn next_round(rounds: u64) -> Result<u64, NoMemory>
 }
 
 /// A wide round opens.
-pub fn open_wide(alloc: Global, phase: Phase, rounds: u64) -> Result<Outcome, NoMemory>
+pub fn open_wide(alloc: Global, phase: Phase, rounds: u64) -> Result<TurnOutcome, NoMemory>
     ensures opens { IfOk result (OpensWide phase rounds) }
     ensures entries { (n : ℕ) → IfOk result (λ o. All (IsEntryOf phase.settings.monitors n) o.entries.items) }
 {
@@ -71,7 +71,7 @@ pub fn open_wide(alloc: Global, phase: Phase, rounds: u64) -> Result<Outcome, No
         wide: true,
         asked,
     };
-    Ok(Outcome {
+    Ok(TurnOutcome {
         entries,
         reply: Reply::Ask {
             round,
@@ -87,7 +87,7 @@ fn ask_others(
     phase: Phase,
     rounds: u64,
     report: Reported,
-) -> Result<Outcome, NoMemory>
+) -> Result<TurnOutcome, NoMemory>
     ensures opens { IfOk result (OpensFull phase rounds report) }
     ensures entries { (n : ℕ) → IfOk result (λ o. All (IsEntryOf phase.settings.monitors n) o.entries.items) }
 {
@@ -101,7 +101,7 @@ fn ask_others(
         wide: false,
         asked,
     };
-    Ok(Outcome {
+    Ok(TurnOutcome {
         entries,
         reply: Reply::Ask {
             round,
@@ -112,7 +112,7 @@ fn ask_others(
 }
 
 /// A full round opens with a Report. With one monitor it ends at once.
-pub fn open_full(grounds: Grounds, report: Reported) -> Result<Outcome, NoMemory>
+pub fn open_full(grounds: Grounds, report: Reported) -> Result<TurnOutcome, NoMemory>
     requires { CanOpenFull grounds.phase.settings grounds.board.now.table grounds.board.now.members grounds.peers.now report }
     ensures opens { IfOk result (OpensOrEndsFull grounds.entry report) }
     ensures entries { (n : ℕ) → IfOk result (λ o. All (IsEntryOf grounds.entry.phase.settings.monitors n) o.entries.items) }
@@ -131,14 +131,14 @@ fn assigned(
     peers: &[Peer],
     phase: Phase,
     reallocation: Reallocation,
-) -> Result<Outcome, NoMemory>
+) -> Result<TurnOutcome, NoMemory>
     requires count { length peers.now ≡ phase.settings.monitors }
     requires named { AreNamed phase.settings.monitors reallocation.at.items }
     ensures assigns { AssignsDecided peers.now phase reallocation result }
     ensures entries { (n : ℕ) → IfOk result (λ o. All (IsEntryOf phase.settings.monitors n) o.entries.items) }
 {
     let entries = assigns(alloc, peers, &reallocation)?;
-    Ok(Outcome {
+    Ok(TurnOutcome {
         entries,
         reply: Reply::Assign(reallocation),
         phase,
@@ -152,7 +152,7 @@ fn ended(
     phase: Phase,
     rounds: u64,
     dealt: Dealt,
-) -> Result<Outcome, NoMemory>
+) -> Result<TurnOutcome, NoMemory>
     requires count { length peers.now ≡ phase.settings.monitors }
     requires named { AreDealtTo phase.settings.monitors dealt }
     ensures ends { EndsDealt peers.now phase rounds dealt result }
@@ -165,7 +165,7 @@ fn ended(
 }
 
 /// A short round, with the Report that passed its test.
-pub fn end_short(grounds: Grounds, report: &Reported) -> Result<Outcome, NoMemory>
+pub fn end_short(grounds: Grounds, report: &Reported) -> Result<TurnOutcome, NoMemory>
     requires { CanDealShort grounds report.now }
     ensures ends { IfOk result (EndsShort grounds.entry report.now) }
     ensures entries { (n : ℕ) → IfOk result (λ o. All (IsEntryOf grounds.entry.phase.settings.monitors n) o.entries.items) }
@@ -178,7 +178,7 @@ pub fn end_short(grounds: Grounds, report: &Reported) -> Result<Outcome, NoMemor
 }
 
 /// The end of a full round.
-pub fn end_full(grounds: Grounds, reports: &[Reported]) -> Result<Outcome, NoMemory>
+pub fn end_full(grounds: Grounds, reports: &[Reported]) -> Result<TurnOutcome, NoMemory>
     requires { CanDealFull grounds reports.now }
     ensures ends { IfOk result (EndsFull grounds.entry reports.now) }
     ensures entries { (n : ℕ) → IfOk result (λ o. All (IsEntryOf grounds.entry.phase.settings.monitors n) o.entries.items) }
@@ -195,7 +195,7 @@ pub fn end_full(grounds: Grounds, reports: &[Reported]) -> Result<Outcome, NoMem
 }
 
 /// The end of a wide round.
-pub fn end_wide(grounds: Grounds, reports: &[Reported]) -> Result<Outcome, NoMemory>
+pub fn end_wide(grounds: Grounds, reports: &[Reported]) -> Result<TurnOutcome, NoMemory>
     requires { CanDealWide grounds reports.now }
     ensures assigns { IfOk result (EndsWide grounds.entry reports.now) }
     ensures entries { (n : ℕ) → IfOk result (λ o. All (IsEntryOf grounds.entry.phase.settings.monitors n) o.entries.items) }
@@ -207,7 +207,11 @@ pub fn end_wide(grounds: Grounds, reports: &[Reported]) -> Result<Outcome, NoMem
 }
 
 /// The end of a round, wide or full, from which the next k and epsilon are in force.
-pub fn end_round(grounds: Grounds, wide: bool, reports: &[Reported]) -> Result<Outcome, NoMemory>
+pub fn end_round(
+    grounds: Grounds,
+    wide: bool,
+    reports: &[Reported],
+) -> Result<TurnOutcome, NoMemory>
     requires all { wide ≡ true → CanDealWide (at_end grounds) reports.now }
     requires some { wide ≡ false → CanDealFull (at_end grounds) reports.now }
     ensures all { wide ≡ true → IfOk result (EndsWide (at_end grounds.entry) reports.now) }

@@ -15,7 +15,7 @@ use tk_rows::Reallocation;
 #[derive(Drop)]
 pub struct Step {
     pub statement: Statement,
-    pub outcome: Outcome,
+    pub outcome: TurnOutcome,
     /// Whether it is calm is known at its end.
     pub turn: Turn,
 }
@@ -37,7 +37,7 @@ pub enum Statement {
 
 /// What follows: entries, what they send, and what holds after the turn.
 #[derive(Drop)]
-pub struct Outcome {
+pub struct TurnOutcome {
     pub entries: Vec<Noted>,
     pub reply: Reply,
     pub phase: Phase,
@@ -68,7 +68,7 @@ impl Reply {
     }
 }
 
-impl Outcome {
+impl TurnOutcome {
     /// The step of a frame that tells this, with a turn of this kind.
     pub fn step(self, statement: Statement, kind: TurnKind, fails: bool) -> Step
         ensures { result ≡ step_with self statement kind fails }

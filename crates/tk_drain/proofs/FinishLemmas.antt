@@ -12,7 +12,7 @@ use Rattle.tk_trail.specs.Legal.{after_take}
 use Rattle.tk_trail.specs.Readings.{at_ends, places_at}
 use Rattle.tk_trail.specs.declared.entry.Entry.{Entry}
 use Rattle.tk_trail.specs.declared.entry.Entry.TheVariants.{Took, Sent}
-use Rattle.tk_trail.proofs.PlacesLemmas.{places_at-sent, places_at-took}
+use Rattle.tk_trail.proofs.PlacesLemmas.{answered_places, places_at-sent, places_at-took}
 use Rattle.tk_input.specs.declared.event.Event.{Event}
 use Rattle.tk_world.specs.Events.{CanOnlyChange, after, is_monitor, moved, next_down, next_of, next_up, with_trail, with_turn}
 use Rattle.tk_input.specs.declared.event.Event.TheVariants.{Raise, Check, Up, Down, Retune}
@@ -23,7 +23,6 @@ use Rattle.tk_story.proofs.OverLemmas.{still_is_over}
 use Rattle.tk_world.proofs.StepLemmas.{next_is_story, mapped_some, guarded, monitor_is, trail_there}
 use Rattle.tk_drain.specs.Settling.{is_settling}
 use Rattle.tk_drain.proofs.SettleLemmas.{lower_from}
-use Rattle.tk_world.proofs.EventLemmas.{answered_places}
 
 -- the parts of each monitor are at their ends
 abbrev pub AtEnds : StoryView → Type 0

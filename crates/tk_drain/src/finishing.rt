@@ -39,6 +39,7 @@ fn raise_each<N: Nodes>(
     ensures err { OnErr result (BeginsFinishes (raises parts.old.items) world.old world.new) }
     ensures legal { IsStory world.new.story }
 {
+    world.touch(parts.as_slice());
     let mut kept = 0;
     for i in 0..parts.len() {
         let part = parts[i];

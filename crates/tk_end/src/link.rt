@@ -60,7 +60,6 @@ impl<W: Wire> Link<W> {
     {
         let mut came = came;
         came.set_version(version);
-        came.widen();
         let mut output = OutBuffer::new(alloc);
         output.set_version(version);
         Link {

@@ -1,6 +1,6 @@
 -- The Assigns of a node, one more at a time.
 use Rattle.std.specs.Prelude.{pos, unwrap_or}
-use Rattle.std.proofs.Common.{◌≡◌, ℕ, ◌-◌, List, [], ◌∷◌, ◌++◌}
+use Rattle.std.proofs.Common.{◌≡◌, ℕ, List, [], ◌∷◌, ◌++◌}
 use Rattle.std.proofs.lemmas.List.Sums.{fold_push}
 use Rattle.tk_base.specs.Pairs.{value_at}
 use Rattle.tk_frames.specs.Assigns.{Assign, row, members_of}

@@ -1,6 +1,7 @@
 -- What encoding leaves, and the laws of spellings.
-use Rattle.std.proofs.Common.{◌≡◌, ℕ, ◌≤◌, List, ◌++◌, length, refl, sym, ap, subst, ◌∙◌, append_assoc, arith, length-append}
-use Rattle.std.proofs.lemmas.List.{take_at}
+use Rattle.std.proofs.Common.{◌≡◌, ℕ, ◌+◌, ◌-◌, ◌≤◌, List, [], ◌∷◌, ◌++◌, length, take, drop, refl, sym, ap, subst, ◌∙◌, append_assoc, arith, length-append}
+use Rattle.std.proofs.lemmas.List.{take_at, drop_at, drop-drop}
+use borrow.Rule.Slice.PartMut.{put_mid}
 use Rattle.byteorder.specs.Endian.{big_bytes}
 use Rattle.tk_frames.specs.declared.frame.Frame.{Frame}
 use Rattle.tk_frames.specs.declared.answer.Next.TheVariants.{Whole}
@@ -10,17 +11,31 @@ use Rattle.tk_frames.specs.Answer.{Answers}
 use Rattle.tk_frames.proofs.SizeLemmas.{within_frame}
 use Rattle.tk_frames.proofs.AnswerLemmas.{whole_once}
 
--- a length and a payload that were written after each other are a spelling
-pub appended : (version : ℕ) (frame : Frame) (old reserved first last head text : List ℕ) (n : ℕ) → AreWithin frame → (IsBadHello frame → ⊥) → text ≡ payload version frame → n ≡ length text → n ≤ 2097152
-    → head ≡ big_bytes 4 n → reserved ≡ old → first ≡ reserved ++ head → last ≡ first ++ text → Appends version frame old last
-appended version frame old reserved first last head text n within good text_is n_is few head_is kept wrote ended =
-    let fits : length (payload version frame) ≤ 2097152 = subst (λ (bytes : List ℕ). length bytes ≤ 2097152) text_is (omega arith) in
-    let size : n ≡ length (payload version frame) = n_is ∙ ap (λ (bytes : List ℕ). length bytes) text_is in
-    let joined : last ≡ old ++ (head ++ text) = ended ∙ ap (λ (xs : List ℕ). xs ++ text) (wrote ∙ ap (λ (xs : List ℕ). xs ++ head) kept) ∙ append_assoc old head text in
+-- a list after four bytes in it were written anew
+pub four_put : (start count : ℕ) (bytes head text : List ℕ) → head ≡ text → count ≡ 4 → put_mid start count bytes head ≡ take start bytes ++ (text ++ drop (start + 4) bytes)
+four_put start count bytes head text is four = rw (is, four) (ap (λ (xs : List ℕ). take start bytes ++ (text ++ xs)) (drop-drop 4 start bytes))
+
+-- how long a text is that stands behind four bytes
+pub length_behind : (start end : ℕ) (old bytes text : List ℕ) → bytes ≡ old ++ (0 ∷ 0 ∷ 0 ∷ 0 ∷ text) → start ≡ length old → end ≡ length bytes → end - start - 4 ≡ length text
+length_behind start end old bytes text is start_is end_is =
+    let all : length bytes ≡ length (old ++ (0 ∷ 0 ∷ 0 ∷ 0 ∷ text)) = ap (λ (xs : List ℕ). length xs) is in
+    omega (arith, all, start_is, end_is, length-append old (0 ∷ 0 ∷ 0 ∷ 0 ∷ text))
+
+-- a payload behind its length is a spelling
+pub appended : (version : ℕ) (frame : Frame) (start n : ℕ) (old bytes last : List ℕ) → AreWithin frame → (IsBadHello frame → ⊥)
+    → bytes ≡ old ++ (0 ∷ 0 ∷ 0 ∷ 0 ∷ payload version frame) → start ≡ length old → n ≡ length (payload version frame) → n ≤ 2097152
+    → last ≡ take start bytes ++ (big_bytes 4 n ++ drop (start + 4) bytes) → Appends version frame old last
+appended version frame start n old bytes last within good is start_is n_is few put =
+    let text : List ℕ = payload version frame in
+    let fits : length (payload version frame) ≤ 2097152 = omega (arith, n_is, few) in
+    let gap : List ℕ = 0 ∷ 0 ∷ 0 ∷ 0 ∷ [] in
+    let front : take start bytes ≡ old = ap (take start) is ∙ take_at old (gap ++ text) start (sym start_is) in
+    let behind : length (old ++ gap) ≡ start + 4 = omega (arith, start_is, length-append old gap) in
+    let rest : drop (start + 4) bytes ≡ text = ap (drop (start + 4)) (is ∙ sym (append_assoc old gap text)) ∙ drop_at (old ++ gap) text (start + 4) behind in
     record {
       bytes = spelling version frame;
       spelled = record { frame_is = within_frame version frame within good fits; fits = fits; bytes_are = refl };
-      appended = joined ∙ ap (λ (xs : List ℕ). old ++ (xs ++ text)) (head_is ∙ ap (big_bytes 4) size) ∙ ap (λ (xs : List ℕ). old ++ (big_bytes 4 (length (payload version frame)) ++ xs)) text_is;
+      appended = put ∙ ap (λ (xs : List ℕ). xs ++ (big_bytes 4 n ++ drop (start + 4) bytes)) front ∙ ap (λ (xs : List ℕ). old ++ (big_bytes 4 n ++ xs)) rest ∙ ap (λ (m : ℕ). old ++ (big_bytes 4 m ++ text)) n_is;
     }
 
 -- a spelling is read as its frame, whatever follows it

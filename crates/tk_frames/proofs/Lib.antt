@@ -7,6 +7,7 @@ pub mod EncodingLemmas
 pub mod ExactLemmas
 pub mod FieldLemmas
 pub mod FrameLemmas
+pub mod FrontLemmas
 pub mod GroupLemmas
 pub mod Loop
 pub mod SizeLemmas

@@ -1,6 +1,8 @@
 //! A frame at the end of some bytes.
 
-ghost use Rattle.std.specs.Prelude.{◌≡◌, ◌↔◌, ◌++◌, ℕ, IfOk, IfErr, IsErrOf, IsTrue, OnOk, OnErr};
+ghost use Rattle.std.specs.Prelude.{◌≡◌, ◌↔◌, ◌≤◌, ◌+◌, ◌∷◌, ◌++◌, ℕ, length, take, drop, IfErr, IsErrOf, IsTrue, OnOk, OnErr};
+ghost use Rattle.byteorder.specs.Endian.{big_bytes};
+ghost use Rattle.tk_base.specs.History.{IsFront};
 ghost use Rattle.tk_frames.specs.declared.fault.EncodeFault.TheVariants as faults;
 ghost use Rattle.tk_frames.specs.Spelling.{IsVersion, fields as fields_of, payload as payload_of};
 ghost use Rattle.tk_frames.specs.Size.{IsShort};
@@ -10,7 +12,6 @@ use crate::decoder::{MAX_MONITOR, MAX_PAYLOAD};
 use crate::fault::EncodeFault;
 use crate::frame::Frame;
 use crate::writing::{flag, number_u8, number_u32, number_u64, pairs, places, set, signed_i128};
-use std::alloc::Global;
 use tk_base::NoMemory;
 
 fn is_bad_hello(frame: &Frame) -> bool
@@ -24,8 +25,10 @@ fn is_bad_hello(frame: &Frame) -> bool
     }
 }
 
+#[tactic(auto, using(crate::proofs::FrontLemmas::front_steps))]
 fn fields(out: &mut Vec<u8>, version: u8, frame: &Frame) -> Result<(), NoMemory>
     ensures bytes { OnOk result (out.new.items ≡ out.old.items ++ fields_of version frame.now) }
+    ensures front { IsFront out.old.items out.new.items }
     ensures within { OnOk result (AreWithin frame.now) }
 {
     match frame {
@@ -86,25 +89,51 @@ fn fields(out: &mut Vec<u8>, version: u8, frame: &Frame) -> Result<(), NoMemory>
     }
 }
 
-fn payload(alloc: Global, version: u8, frame: &Frame) -> Result<Vec<u8>, NoMemory>
-    ensures bytes { IfOk result (λ bytes. bytes.items ≡ payload_of version frame.now) }
+/// Appends a payload behind four bytes for its length.
+#[tactic(auto, using(crate::proofs::FrontLemmas::front_steps))]
+fn payload(out: &mut Vec<u8>, version: u8, frame: &Frame) -> Result<(), NoMemory>
+    ensures bytes { OnOk result (out.new.items ≡ out.old.items ++ (0 ∷ 0 ∷ 0 ∷ 0 ∷ payload_of version frame.now)) }
     ensures within { OnOk result (AreWithin frame.now) }
+    ensures front { IsFront out.old.items out.new.items }
 {
     // What the frame takes in version 1; the other takes less for most.
-    let room = frame.size().min(MAX_PAYLOAD as u128) as usize;
-    let mut bytes = Vec::with_capacity(alloc, room)?;
-    bytes.push(frame.kind().code())?;
-    fields(&mut bytes, version, frame)?;
-    Ok(bytes)
+    let room = frame.size().min(4 + MAX_PAYLOAD as u128) as usize;
+    out.reserve(room)?;
+    out.extend_from_slice(&[0, 0, 0, 0, frame.kind().code()])?;
+    fields(out, version, frame)
+}
+
+/// Writes a length over the four bytes at a place.
+fn put_length(bytes: &mut [u8], start: usize, size: u32)
+    requires { start + 4 ≤ length bytes.old }
+    ensures { bytes.new ≡ take start bytes.old ++ (big_bytes 4 size ++ drop (start + 4) bytes.old) }
+{
+    bytes[start..start + 4].copy_from_slice(&size.to_be_bytes());
+}
+
+/// Appends a frame, or a part of one behind what was there.
+#[tactic(auto, using(crate::proofs::FrontLemmas::front_steps))]
+fn append(frame: &Frame, version: u8, out: &mut Vec<u8>) -> Result<(), EncodeFault>
+    requires version { IsVersion version }
+    requires hello { IsBadHello frame.now → ⊥ }
+    ensures ok { OnOk result (Appends version frame.now out.old.items out.new.items) }
+    ensures front { IsFront out.old.items out.new.items }
+    ensures refused { IfErr result (Refuses version frame.now) }
+    ensures short { IsShort frame.now → (size : ℕ) → IsErrOf result (faults.TooLong size) → ⊥ }
+{
+    let start = out.len();
+    payload(out, version, frame)?;
+    let length = out.len() - start - 4;
+    if length > MAX_PAYLOAD {
+        let length = length as u64;
+        return Err(EncodeFault::TooLong { length });
+    }
+    put_length(out, start, length as u32);
+    Ok(())
 }
 
 /// Writes the frame's bytes in this version, 1 or 2, at the end. A Hello is looked at first, then the length.
-pub fn encode(
-    alloc: Global,
-    frame: &Frame,
-    version: u8,
-    out: &mut Vec<u8>,
-) -> Result<(), EncodeFault>
+pub fn encode(frame: &Frame, version: u8, out: &mut Vec<u8>) -> Result<(), EncodeFault>
     requires version { IsVersion version }
     // What is written is the frame's spelling.
     ensures ok { OnOk result (Appends version frame.now out.old.items out.new.items) }
@@ -117,15 +146,10 @@ pub fn encode(
     if is_bad_hello(frame) {
         return Err(EncodeFault::BadHello);
     }
-    let payload = payload(alloc, version, frame)?;
-    let length = payload.len();
-    if length > MAX_PAYLOAD {
-        let length = length as u64;
-        return Err(EncodeFault::TooLong { length });
+    let start = out.len();
+    let written = append(frame, version, out);
+    if written.is_err() {
+        out.truncate(start);
     }
-    // With the room taken, neither of the two can leave half a frame behind.
-    out.reserve(4 + length)?;
-    out.extend_from_slice(&(length as u32).to_be_bytes())?;
-    out.extend_from_slice(&payload)?;
-    Ok(())
+    written
 }

@@ -8,7 +8,7 @@ ghost use Rattle.tk_frames.specs.Spelling.{object_itself, pair_object, no_object
 
 use byteorder::{BigEndian, ByteOrder};
 use std::alloc::{AllocError, AllocFailed, Global};
-use tk_base::{Obj, ObjSet, Pairs, Places};
+use tk_base::{NoMemory, Obj, ObjSet, Pairs, PairsBuilder, Places};
 
 /// Why a field was not read.
 #[derive(Clone, Copy, Debug, PartialEq, Eq)]
@@ -23,6 +23,16 @@ impl From<AllocError> for Unread {
     ghost from_gives = { λ _ e. e ≡ Memory };
 
     fn from(_error: AllocError) -> Unread {
+        Unread::Memory
+    }
+}
+
+impl From<NoMemory> for Unread {
+    ghost use Rattle.tk_frames.specs.declared.reading.Unread.TheVariants.{Memory};
+
+    ghost from_gives = { λ _ e. e ≡ Memory };
+
+    fn from(_error: NoMemory) -> Unread {
         Unread::Memory
     }
 }
@@ -208,15 +218,15 @@ fn pair_list(
     version: u8,
     count: u32,
     bytes: &[u8],
-) -> Result<(Vec<(Obj, i128)>, &[u8]), Unread>
-    ensures { Gives (λ x. (pairs_of x.0.items, x.1.now)) result (items_at pair_object (pair_at version) 0 count bytes.now) }
+) -> Result<(PairsBuilder, &[u8]), Unread>
+    ensures { Gives (λ x. (x.0, x.1.now)) result (items_at pair_object (pair_at version) 0 count bytes.now) }
 {
-    let mut list = Vec::with_capacity(alloc, most_items(count, bytes, 2))?;
+    let mut list = PairsBuilder::with_capacity(alloc, most_items(count, bytes, 2))?;
     let mut rest = bytes;
     let mut before = 0;
     for _ in 0..count {
         let (item, after) = pair(version, before, rest)?;
-        list.push(item)?;
+        list.push(item.0, item.1)?;
         before = item.0.0;
         rest = after;
     }
@@ -261,7 +271,7 @@ pub fn pairs(alloc: Global, version: u8, bytes: &[u8]) -> Result<(Pairs, &[u8]),
 {
     let (count, rest) = u32_at(version, bytes)?;
     let (list, rest) = pair_list(alloc, version, count, rest)?;
-    match Pairs::new(list) {
+    match list.finish() {
         Ok(pairs) => Ok((pairs, rest)),
         Err(_) => Err(Unread::Malformed),
     }

@@ -134,7 +134,7 @@ fn is_spelled(alloc: Global, frame: &Frame, version: u8, bytes: &[u8]) -> Option
     requires { IsVersion version }
 {
     let mut out = vec![in alloc; 9].ok()?;
-    encode(alloc, frame, version, &mut out).ok()?;
+    encode(frame, version, &mut out).ok()?;
     let is_written = out.first() == Some(&9) && &out[1..] == bytes;
     out.push(7).ok()?;
     let size = bytes.len();
@@ -303,8 +303,8 @@ fn a_cut_frame_is_a_part(rt: HostRuntime) {
 /// The lengths of a frame's bytes and a Stop's behind them, and whether each is read where it begins.
 fn in_turn(alloc: Global, first: &Frame) -> Option<(usize, bool, bool)> {
     let mut both = Vec::new(alloc);
-    encode(alloc, first, 1, &mut both).ok()?;
-    encode(alloc, &Frame::Stop, 1, &mut both).ok()?;
+    encode(first, 1, &mut both).ok()?;
+    encode(&Frame::Stop, 1, &mut both).ok()?;
     let is_first = is_read(alloc, &both, 1, first, 22);
     let is_second = both.len() >= 22 && is_read(alloc, &both[22..], 1, &Frame::Stop, 5);
     Some((both.len(), is_first, is_second))
@@ -324,7 +324,7 @@ fn the_first_of_two_frames_is_read(rt: HostRuntime) -> Result<(), Fail> {
 /// Why a frame is not written in version 1, where that leaves the bytes.
 fn refusal_of(alloc: Global, frame: &Frame) -> Option<EncodeFault> {
     let mut out = vec![in alloc; 9].ok()?;
-    let fault = encode(alloc, frame, 1, &mut out).err();
+    let fault = encode(frame, 1, &mut out).err();
     if out.as_slice() == [9].as_slice() {
         fault
     } else {

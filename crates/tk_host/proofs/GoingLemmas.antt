@@ -1,7 +1,7 @@
 -- A session while it goes on, step by step.
-use Rattle.std.proofs.Common.{◌≡◌, ◌≤◌, ◌<◌, ℕ, ◌+◌, suc, zero, List, [], ◌∷◌, ◌++◌, length, map, take, get_or, Bool, true, false, Option, Some, None, Result, Ok, Err, refl, sym, ap, ap₂, subst, ◌∙◌, inl, inr, arith, append_assoc, append-nil, length-append, ℤ}
+use Rattle.std.proofs.Common.{◌≡◌, ◌≤◌, ◌<◌, ℕ, ◌+◌, suc, zero, List, [], ◌∷◌, ◌++◌, length, take, get_or, Bool, true, false, Option, Some, None, Result, Ok, Err, refl, sym, ap, ap₂, subst, ◌∙◌, inl, inr, arith, append_assoc, append-nil, length-append}
 use Rattle.std.specs.Prelude.{◌||◌, fold, slice_get, unwrap_or, IfErr}
-use Rattle.std.specs.List.{All, enumerate_from}
+use Rattle.std.specs.List.{All}
 use Rattle.std.specs.Result.{IsErrAnd}
 use Rattle.std.proofs.lemmas.List.{take-append-le, take_more}
 use Rattle.std.proofs.lemmas.List.Elements.{filter_map-append}
@@ -10,9 +10,9 @@ use Rattle.std.proofs.lemmas.List.Sums.{fold-append}
 use Rattle.std.proofs.lemmas.Option.{get_or_from_slice_get}
 use Rattle.tk_base.specs.History.{IsFront}
 use Rattle.tk_base.specs.Settings.{Setup}
+use Rattle.tk_coord.proofs.BatchLemmas.{opened_unpublished}
 use Rattle.tk_coord.specs.Coordinator.{CoordinatorView}
 use Rattle.tk_end.proofs.HearingLemmas.{front_refl, front_trans}
-use Rattle.tk_frames.specs.declared.frame.Frame.TheVariants as f
 use Rattle.tk_hub.specs.Hub.{HubView, IsHub}
 use Rattle.tk_hub.specs.Lines.{AreNamed}
 use Rattle.tk_hub.specs.Turn.{course_of}
@@ -20,7 +20,7 @@ use Rattle.tk_hub.specs.declared.course.Course.TheVariants as cs
 use Rattle.tk_hub.specs.declared.course.HubTurn.{HubTurn}
 use Rattle.tk_hub.specs.declared.course.HubTurn.TheVariants as t
 use Rattle.tk_input.specs.Sink.{Grows, GrowsByFront}
-use Rattle.tk_journal.specs.Legal.{Opening, opened, start}
+use Rattle.tk_journal.specs.Legal.{opened, start}
 use Rattle.tk_journal.specs.Publishing.{publications, published_in}
 use Rattle.tk_journal.specs.Readings.{is_stopped}
 use Rattle.tk_journal.specs.declared.noted.Noted.{Noted}
@@ -84,14 +84,6 @@ named_set names (n.Tuned k epsilon ∷ journal) all i p at = named_set names jou
 named_set names (n.Published q ∷ journal) all zero p at =
     subst (λ (x : Publication). All (λ t. t ≤ names) x.members) (ap (λ (x : Option Publication). unwrap_or x q) at) (all 0 (n.Published q) (omega arith))
 named_set names (n.Published q ∷ journal) all (suc i) p at = named_set names journal (λ k d within. all (suc k) d (omega (arith, within))) i p at
-
-no_publications : (members : List ℕ) (rows : List (ℕ × List (ℕ × ℤ))) → publications (map (λ p. n.Sent (record { 0 = p.0 }) (f.Assign 1 members p.1)) rows) ≡ []
-no_publications members [] = refl
-no_publications members (p ∷ rows) = no_publications members rows
-
--- a new journal has published nothing
-pub opened_unpublished : (start_ : Opening) → publications (opened start_) ≡ []
-opened_unpublished start_ = no_publications start_.members (enumerate_from 1 start_.factors)
 
 -- ---- what is told
 

@@ -1,28 +1,17 @@
 -- What one more count, place or monitor adds to the text of a line.
-use Rattle.std.proofs.Common.{◌≡◌, ℕ, suc, ◌+◌, ◌-◌, ◌<◌, ℤ, Bool, true, cond, Some, List, [], ◌∷◌, ◌++◌, length, take, get_or, sym, ap, ◌∙◌, arith, append_assoc, append-nil, length-take, rules}
+use Rattle.std.proofs.Common.{◌≡◌, ℕ, ◌+◌, ◌-◌, ◌<◌, ℤ, cond, Some, List, [], ◌∷◌, ◌++◌, length, take, get_or, sym, ap, ◌∙◌, arith, length-take}
 use Rattle.std.specs.Prelude.{codes, decimal, flat_map, nat_lt, slice_get}
 use Rattle.std.specs.Fmt.{signed_decimal}
 use Rattle.std.specs.List.{join_by, range_with_len}
-use Rattle.std.proofs.lemmas.List.Concat.{flat_map-append}
 use Rattle.std.proofs.lemmas.List.FromFn.{length-range_with_len}
 use Rattle.std.proofs.lemmas.List.{take_more}
 use Rattle.std.proofs.lemmas.Option.{get_or_from_slice_get}
 use Rattle.tk_border.proofs.RisingLemmas.{range-append}
+use Rattle.tk_journal.proofs.LineLemmas.{flat_map-push, join_by-push}
 use Rattle.tk_wire.specs.declared.beginning.Beginning.{Beginning}
 use Rattle.tk_host.specs.declared.seat.Seat.{Seat}
 use Rattle.tk_host.specs.Origins.{absolute, none}
 use Rattle.tk_host.specs.Text.{counts_text, monitor_text, places_text}
-
-flat_map-push : {X : Type 0} (f : X → List ℕ) (xs : List X) (y : X) → flat_map f (xs ++ y ∷ []) ≡ flat_map f xs ++ f y
-flat_map-push f xs y = flat_map-append f xs (y ∷ []) ∙ ap (λ (l : List ℕ). flat_map f xs ++ l) (append-nil (f y))
-
-join_by-push : {X : Type 0} (f : X → List ℕ) (sep : List ℕ) (xs : List X) (y : X) → join_by f sep (xs ++ y ∷ []) ≡ join_by f sep xs ++ (cond (nat_lt 0 (length xs)) sep [] ++ f y)
-join_by-push f sep [] y = append-nil (f y)
-join_by-push f sep (x ∷ xs) y =
-    let more : nat_lt 0 (suc (length xs)) ≡ true = search rules in
-    ap (λ (l : List ℕ). f x ++ l) (flat_map-push (λ z. sep ++ f z) xs y)
-    ∙ sym (append_assoc (f x) (flat_map (λ z. sep ++ f z) xs) (sep ++ f y))
-    ∙ ap (λ (b : Bool). (f x ++ flat_map (λ z. sep ++ f z) xs) ++ (cond b sep [] ++ f y)) (sym more)
 
 pub counts_more : (bs : List Beginning) (i : ℕ) → i < length bs
     → counts_text (take i bs) ++ (cond (nat_lt 0 i) (codes ",") [] ++ decimal (get_or bs i none).count) ≡ counts_text (take (i + 1) bs)

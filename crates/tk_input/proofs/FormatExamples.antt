@@ -6,6 +6,7 @@ use Rattle.csv.proofs.OnLiterals.{csv_on_literals}
 use Rattle.tk_input.specs.Catalog.{catalog_of}
 use Rattle.tk_input.specs.Log.{log_of}
 use Rattle.tk_input.specs.Order.{order_of}
+use Rattle.tk_input.specs.Plain.{cut_records}
 use Rattle.tk_input.specs.Records.{through}
 use Rattle.tk_input.specs.declared.catalog.CatalogFault.TheVariants as catalog
 use Rattle.tk_input.specs.declared.event.Event.TheVariants.{Raise, Check, Up, Down, Retune}
@@ -46,6 +47,10 @@ third_line = refl
 pub first_fault : catalog_of (codes "a\na b,c\na\n") ≡ Err (catalog.BadRow 2)
 unfolding csv_on_literals through
 first_fault = refl
+
+-- the same without csv: an empty line is no record, and an empty field is one
+pub cuts : cut_records (codes "a,5\n\nb,,-2\nc") ≡ (codes "a" ∷ codes "5" ∷ []) ∷ (codes "b" ∷ [] ∷ codes "-2" ∷ []) ∷ (codes "c" ∷ []) ∷ []
+cuts = refl
 
 -- the changes of a log over the names a and b
 pub changes : log_of (codes "a" ∷ codes "b" ∷ []) (codes "a,5\nb,-0002\r\n\"a\",+3") ≡ Ok ((1, pos 5) ∷ (2, neg_ℤ (pos 2)) ∷ (1, pos 3) ∷ [])

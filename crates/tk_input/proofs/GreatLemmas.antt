@@ -24,7 +24,8 @@ find-range_found p a (suc n) (suc i) within before here =
     ∙ find-range_found p (a + 1) n i (omega arith) (λ k h. let step : a + suc k ≡ (a + 1) + k = omega arith in subst (λ (m : ℕ). p m ≡ false) step (before (suc k) (omega arith))) (subst (λ (m : ℕ). p m ≡ true) (sym next) here)
     ∙ ap (λ (m : ℕ). Some m) next
 
-find-range_none : (p : ℕ → Bool) (a n : ℕ) → ((k : ℕ) → k < n → p (a + k) ≡ false) → find p (range_with_len a n) ≡ None
+-- no number of a range passes
+pub find-range_none : (p : ℕ → Bool) (a n : ℕ) → ((k : ℕ) → k < n → p (a + k) ≡ false) → find p (range_with_len a n) ≡ None
 find-range_none p a zero none = refl
 find-range_none p a (suc n) none =
     let same : a + 0 ≡ a = omega arith in

@@ -1,4 +1,6 @@
 pub mod CatalogLemmas
+pub mod CuttingLemmas
+pub mod FirstByteLemmas
 pub mod CountLemmas
 pub mod CountedLemmas
 pub mod EdgeLemmas
@@ -7,6 +9,7 @@ pub mod SumLemmas
 pub mod SignedLemmas
 pub mod RowsLemmas
 pub mod GreatLemmas
+pub mod SmallLemmas
 pub mod LimitsLemmas
 pub mod ReadingLemmas
 pub mod TakingLemmas
@@ -15,6 +18,8 @@ pub mod NamesLemmas
 pub mod DifferLemmas
 pub mod PrefixLemmas
 pub mod LinesLemmas
+pub mod PlainLemmas
+pub mod PlainLogLemmas
 pub mod LogLemmas
 pub mod OrderLemmas
 pub mod FormatExamples

@@ -34,7 +34,8 @@ change_next names before change n fields so_many read =
     ap (λ (k : ℕ). and_then (λ more. Ok (before ++ more ∷ [])) (next_change names k fields)) (sym so_many)
     ∙ ap (and_then (λ more. Ok (before ++ more ∷ []))) read
 
-fault_ends : {A B : Type 0} (r : Result A PartFault) (e : PartFault) (further : A → Result B PartFault) → IsFault e r → IsFault e (and_then further r)
+-- what comes of a fault is the fault
+pub fault_ends : {A B : Type 0} (r : Result A PartFault) (e : PartFault) (further : A → Result B PartFault) → IsFault e r → IsFault e (and_then further r)
 fault_ends r TooMany further is = ap (and_then further) is
 fault_ends r (BadRow n) further is = ap (and_then further) is
 fault_ends r (UnknownName n) further is = ap (and_then further) is

@@ -40,21 +40,21 @@ shrinks cfg s fields field (c ∷ rest) p is =
     (shrinks cfg (step cfg s c).0 (fields_after (step cfg s c).1 fields field) (field_after (step cfg s c).1 c field) rest p) is
 
 -- nothing is left after the last record
-none_left : (cfg : Config) (n : ℕ) → records_from cfg n st.StartRecord [] ≡ []
+pub no_record : (cfg : Config) (n : ℕ) → records_from cfg n st.StartRecord [] ≡ []
 unfolding next_record records_from
-none_left cfg zero = refl
-none_left cfg (suc n) = refl
+no_record cfg zero = refl
+no_record cfg (suc n) = refl
 
 same_next : (cfg : Config) (n m : ℕ) (xs : List ℕ) (o : Option Read) → ((p : Read) → o ≡ Some p → Shrinks xs p) → ((s : State) (ys : List ℕ) → length ys < length xs → records_from cfg n s ys ≡ records_from cfg m s ys) → records_next (records_from cfg n) o ≡ records_next (records_from cfg m) o
 unfolding Shrinks
 same_next cfg n m xs None small later = refl
 same_next cfg n m xs (Some p) small later = ap (λ rest. p.0 ∷ rest) (elim (small p refl) [
   | inl shorter ↦ later p.1 p.2 shorter
-  | inr ends ↦ rw (ends.0, ends.1) (none_left cfg n ∙ sym (none_left cfg m))
+  | inr ends ↦ rw (ends.0, ends.1) (no_record cfg n ∙ sym (no_record cfg m))
 ])
 
 -- more turns than bytes give the same records
-enough : (cfg : Config) (n m : ℕ) (s : State) (xs : List ℕ) → length xs < n → length xs < m → records_from cfg n s xs ≡ records_from cfg m s xs
+pub enough : (cfg : Config) (n m : ℕ) (s : State) (xs : List ℕ) → length xs < n → length xs < m → records_from cfg n s xs ≡ records_from cfg m s xs
 unfolding records_from
 enough cfg zero m s xs a b = absurd (omega arith)
 enough cfg (suc n) zero s xs a b = absurd (omega arith)
@@ -64,9 +64,9 @@ enough cfg (suc n) (suc m) s xs a b =
 rest_same : (cfg : Config) (xs : List ℕ) (p : Read) → Shrinks xs p → records_from cfg (length xs) p.1 p.2 ≡ records_from cfg (length p.2 + 1) p.1 p.2
 unfolding Shrinks
 rest_same cfg xs p (inl shorter) = enough cfg (length xs) (length p.2 + 1) p.1 p.2 shorter (omega arith)
-rest_same cfg xs p (inr ends) = rw (ends.0, ends.1) (none_left cfg (length xs) ∙ sym (none_left cfg (0 + 1)))
+rest_same cfg xs p (inr ends) = rw (ends.0, ends.1) (no_record cfg (length xs) ∙ sym (no_record cfg (0 + 1)))
 
-first_found : (cfg : Config) (s s2 : State) (xs ys : List ℕ) (fields : List (List ℕ)) (o : Option Read) → next_record cfg s [] [] xs ≡ o → NextIs o true fields s2 ys → records_from cfg (length xs + 1) s xs ≡ fields ∷ records_from cfg (length ys + 1) s2 ys
+pub first_found : (cfg : Config) (s s2 : State) (xs ys : List ℕ) (fields : List (List ℕ)) (o : Option Read) → next_record cfg s [] [] xs ≡ o → NextIs o true fields s2 ys → records_from cfg (length xs + 1) s xs ≡ fields ∷ records_from cfg (length ys + 1) s2 ys
 unfolding records_from
 first_found cfg s s2 xs ys fields None is next = absurd (cc)
 first_found cfg s s2 xs ys fields (Some p) is next =

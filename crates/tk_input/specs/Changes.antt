@@ -1,5 +1,5 @@
 -- Changes as pairs of an object and a whole number.
-use Rattle.std.specs.Prelude.{ℕ, ◌-◌, ℤ, pos, List, ◌∷◌, ◌++◌, length, map, take, drop}
+use Rattle.std.specs.Prelude.{ℕ, ◌-◌, ◌^◌, ◌≤◌, ℤ, pos, unsigned_abs, List, ◌∷◌, ◌++◌, length, map, take, drop, All}
 use Rattle.tk_base.specs.Pairs.{narrow_pair_of}
 use Rattle.tk_base.specs.declared.narrow_pair.NarrowPair.{NarrowPair}
 use Rattle.tk_input.specs.declared.change.Change.{Change}
@@ -22,6 +22,15 @@ narrow_changes_of list = map narrow_pair_of list
 abbrev pub changes_in : Form → List (ℕ × ℤ)
 changes_in (Narrow list) = map narrow_pair_of list.items
 changes_in (Wide list) = changes_of list.items
+
+-- the amounts of some changes fit in 4 bytes
+abbrev pub AreSmall : List (ℕ × ℤ) → Type 0
+AreSmall changes = All (λ c. unsigned_abs c.1 ≤ 2 ^ 31) changes
+
+-- those that are kept in 8 bytes each do
+abbrev pub IsKept : Form → Type 0
+IsKept (Narrow list) = AreSmall (narrow_changes_of list.items)
+IsKept (Wide list) = Unit
 
 -- some changes with one more at a place
 abbrev pub inserted : ℕ → ℕ × ℤ → List (ℕ × ℤ) → List (ℕ × ℤ)

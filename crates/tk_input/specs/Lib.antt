@@ -9,6 +9,7 @@ pub mod MapFiles
 pub mod Number
 pub mod Order
 pub mod Part
+pub mod Plain
 pub mod Reading
 pub mod Records
 pub mod Rows

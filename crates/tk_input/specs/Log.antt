@@ -1,5 +1,6 @@
 -- The changes that a log file is.
-use Rattle.std.specs.Prelude.{◌≡◌, ℕ, ◌+◌, ℤ, nat_le, if◌then◌else◌, List, [], ◌∷◌, ◌++◌, length, Option, Some, None, Result, Ok, Err}
+use Rattle.std.specs.Prelude.{◌≡◌, ℕ, ◌+◌, ℤ, nat_le, if◌then◌else◌, List, [], ◌∷◌, ◌++◌, length, Option, Some, None, option_map, Result, Ok, Err}
+use Rattle.std.specs.Borrow.{Bor}
 use Rattle.tk_input.specs.Catalog.{object_of}
 use Rattle.tk_input.specs.Number.{whole_number}
 use Rattle.tk_input.specs.Records.{and_then, records_in, through}
@@ -24,9 +25,17 @@ abbrev pub change_in : List (List ℕ) → ℕ → Option (List ℕ × List ℕ)
 change_in names n None = Err (BadRow n)
 change_in names n (Some fields) = change_of n (object_of names fields.0) (whole_number fields.1)
 
+-- two fields that may be lent, as bytes
+abbrev pub lent_fields : Option (Bor (List ℕ) × Bor (List ℕ)) → Option (List ℕ × List ℕ)
+lent_fields fields = option_map (λ p. (p.0.now, p.1.now)) fields
+
+-- the change that two fields are as the record after so many, or its fault
+abbrev pub change_behind : List (List ℕ) → ℕ → Option (List ℕ × List ℕ) → Result (ℕ × ℤ) PartFault
+change_behind names before fields = if nat_le 1000000 before then Err TooMany else change_in names (before + 1) fields
+
 -- the change of the record after so many, or its fault
 abbrev pub next_change : List (List ℕ) → ℕ → List (List ℕ) → Result (ℕ × ℤ) PartFault
-next_change names before fields = if nat_le 1000000 before then Err TooMany else change_in names (before + 1) (both_fields fields)
+next_change names before fields = change_behind names before (both_fields fields)
 
 -- the changes before with that of the next record, or its fault
 abbrev pub change_added : List (List ℕ) → List (ℕ × ℤ) → List (List ℕ) → Result (List (ℕ × ℤ)) PartFault

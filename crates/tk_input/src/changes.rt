@@ -1,8 +1,8 @@
 //! The changes of a log, in 8 bytes each where all amounts are small.
 
-ghost use Rattle.std.specs.Prelude.{◌≡◌, ◌<◌, ◌++◌, ◌∷◌, [], IfOk, OnOk, OnErr, length, map, slice_get, Some};
+ghost use Rattle.std.specs.Prelude.{◌≡◌, ◌<◌, ◌++◌, ◌∷◌, [], IfOk, IsTrue, OnOk, OnErr, length, map, slice_get, Some};
 ghost use Rattle.tk_base.specs.Pairs.{narrow_pair_of};
-ghost use Rattle.tk_input.specs.Changes.{changes_of, grown_by, inserted, narrow_changes_of, pair_of};
+ghost use Rattle.tk_input.specs.Changes.{AreSmall, changes_of, grown_by, inserted, narrow_changes_of, pair_of};
 
 use crate::change::Change;
 use std::alloc::Global;
@@ -28,9 +28,11 @@ impl Model for Changes {
 
     ghost Value = { List (ℕ × ℤ) };
 
-    ghost use Rattle.tk_input.specs.Changes.{changes_in};
+    ghost use Rattle.tk_input.specs.Changes.{changes_in, IsKept};
 
     ghost view = { λ c. changes_in c.form };
+
+    ghost invariant = { λ c. IsKept c.form };
 }
 
 /// A change that was kept in 8 bytes.
@@ -164,6 +166,16 @@ impl Changes {
         match &self.form {
             Form::Narrow(list) => list.len(),
             Form::Wide(list) => list.len(),
+        }
+    }
+
+    /// Whether each change is kept in 8 bytes.
+    pub(crate) fn are_narrow(&self) -> bool
+        ensures { IsTrue result → AreSmall self.now }
+    {
+        match &self.form {
+            Form::Narrow(_) => true,
+            Form::Wide(_) => false,
         }
     }
 

@@ -19,6 +19,8 @@ mod name_hasher;
 mod number;
 mod order;
 mod part;
+mod place;
+mod plain;
 mod records;
 mod retuning;
 mod sink;

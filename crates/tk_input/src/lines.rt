@@ -5,6 +5,7 @@ ghost use Rattle.std.specs.Option.{option_map_or};
 ghost use Rattle.std.specs.Str.Lines.{lines, strip_carriage_return};
 ghost use Rattle.tk_input.specs.Order.{filled, numbered, words};
 
+use crate::place::place_of;
 use std::marker::Model;
 
 /// The lines of a text that are still to be read and are not empty, each with its number. Lines count from 1, with the
@@ -23,12 +24,6 @@ impl<'a> Model for Lines<'a> {
     ghost use Rattle.tk_input.specs.Order.{left_after};
 
     ghost view = { λ l. left_after l.number l.rest.now };
-}
-
-fn place_of(text: &[u8], byte: u8) -> Option<usize>
-    ensures { result ≡ position (λ b. b == byte) text.now }
-{
-    text.iter().position(|b| *b == byte)
 }
 
 /// The first word of a line, and what follows it behind a space.

@@ -120,7 +120,8 @@ impl Logs {
 
     /// Parts of one monitor become its feeders 1, 2, .. in the order of the list. Refuses by the first of
     /// its tests that fails. The rows of parts are made first, so want of memory may come before any of
-    /// them. Takes one pass over the changes, and room for one number per object.
+    /// them. Where a change takes 32 bytes, goes over the changes of its monitor, and takes room for one
+    /// number per object.
     pub fn new(alloc: Global, parts: Vec<(Mon, Part)>, objects: u32) -> Result<Logs, LogsFault>
         requires monitors { All (λ p. (1 ≤ p.0.0) × (p.0.0 ≤ 64)) parts.items }
         requires objects { All (λ p. All (λ c. IsObject objects c.0) p.1) parts.items }

@@ -3,8 +3,9 @@
 ghost use Rattle.std.specs.Prelude.{◌≡◌, ◌<◌, ◌≤◌, ◌^◌, IfOk, IfErr, OnErr, OnOk, Ok, Err, All, [], length, option_map, slice_get, Some, unsigned_abs};
 ghost use Rattle.csv.specs.Records.{fields_of};
 ghost use Rattle.tk_input.specs.Changes.{grown_by, pair_of};
-ghost use Rattle.tk_input.specs.Log.{IsFault, both_fields as both_fields_of, change_added, log_of, next_change as next_change_of};
+ghost use Rattle.tk_input.specs.Log.{IsFault, both_fields as both_fields_of, change_added, change_behind, lent_fields, log_of, next_change as next_change_of};
 ghost use Rattle.tk_input.specs.Logs.{IsObject};
+ghost use Rattle.tk_input.specs.Plain.{cut_records, with_line};
 ghost use Rattle.tk_input.specs.Records.{through};
 ghost use Rattle.tk_input.specs.declared.part.PartFault.TheVariants.{NoMemory as OutOfMemory};
 
@@ -12,6 +13,7 @@ use crate::catalog::Catalog;
 use crate::change::Change;
 use crate::changes::Changes;
 use crate::number::whole_number_of;
+use crate::plain::{both_in, is_plain, split_line};
 use crate::records::Records;
 use csv::ByteRecord;
 use std::alloc::{AllocError, AllocFailed, Global};
@@ -103,10 +105,14 @@ fn both_fields(row: &ByteRecord) -> Option<(&[u8], &[u8])>
     Some((row.get(0)?, row.get(1)?))
 }
 
-/// The change of a record, with so many before it.
-pub fn next_change(names: &Catalog, row: &ByteRecord, before: usize) -> Result<Change, PartFault>
-    ensures ok { IfOk result (λ c. next_change_of names.now before (fields_of row.now) ≡ Ok (c.obj.0, c.by)) }
-    ensures err { IfErr result (λ e. next_change_of names.now before (fields_of row.now) ≡ Err e) }
+/// The change of a record's fields, if it has two, with so many records before it.
+fn change_after(
+    names: &Catalog,
+    fields: Option<(&[u8], &[u8])>,
+    before: usize,
+) -> Result<Change, PartFault>
+    ensures ok { IfOk result (λ c. change_behind names.now before (lent_fields fields.entry) ≡ Ok (c.obj.0, c.by)) }
+    ensures err { IfErr result (λ e. change_behind names.now before (lent_fields fields.entry) ≡ Err e) }
     ensures object { IfOk result (λ c. IsObject (length names.now) c.obj.0) }
     ensures size { IfOk result (λ c. unsigned_abs c.by < 2 ^ 127) }
     ensures few { OnOk result (before < 1000000) }
@@ -115,7 +121,7 @@ pub fn next_change(names: &Catalog, row: &ByteRecord, before: usize) -> Result<C
         return Err(PartFault::TooMany);
     }
     let number = before as u32 + 1;
-    let Some((name, text)) = both_fields(row) else {
+    let Some((name, text)) = fields else {
         return Err(PartFault::BadRow(number));
     };
     let Some(obj) = names.find(name) else {
@@ -125,6 +131,17 @@ pub fn next_change(names: &Catalog, row: &ByteRecord, before: usize) -> Result<C
         Some(by) => Ok(Change { obj, by }),
         None => Err(PartFault::BadNumber(number)),
     }
+}
+
+/// The change of a record, with so many before it.
+pub fn next_change(names: &Catalog, row: &ByteRecord, before: usize) -> Result<Change, PartFault>
+    ensures ok { IfOk result (λ c. next_change_of names.now before (fields_of row.now) ≡ Ok (c.obj.0, c.by)) }
+    ensures err { IfErr result (λ e. next_change_of names.now before (fields_of row.now) ≡ Err e) }
+    ensures object { IfOk result (λ c. IsObject (length names.now) c.obj.0) }
+    ensures size { IfOk result (λ c. unsigned_abs c.by < 2 ^ 127) }
+    ensures few { OnOk result (before < 1000000) }
+{
+    change_after(names, both_fields(row), before)
 }
 
 /// Adds the changes of the records that are left behind the others. Here and below what grows is lent: a place that drops it
@@ -167,6 +184,60 @@ fn take_records(
     take_rows(&mut rows, &mut row, names, changes)
 }
 
+/// Adds the change of a line behind the others, unless the line is empty.
+fn take_line(line: &[u8], names: &Catalog, changes: &mut Changes) -> Result<(), PartFault>
+    requires most { length changes.old ≤ 1000000 }
+    requires objects { All (λ c. IsObject (length names.now) c.0) changes.old }
+    ensures ok { OnOk result (through (change_added names.now) changes.old (with_line line.now []) ≡ Ok changes.new) }
+    ensures err { IfErr result (λ e. IsFault e (through (change_added names.now) changes.old (with_line line.now []))) }
+    ensures objects { OnOk result (All (λ c. IsObject (length names.now) c.0) changes.new) }
+    ensures most { OnOk result (length changes.new ≤ 1000000) }
+{
+    if line.is_empty() {
+        return Ok(());
+    }
+    let change = change_after(names, both_in(line), changes.len())?;
+    changes.push(change)?;
+    Ok(())
+}
+
+/// Adds the changes of a plain text behind the others.
+fn take_plain(text: &[u8], names: &Catalog, changes: &mut Changes) -> Result<(), PartFault>
+    requires most { length changes.old ≤ 1000000 }
+    requires objects { All (λ c. IsObject (length names.now) c.0) changes.old }
+    ensures ok { OnOk result (through (change_added names.now) changes.old (cut_records text.now) ≡ Ok changes.new) }
+    ensures err { IfErr result (λ e. IsFault e (through (change_added names.now) changes.old (cut_records text.now))) }
+    ensures objects { OnOk result (All (λ c. IsObject (length names.now) c.0) changes.new) }
+    ensures most { OnOk result (length changes.new ≤ 1000000) }
+{
+    let mut rest = text;
+    while !rest.is_empty() {
+        let (line, behind) = split_line(rest);
+        take_line(line, names, changes)?;
+        rest = behind;
+    }
+    Ok(())
+}
+
+/// Adds the changes of a log to none: a plain one is cut without csv.
+fn take_log(
+    alloc: Global,
+    bytes: &[u8],
+    names: &Catalog,
+    changes: &mut Changes,
+) -> Result<(), PartFault>
+    requires { changes.old ≡ [] }
+    ensures ok { OnOk result (log_of names.now bytes.now ≡ Ok changes.new) }
+    ensures err { IfErr result (λ e. IsFault e (log_of names.now bytes.now)) }
+    ensures objects { OnOk result (All (λ c. IsObject (length names.now) c.0) changes.new) }
+    ensures most { OnOk result (length changes.new ≤ 1000000) }
+{
+    if is_plain(bytes) {
+        return take_plain(bytes, names, changes);
+    }
+    take_records(alloc, bytes, names, changes)
+}
+
 impl Part {
     /// Reads one change a record, in one pass over the bytes.
     pub fn read(alloc: Global, bytes: &[u8], names: &Catalog) -> Result<Part, PartFault>
@@ -177,7 +248,7 @@ impl Part {
         ensures most { IfOk result (λ p. length p ≤ 1000000) }
     {
         let mut changes = Changes::new(alloc);
-        take_records(alloc, bytes, names, &mut changes)?;
+        take_log(alloc, bytes, names, &mut changes)?;
         changes.shrink_to_fit();
         Ok(Part::new(changes))
     }

@@ -6,7 +6,7 @@ ghost use Rattle.tk_input.specs.MapFiles.{faults_after};
 ghost use Rattle.tk_input.specs.Tallies.{Notes, count_of, faults_of, longest_of};
 
 use crate::edges::{fault_of, take_all};
-use crate::files::{FileFault, Files};
+use crate::files::{FileFault, Files, MAX_LENGTH};
 use crate::tallies::Tallies;
 use std::alloc::Global;
 use std::io::Read;
@@ -54,6 +54,15 @@ fn take_opened<F: Read + Drop>(opened: io::Result<F>, bytes: &mut Vec<u8>) -> Re
     }
 }
 
+/// Room for what the system says that a file holds, so that it need not grow, and its end is seen without growing. It may
+/// say what is not so, of a pipe above all: then the room grows as it must.
+fn room_for<R: rt::Files>(system: &R, name: &str) -> usize {
+    match fs::metadata(system, name) {
+        Ok(known) => known.len().min(MAX_LENGTH as u64) as usize + 1,
+        Err(_) => 0,
+    }
+}
+
 /// Counts what came of a read of a name that has its room, and how many bytes it took.
 fn note(tallies: &mut Tallies, name: &str, outcome: &Result<(), FileFault>, taken: u64)
     requires { IsSome (count_of tallies.old name.now) }
@@ -70,14 +79,16 @@ fn note(tallies: &mut Tallies, name: &str, outcome: &Result<(), FileFault>, take
     }
 }
 
-/// What a read of a name gives whose file was opened, or was not. The name has its room among what is counted.
+/// What a read of a name gives whose file was opened, or was not, behind no bytes. The name has its room among what is
+/// counted.
 fn read_opened<F: Read + Drop>(
-    alloc: Global,
+    empty: Vec<u8>,
     opened: io::Result<F>,
     name: &str,
     tallies: &mut Tallies,
 ) -> Result<Vec<u8>, FileFault>
-    requires { IsSome (count_of tallies.old name.now) }
+    requires empty { length empty.items ≡ 0 }
+    requires counted { IsSome (count_of tallies.old name.now) }
     // What is read is all that there is: no failed read is the end of a file.
     ensures ok { IfOk result (λ v. Gives F.remaining opened v.items) }
     ensures short { IfOk result (λ v. length v.items ≤ 67108864) }
@@ -88,7 +99,7 @@ fn read_opened<F: Read + Drop>(
     ensures notes { Notes tallies.old tallies.new name.now
         (faults_after result (faults_of tallies.old name.now)) (longest_of tallies.new name.now) }
 {
-    let mut bytes = Vec::new(alloc);
+    let mut bytes = empty;
     let outcome = take_opened(opened, &mut bytes);
     note(tallies, name, &outcome, bytes.len() as u64);
     match outcome {
@@ -116,7 +127,10 @@ impl<R: rt::Files> Files for TrueFiles<R> {
         if self.tallies.reserve(alloc, name).is_err() {
             return Err(FileFault::NoMemory);
         }
+        let Ok(empty) = Vec::with_capacity(alloc, room_for(&self.system, name)) else {
+            return Err(FileFault::NoMemory);
+        };
         let opened = fs::open(&self.system, name);
-        read_opened(alloc, opened, name, &mut self.tallies)
+        read_opened(empty, opened, name, &mut self.tallies)
     }
 }

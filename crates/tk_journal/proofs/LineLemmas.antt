@@ -13,10 +13,12 @@ pub grown : (before old new shown text more : List ℕ) → old ≡ before ++ sh
 grown before old new shown text more was put is =
     put ∙ ap (λ (l : List ℕ). l ++ text) was ∙ append_assoc before shown text ∙ ap (λ (l : List ℕ). before ++ l) is
 
-flat_map-push : {X : Type 0} (f : X → List ℕ) (xs : List X) (y : X) → flat_map f (xs ++ y ∷ []) ≡ flat_map f xs ++ f y
+-- what one element more adds
+pub flat_map-push : {X : Type 0} (f : X → List ℕ) (xs : List X) (y : X) → flat_map f (xs ++ y ∷ []) ≡ flat_map f xs ++ f y
 flat_map-push f xs y = flat_map-append f xs (y ∷ []) ∙ ap (λ (l : List ℕ). flat_map f xs ++ l) (append-nil (f y))
 
-join_by-push : {X : Type 0} (f : X → List ℕ) (sep : List ℕ) (xs : List X) (y : X) → join_by f sep (xs ++ y ∷ []) ≡ join_by f sep xs ++ (cond (nat_lt 0 (length xs)) sep [] ++ f y)
+-- the same where a text stands between two
+pub join_by-push : {X : Type 0} (f : X → List ℕ) (sep : List ℕ) (xs : List X) (y : X) → join_by f sep (xs ++ y ∷ []) ≡ join_by f sep xs ++ (cond (nat_lt 0 (length xs)) sep [] ++ f y)
 join_by-push f sep [] y = append-nil (f y)
 join_by-push f sep (x ∷ xs) y =
     let more : nat_lt 0 (suc (length xs)) ≡ true = search rules in

@@ -13,4 +13,6 @@ mod text;
 
 pub use counts::{Counts, PerMonitor};
 pub use ledger::Ledger;
-pub use printing::{PrintFault, print, print_ledger, print_sets, print_summary, print_ticked};
+pub use printing::{
+    PrintFault, print, print_ledger, print_sets, print_summary, print_ticked, put_line,
+};

@@ -66,7 +66,7 @@ impl From<PutFailed> for PrintFault {
 }
 
 /// Puts a line, and drops it by name: each place that drops one by itself is dear to prove.
-fn put_line<O: Sink>(line: Vec<u8>, out: &mut O) -> Result<(), PrintFault>
+pub fn put_line<O: Sink>(line: Vec<u8>, out: &mut O) -> Result<(), PrintFault>
     ensures ok { OnOk result (Grows (O.written out.old) (O.written out.new) line.items) }
     ensures err { OnErr result (GrowsByFront (O.written out.old) (O.written out.new) line.items) }
     ensures failed { IsErrOf result PrintFault.WriteFailed → HasRisen (O.fault_count out.old) (O.fault_count out.new) }

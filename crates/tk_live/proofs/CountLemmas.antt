@@ -16,7 +16,7 @@ use Rattle.tk_live.specs.Parting.{faults_of, of_turn, round_faults}
 use Rattle.tk_load.specs.Surroundings.{faults_told}
 use Rattle.tk_live.specs.declared.parting.Parting.{Parting}
 use Rattle.tk_live.specs.declared.parting.Parting.TheVariants as p
-use Rattle.tk_live.specs.declared.outcome.Outcome.{Outcome}
+use Rattle.tk_live.specs.declared.outcome.LiveOutcome.{LiveOutcome}
 use Rattle.tk_load.specs.declared.status.Status.{Status}
 use Rattle.tk_load.specs.declared.status.Status.TheVariants as st
 
@@ -62,8 +62,8 @@ link_spared status (inl is) faults = ap (λ x. faults_told x faults) (sym is)
 link_spared status (inr is) faults = ap (λ x. faults_told x faults) (sym is)
 
 -- so where no worker was started
-pub unstarted_spared : (status : Status) → (status ≡ st.LinkFault) ⊎ (status ≡ st.NoMemory) → (lived : Outcome) → lived ≡ record { status = status; story = None; ends = None } → (faults : ℕ) → faults ≡ faults_told lived.status faults
-unstarted_spared status which lived is faults = link_spared status which faults ∙ ap (λ (l : Outcome). faults_told l.status faults) (sym is)
+pub unstarted_spared : (status : Status) → (status ≡ st.LinkFault) ⊎ (status ≡ st.NoMemory) → (lived : LiveOutcome) → lived ≡ record { status = status; story = None; ends = None } → (faults : ℕ) → faults ≡ faults_told lived.status faults
+unstarted_spared status which lived is faults = link_spared status which faults ∙ ap (λ (l : LiveOutcome). faults_told l.status faults) (sym is)
 
 -- a difference, or want of memory
 pub joined_spared : (why : JoinFault) (faults : ℕ) → faults ≡ faults_told (joined_as why) faults

@@ -1,6 +1,7 @@
 -- An input that the files tell is run live.
-use Rattle.std.proofs.Common.{◌≡◌, ℕ, true, false, List, Some, Option, Result, Err, is_ok, refl, sym, subst}
+use Rattle.std.proofs.Common.{◌≡◌, ℕ, true, List, Some, Option, Result, Err, is_ok, refl, sym, subst}
 use Rattle.tk_words.specs.Words.{LiveWords, words_of}
+use Rattle.tk_load.proofs.FaultLemmas.{none_is_meant}
 use Rattle.tk_load.specs.Faults.{Fault}
 use Rattle.tk_load.specs.Input.{input_of}
 use Rattle.tk_load.specs.Laws.{WhatIsToldIsMeant}
@@ -14,16 +15,12 @@ use Rattle.tk_live.specs.Lived.{TellsEnds}
 use Rattle.tk_live.specs.Serving.{EndsWords, served}
 use Rattle.tk_live.specs.Serving.EndsWords.{Ran, Refused, Unmet, Unread}
 use Rattle.tk_live.specs.Traffic.{LiveSurroundings}
-use Rattle.tk_live.specs.declared.outcome.Outcome.{Outcome}
-
--- no fault is told of what is meant
-no_fault : {V : Type 0} (meant : Result V Fault) (fault : Fault) → is_ok meant ≡ true → meant ≡ Err fault → ⊥
-no_fault {V} meant fault ok is = let bad : false ≡ true = subst (λ (m : Result V Fault). is_ok m ≡ true) is ok in cc (bad)
+use Rattle.tk_live.specs.declared.outcome.LiveOutcome.{LiveOutcome}
 
 meant_is_lived : {V : Type 0} (meant : Result V Fault) (status : Status) (ends : Option Ends) → is_ok meant ≡ true → Tells status meant → IsLived status ends
-meant_is_lived meant (s.ReadFault file) ends ok tells = absurd (no_fault meant _ ok tells)
-meant_is_lived meant (s.BadInput file line kind) ends ok tells = absurd (no_fault meant _ ok tells)
-meant_is_lived meant (s.TooGreat mon obj) ends ok tells = absurd (no_fault meant _ ok tells)
+meant_is_lived meant (s.ReadFault file) ends ok tells = absurd (none_is_meant meant _ ok tells)
+meant_is_lived meant (s.BadInput file line kind) ends ok tells = absurd (none_is_meant meant _ ok tells)
+meant_is_lived meant (s.TooGreat mon obj) ends ok tells = absurd (none_is_meant meant _ ok tells)
 meant_is_lived meant s.NoMemory ends ok tells = tt
 meant_is_lived meant s.Done ends ok tells = absurd tells
 meant_is_lived meant s.Usage ends ok tells = absurd tells
@@ -45,7 +42,7 @@ status_is_lived (s.BadInput file line kind) ends linked written tells = absurd t
 status_is_lived (s.TooGreat mon obj) ends linked written tells = absurd tells
 status_is_lived (s.BadTrace file fault) ends linked written tells = absurd tells
 
-pub input_is_lived : WhatIsToldIsMeant input_of → (words : List (List ℕ)) (asked : LiveWords) (met : LiveSurroundings) (contents : List ℕ → List ℕ) (outcome : Outcome) → served (words_of words) ≡ Some asked → GivesInput met contents asked
+pub input_is_lived : WhatIsToldIsMeant input_of → (words : List (List ℕ)) (asked : LiveWords) (met : LiveSurroundings) (contents : List ℕ → List ℕ) (outcome : LiveOutcome) → served (words_of words) ≡ Some asked → GivesInput met contents asked
     → (outcome.status ≡ s.LinkFault → ⊥) → (outcome.status ≡ s.WriteFault → ⊥) → EndsWords words met outcome → IsLived outcome.status outcome.ends
 input_is_lived law words asked met contents outcome understood given linked written (Refused none usage unstarted) = absurd (cc (none, understood))
 input_is_lived law words asked met contents outcome understood given linked written (Unmet is unstarted) = subst (λ st. IsLived st outcome.ends) (sym is) tt

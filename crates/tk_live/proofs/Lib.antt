@@ -6,6 +6,5 @@ mod HostLemmas
 mod LawLemmas
 mod LineLemmas
 mod ServingLemmas
-mod StageLemmas
 mod TellLemmas
 mod ToldLemmas

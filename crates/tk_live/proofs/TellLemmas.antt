@@ -30,7 +30,7 @@ use Rattle.tk_base.specs.Settings.{Setup}
 use Rattle.tk_input.specs.Logs.{LogSet, beginnings}
 use Rattle.tk_live.specs.Joining.{IsFrom, ledger_lines, printed_as}
 use Rattle.tk_live.specs.Lived.{AreOfInput, Concludes, IsOfInput, TellsEnds}
-use Rattle.tk_live.specs.declared.outcome.Outcome.{Outcome}
+use Rattle.tk_live.specs.declared.outcome.LiveOutcome.{LiveOutcome}
 use Rattle.tk_load.specs.declared.status.Status.{Status}
 use Rattle.tk_load.specs.declared.status.Status.TheVariants as st
 use Rattle.tk_live.specs.Traffic.{traffic_of}
@@ -131,7 +131,7 @@ fault_tells (st.TooGreat mon obj) ends linked fault = absurd fault
 fault_tells (st.BadTrace file fault) ends linked wrong = absurd wrong
 
 -- the ends were kept beside a fault, and nothing is odd where a link is told to have failed
-pub concludes_fault : (input : Input) (version : ℕ) (was now : Option (List ℕ)) (taken taken' : ℕ) (status : Status) (ends : Ends) (lived : Outcome) → IsFault status
+pub concludes_fault : (input : Input) (version : ℕ) (was now : Option (List ℕ)) (taken taken' : ℕ) (status : Status) (ends : Ends) (lived : LiveOutcome) → IsFault status
     → (status ≡ st.LinkFault → HaveNothingOdd (kept_by ends.coordinator ends.monitors.items)) → AreOfInput input ends
     → GrowsByFront was now (concat (lines_of input.names ends.coordinator.coordinator.journal)) → lived ≡ record { status = status; story = None; ends = Some ends }
     → Concludes input version (traffic_of was now taken taken') lived
@@ -139,7 +139,7 @@ concludes_fault input version was now taken taken' status ends lived fault linke
     subst (λ l. Concludes input version (traffic_of was now taken taken') l) (sym is) (concludes_kept input version was now taken taken' status ends are grown (fault_never status fault) (fault_tells status ends linked fault))
 
 -- the ends did not agree, or there was no memory to see it
-pub concludes_joined : (input : Input) (version : ℕ) (was now : Option (List ℕ)) (taken taken' : ℕ) (fault : JoinFault) (ends : Ends) (lived : Outcome) → AreOfInput input ends
+pub concludes_joined : (input : Input) (version : ℕ) (was now : Option (List ℕ)) (taken taken' : ℕ) (fault : JoinFault) (ends : Ends) (lived : LiveOutcome) → AreOfInput input ends
     → GrowsByFront was now (concat (lines_of input.names ends.coordinator.coordinator.journal)) → TellsDifference (kept_by ends.coordinator ends.monitors.items) fault
     → lived ≡ record { status = joined_as fault; story = None; ends = Some ends } → Concludes input version (traffic_of was now taken taken') lived
 concludes_joined input version was now taken taken' fault ends lived are grown tells is =
@@ -186,7 +186,7 @@ of_run input settings logs from ends is run =
     (subst (λ p. AreOfOneRun ends.coordinator ends.monitors.items logs settings p) is.from_is run))
 
 -- no worker was started
-pub concludes_unstarted : (input : Input) (version : ℕ) (at : Option (List ℕ)) (taken taken' : ℕ) (status : Status) (lived : Outcome) → (status ≡ st.LinkFault) ⊎ (status ≡ st.NoMemory) → taken' ≡ taken
+pub concludes_unstarted : (input : Input) (version : ℕ) (at : Option (List ℕ)) (taken taken' : ℕ) (status : Status) (lived : LiveOutcome) → (status ≡ st.LinkFault) ⊎ (status ≡ st.NoMemory) → taken' ≡ taken
     → lived ≡ record { status = status; story = None; ends = None } → Concludes input version (traffic_of at at taken taken') lived
 concludes_unstarted input version at taken taken' status lived which same is =
     let fault = fault_of status st.LinkFault st.NoMemory tt tt which in
@@ -208,5 +208,5 @@ concludes_unstarted input version at taken taken' status lived which same is =
     subst (λ l. Concludes input version (traffic_of at at taken taken') l) (sym is) here
 
 -- ends that are kept beside a status
-abbrev pub kept_as : Status → Ends → Outcome
+abbrev pub kept_as : Status → Ends → LiveOutcome
 kept_as status ends = record { status = status; story = None; ends = Some ends }

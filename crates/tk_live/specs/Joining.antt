@@ -16,7 +16,7 @@ use Rattle.tk_story.specs.declared.ends.Ends.{Ends}
 use Rattle.tk_live.specs.Complete.{IsComplete}
 use Rattle.tk_live.specs.Lived.{Concludes, IsOfInput}
 use Rattle.tk_live.specs.Traffic.{Traffic, traffic_of}
-use Rattle.tk_live.specs.declared.outcome.Outcome.{Outcome}
+use Rattle.tk_live.specs.declared.outcome.LiveOutcome.{LiveOutcome}
 use Rattle.tk_load.specs.declared.status.Status.{Status}
 use Rattle.tk_load.specs.declared.status.Status.TheVariants as st
 
@@ -43,14 +43,14 @@ IsCompleteUnlessOdd names version ends logs from traffic =
 
 -- a run concludes with a story: whatever input the story is of, and whatever was written and taken up to here, if it is
 -- complete by that
-abbrev pub ConcludesStory : StoryView → Output → Outcome → Type 0
+abbrev pub ConcludesStory : StoryView → Output → LiveOutcome → Type 0
 ConcludesStory s output result =
     (input : Input) (version : ℕ) (was : Option (List ℕ)) (taken taken_then : ℕ) → IsOfInput input s
     → IsComplete input.names version s (traffic_of was output.before taken taken_then)
     → Concludes input version (traffic_of was output.after taken taken_then) result
 
 -- a run concludes with ends, in the same way
-abbrev pub ConcludesEnds : Setup → LogSet → List (List ℕ) → Ends → Output → Outcome → Type 0
+abbrev pub ConcludesEnds : Setup → LogSet → List (List ℕ) → Ends → Output → LiveOutcome → Type 0
 ConcludesEnds settings logs from ends output result =
     (input : Input) (version : ℕ) (was : Option (List ℕ)) (taken taken_then : ℕ) → IsFrom input settings logs from
     → IsCompleteUnlessOdd input.names version ends logs from (traffic_of was output.before taken taken_then)

@@ -9,7 +9,7 @@ use Rattle.tk_story.specs.declared.ends.Ends.{Ends}
 use Rattle.tk_live.specs.Lived.{TellsEnds}
 use Rattle.tk_live.specs.Serving.{EndsWords, served}
 use Rattle.tk_live.specs.Traffic.{LiveSurroundings}
-use Rattle.tk_live.specs.declared.outcome.Outcome.{Outcome}
+use Rattle.tk_live.specs.declared.outcome.LiveOutcome.{LiveOutcome}
 
 -- the files of a live run tell what they hold, no read of them failed, and with the words they give an input
 pub record GivesInput (met : LiveSurroundings) (contents : List ℕ → List ℕ) (asked : LiveWords) : Type 0 where
@@ -33,7 +33,7 @@ IsLived (s.BadTrace file fault) ends = ⊥
 -- done, its ends show a first difference, or no memory was found
 abbrev pub InputIsLived : Type 0
 InputIsLived =
-    (words : List (List ℕ)) (asked : LiveWords) (met : LiveSurroundings) (contents : List ℕ → List ℕ) (outcome : Outcome)
+    (words : List (List ℕ)) (asked : LiveWords) (met : LiveSurroundings) (contents : List ℕ → List ℕ) (outcome : LiveOutcome)
     → served (words_of words) ≡ Some asked → GivesInput met contents asked
     → (outcome.status ≡ s.LinkFault → ⊥) → (outcome.status ≡ s.WriteFault → ⊥)
     → EndsWords words met outcome → IsLived outcome.status outcome.ends

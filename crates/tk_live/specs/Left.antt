@@ -13,7 +13,7 @@ use Rattle.tk_live.specs.Lived.{Concludes}
 use Rattle.tk_live.specs.Traffic.{Traffic, traffic_of}
 use Rattle.tk_live.specs.declared.left.Left.{Left}
 use Rattle.tk_live.specs.declared.parting.Parting.TheVariants as p
-use Rattle.tk_live.specs.declared.outcome.Outcome.{Outcome}
+use Rattle.tk_live.specs.declared.outcome.LiveOutcome.{LiveOutcome}
 
 -- a hub has something odd only where it refused it, and a worker only where the gravest cause is that or want of memory
 pub record TellsOdd (left : Left) : Type 0 where
@@ -27,7 +27,7 @@ IsCompleteLeft input version from left traffic =
     → IsComplete input.names version (joined (kept_by left.ends.coordinator left.ends.monitors.items) input.logs from) traffic
 
 -- a run concludes with what is left: whatever was written and taken up to here, if its ends are complete by that
-abbrev pub ConcludesLeft : Input → List (List ℕ) → Left → Output → Outcome → Type 0
+abbrev pub ConcludesLeft : Input → List (List ℕ) → Left → Output → LiveOutcome → Type 0
 ConcludesLeft input from left output result =
     (version : ℕ) (was : Option (List ℕ)) (taken taken_then : ℕ)
     → GrowsByFront was output.before (concat (lines_of input.names left.ends.coordinator.coordinator.journal))

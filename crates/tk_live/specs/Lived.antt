@@ -16,7 +16,7 @@ use Rattle.tk_story.specs.declared.ends.Ends.{Ends}
 use Rattle.tk_wire.specs.Net.{NetState}
 use Rattle.tk_live.specs.Carried.{IsCarried}
 use Rattle.tk_live.specs.Traffic.{Traffic, traffic_over}
-use Rattle.tk_live.specs.declared.outcome.Outcome.{Outcome}
+use Rattle.tk_live.specs.declared.outcome.LiveOutcome.{LiveOutcome}
 use Rattle.tk_load.specs.declared.status.Status.{Status}
 use Rattle.tk_load.specs.declared.status.Status.TheVariants as st
 
@@ -65,7 +65,7 @@ TellsEnds (st.TooGreat mon obj) ends = ⊥
 TellsEnds (st.BadTrace file fault) ends = ⊥
 
 -- what a live run leaves
-pub record Concludes (input : Input) (version : ℕ) (traffic : Traffic) (result : Outcome) : Type 0 where
+pub record Concludes (input : Input) (version : ℕ) (traffic : Traffic) (result : LiveOutcome) : Type 0 where
   pub done : result.status ≡ st.Done → IsSome result.story
   pub lived : result.status ≡ st.Done → IfSome result.story (HasLived input version traffic)
   -- for any story all of the headline holds, and each monitor took Stop
@@ -79,5 +79,5 @@ pub record Concludes (input : Input) (version : ℕ) (traffic : Traffic) (result
   pub differs : TellsEnds result.status result.ends
 
 -- the same over a net, which counts the bytes that were taken from its links
-abbrev pub EndsOver : Input → ℕ → Output → NetState → NetState → Outcome → Type 0
+abbrev pub EndsOver : Input → ℕ → Output → NetState → NetState → LiveOutcome → Type 0
 EndsOver input version output net net' result = Concludes input version (traffic_over output net net') result

@@ -9,7 +9,7 @@ use Rattle.tk_load.specs.declared.status.Status.TheVariants as s
 use Rattle.tk_load.specs.Surroundings.{IsUnwritten}
 use Rattle.tk_live.specs.Lived.{Concludes}
 use Rattle.tk_live.specs.Traffic.{LiveSurroundings, Traffic}
-use Rattle.tk_live.specs.declared.outcome.Outcome.{Outcome}
+use Rattle.tk_live.specs.declared.outcome.LiveOutcome.{LiveOutcome}
 
 -- what words ask of `live`, which serves live runs alone
 abbrev pub served : Option Asked → Option LiveWords
@@ -32,7 +32,7 @@ abbrev pub GivesNone : List (List ℕ) → Status → Type 0
 GivesNone words status = (status ≡ s.NoMemory) ⊎ ((served (words_of words) ≡ None) × (status ≡ s.Usage))
 
 -- no worker was started: nothing was written, and no byte was taken from a link
-pub record IsUnstarted (traffic : Traffic) (outcome : Outcome) : Type 0 where
+pub record IsUnstarted (traffic : Traffic) (outcome : LiveOutcome) : Type 0 where
   pub story : outcome.story ≡ None
   pub ends : outcome.ends ≡ None
   pub unwritten : IsUnwritten traffic.output
@@ -40,7 +40,7 @@ pub record IsUnstarted (traffic : Traffic) (outcome : Outcome) : Type 0 where
 
 -- how words end: they are not those of a live run; there was no memory for them; their files give no input, by the first
 -- rule that fails; or their input has run
-pub data EndsWords (words : List (List ℕ)) (met : LiveSurroundings) (outcome : Outcome) : Type 0 where
+pub data EndsWords (words : List (List ℕ)) (met : LiveSurroundings) (outcome : LiveOutcome) : Type 0 where
   Refused : served (words_of words) ≡ None → outcome.status ≡ s.Usage → IsUnstarted met.traffic outcome → EndsWords words met outcome
   Unmet : outcome.status ≡ s.NoMemory → IsUnstarted met.traffic outcome → EndsWords words met outcome
   Unread : (asked : LiveWords) → served (words_of words) ≡ Some asked → Loads met.reads asked.sources (Err outcome.status) → IsUnstarted met.traffic outcome → EndsWords words met outcome

@@ -9,7 +9,7 @@ ghost use Rattle.tk_live.specs.Joining.{ConcludesEnds, ConcludesStory, ledger_li
 ghost use Rattle.tk_load.specs.declared.status.Status.TheVariants.{LinkFault as Unlinked};
 
 use crate::faults::of_join;
-use crate::outcome::Outcome;
+use crate::outcome::LiveOutcome;
 use std::alloc::Global;
 use tk_base::{Cut, Settings};
 use tk_input::{Logs, Sink};
@@ -42,7 +42,7 @@ fn told_of(printed: Result<(), PrintFault>) -> Status
 }
 
 /// Gives a story that is over its events, and writes the lines of its ledger.
-fn finish<O: Sink>(alloc: Global, story: Story, out: &mut O) -> Outcome
+fn finish<O: Sink>(alloc: Global, story: Story, out: &mut O) -> LiveOutcome
     ensures concludes { ConcludesStory story.story (output_by O.Sink out.old out.new) result }
     ensures unlinked { result.status ≡ Unlinked → ⊥ }
     ensures counted { O.fault_count out.new ≡ faults_told result.status (O.fault_count out.old) }
@@ -52,10 +52,10 @@ fn finish<O: Sink>(alloc: Global, story: Story, out: &mut O) -> Outcome
     a_finished_run_is_sound();
     let story = match serialize(alloc, story) {
         Ok(story) => story,
-        Err((_, story)) => return Outcome::told(Status::NoMemory, story),
+        Err((_, story)) => return LiveOutcome::told(Status::NoMemory, story),
     };
     let printed = print(alloc, &story, out);
-    Outcome::told(told_of(printed), story)
+    LiveOutcome::told(told_of(printed), story)
 }
 
 /// Joins the ends: to the story that they tell, or to the first difference between them.
@@ -66,7 +66,7 @@ pub fn join_ends<O: Sink>(
     from: Cut,
     ends: Ends,
     out: &mut O,
-) -> Outcome
+) -> LiveOutcome
     requires { AreOfOneRun ends.coordinator ends.monitors.items logs settings from }
     ensures concludes { ConcludesEnds settings logs from ends (output_by O.Sink out.old out.new) result }
     ensures unlinked { result.status ≡ Unlinked → ⊥ }
@@ -78,6 +78,6 @@ pub fn join_ends<O: Sink>(
     } = ends;
     match Story::join(coordinator, monitors, logs, settings, from, Vec::new(alloc)) {
         Ok(story) => finish(alloc, story, out),
-        Err((fault, ends)) => Outcome::kept(of_join(fault), ends),
+        Err((fault, ends)) => LiveOutcome::kept(of_join(fault), ends),
     }
 }

@@ -30,5 +30,5 @@ mod worked;
 pub use headline::an_input_is_lived;
 pub use living::live_over;
 pub use number::run_number;
-pub use outcome::Outcome;
+pub use outcome::LiveOutcome;
 pub use serving::live;

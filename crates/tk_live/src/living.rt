@@ -18,7 +18,7 @@ use crate::ending::{is_odd, unjoined};
 use crate::faults::{has_risen, of_net};
 use crate::joining::join_ends;
 use crate::left::Left;
-use crate::outcome::Outcome;
+use crate::outcome::LiveOutcome;
 use crate::plan::Plan;
 use crate::playing::play;
 use crate::returning::{give_back, part};
@@ -41,7 +41,7 @@ fn conclude<N: Net, O: Sink>(
     faults: u64,
     net: &N,
     out: &mut O,
-) -> Outcome
+) -> LiveOutcome
     requires run { AreOfInput plan.input left.ends }
     requires odd { TellsOdd left }
     ensures concludes { ConcludesLeft plan.input plan.from left (output_by O.Sink out.old out.new) result }
@@ -53,7 +53,7 @@ fn conclude<N: Net, O: Sink>(
     let odd = is_odd(&ends.coordinator, ends.monitors.as_slice());
     let risen = has_risen(faults, net.faults());
     match unjoined(parting, why, odd, risen) {
-        Some(status) => Outcome::kept(status, ends),
+        Some(status) => LiveOutcome::kept(status, ends),
         None => {
             let Plan { input, from, .. } = plan;
             let Input { settings, logs, .. } = input;
@@ -72,7 +72,7 @@ fn run_stage<R: Threads + Wait + Sync, N: Net, G: Gate + Sync, O: Sink>(
     gate: &G,
     net: &mut N,
     out: &mut O,
-) -> Outcome
+) -> LiveOutcome
     requires hub { CanHost stage.hub (N.state net.old) plan.input.names }
     requires settings { stage.hub.coordinator.settings ≡ plan.input.settings }
     requires begins { stage.hub.coordinator.journal ≡ opened (begun_by plan.input.settings) }
@@ -108,7 +108,7 @@ pub fn live_over<R: Threads + Wait + Sync, N: Net, G: Gate + Sync, O: Sink>(
     run: u64,
     gate: &G,
     out: &mut O,
-) -> Outcome
+) -> LiveOutcome
     requires agreed { AreAgreed input.names input.settings input.logs }
     requires version { IsVersion version }
     requires listens { (N.state net.old).listens ≡ false }
@@ -122,13 +122,13 @@ pub fn live_over<R: Threads + Wait + Sync, N: Net, G: Gate + Sync, O: Sink>(
 {
     let faults = net.faults();
     let Ok(plan) = Plan::new(alloc, input, version, run) else {
-        return Outcome::unstarted(Status::NoMemory);
+        return LiveOutcome::unstarted(Status::NoMemory);
     };
     match make_stage(alloc, &plan, net) {
         Ok(stage) => run_stage(rt, alloc, plan, stage, faults, gate, net, out),
         Err(fault) => {
             drop(plan);
-            Outcome::unstarted(of_net(fault, has_risen(faults, net.faults())))
+            LiveOutcome::unstarted(of_net(fault, has_risen(faults, net.faults())))
         }
     }
 }

@@ -7,18 +7,18 @@ use tk_story::{Ends, Story};
 
 /// How a live run ended, and what is left of it: its story where the ends agree, and else the ends, if any worker was started.
 #[derive(Drop)]
-pub struct Outcome {
+pub struct LiveOutcome {
     pub status: Status,
     pub story: Option<Story>,
     pub ends: Option<Ends>,
 }
 
-impl Outcome {
+impl LiveOutcome {
     /// No worker was started.
-    pub(crate) fn unstarted(status: Status) -> Outcome
+    pub(crate) fn unstarted(status: Status) -> LiveOutcome
         ensures { result ≡ record { status = status; story = None; ends = None } }
     {
-        Outcome {
+        LiveOutcome {
             status,
             story: None,
             ends: None,
@@ -26,10 +26,10 @@ impl Outcome {
     }
 
     /// The ends are kept.
-    pub(crate) fn kept(status: Status, ends: Ends) -> Outcome
+    pub(crate) fn kept(status: Status, ends: Ends) -> LiveOutcome
         ensures { result ≡ record { status = status; story = None; ends = Some ends } }
     {
-        Outcome {
+        LiveOutcome {
             status,
             story: None,
             ends: Some(ends),
@@ -37,10 +37,10 @@ impl Outcome {
     }
 
     /// There is a story.
-    pub(crate) fn told(status: Status, story: Story) -> Outcome
+    pub(crate) fn told(status: Status, story: Story) -> LiveOutcome
         ensures { result ≡ record { status = status; story = Some story; ends = None } }
     {
-        Outcome {
+        LiveOutcome {
             status,
             story: Some(story),
             ends: None,
@@ -51,7 +51,7 @@ impl Outcome {
     pub fn into_status(self) -> Status
         ensures { result ≡ self.status }
     {
-        let Outcome {
+        let LiveOutcome {
             status,
             story,
             ends,

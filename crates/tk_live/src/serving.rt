@@ -12,7 +12,7 @@ ghost use Rattle.tk_words.specs.Asked.{AreOfMonitors, asked_live};
 ghost use Rattle.tk_words.specs.Words.{words_of};
 
 use crate::living::live_over;
-use crate::outcome::Outcome;
+use crate::outcome::LiveOutcome;
 use std::alloc::Global;
 use std::marker::Sync;
 use std::sync::Wait;
@@ -49,7 +49,7 @@ pub fn live<R: Threads + Wait + Sync, F: Files, N: Net, G: Gate + Sync, O: Sink>
     run: u64,
     gate: &G,
     out: &mut O,
-) -> Outcome
+) -> LiveOutcome
     requires listens { (N.state net.old).listens ≡ false }
     requires links { (N.state net.old).links ≡ 0 }
     // The words are refused, they give no input, or their input has run: all of the headline holds of what is done.
@@ -63,10 +63,10 @@ pub fn live<R: Threads + Wait + Sync, F: Files, N: Net, G: Gate + Sync, O: Sink>
 {
     let words = match read_live(alloc, words) {
         Ok(words) => words,
-        Err(status) => return Outcome::unstarted(status),
+        Err(status) => return LiveOutcome::unstarted(status),
     };
     match load(rt, alloc, &words.sources, files) {
         Ok(input) => live_over(rt, alloc, input, words.frames, net, run, gate, out),
-        Err(status) => Outcome::unstarted(status),
+        Err(status) => LiveOutcome::unstarted(status),
     }
 }

@@ -1,9 +1,13 @@
 -- Statuses that tell faults, and rules one after the other.
-use Rattle.std.proofs.Common.{◌≡◌, ◌∙◌, Result, Ok, Err, ap, sym, subst}
+use Rattle.std.proofs.Common.{◌≡◌, ◌∙◌, true, false, Result, Ok, Err, is_ok, ap, sym, subst}
 use Rattle.tk_load.specs.Faults.{Fault, after}
 use Rattle.tk_load.specs.Reads.{Meets, Says, Tells}
 use Rattle.tk_load.specs.declared.status.Status.{Status}
 use Rattle.tk_load.specs.declared.status.Status.TheVariants as s
+
+-- no fault is told of what is meant
+pub none_is_meant : {V : Type 0} (meant : Result V Fault) (fault : Fault) → is_ok meant ≡ true → meant ≡ Err fault → ⊥
+none_is_meant {V} meant fault ok is = let bad : false ≡ true = subst (λ (m : Result V Fault). is_ok m ≡ true) is ok in cc (bad)
 
 -- a status that says the fault that there is tells it
 pub tells_of : {V : Type 0} (status : Status) (fault : Fault) (meant : Result V Fault) → Says status fault → meant ≡ Err fault → Tells status meant

@@ -10,7 +10,7 @@ mod assign;
 use crate::factors::Factors;
 use std::alloc::Global;
 use std::marker::Model;
-use tk_base::{NoMemory, Obj, ObjSet, Pairs};
+use tk_base::{NoMemory, Obj, ObjSet, Pairs, PairsBuilder};
 use tk_rank::Rank;
 
 /// The level of each object at one monitor, its factor, and the members. A value is a level without its factor, so
@@ -96,12 +96,12 @@ impl Board {
         requires { All (λ o. o ≤ length self.now.levels) asked.now }
         ensures { IfOk result (λ p. p ≡ values_in self.now.values asked.now) }
     {
-        let mut list = Vec::with_capacity(alloc, asked.len())?;
+        let mut list = PairsBuilder::with_capacity(alloc, asked.len())?;
         for i in 0..asked.len() {
             let o = asked.at(i);
-            list.push((o, self.value(o)))?;
+            list.push(o, self.value(o))?;
         }
-        Ok(Pairs::new(list).unwrap())
+        Ok(list.finish().unwrap())
     }
 
     /// The broken outsiders, in the time of `Rank::above`.
@@ -137,9 +137,13 @@ impl Board {
     pub fn is_broken(&self) -> bool
         ensures { result ≡ nat_lt 0 (length (broken self.now.levels self.now.members)) }
     {
-        match self.slack() {
-            None => false,
-            Some(slack) => slack < 0,
-        }
+        self.members.len() > 0 && self.rank.is_broken()
+    }
+
+    /// As `Rank::touch`.
+    pub fn touch(&self, o: Obj) -> u64
+        requires { IsOneOf (length self.now.levels) o.0 }
+    {
+        self.rank.touch(o)
     }
 }

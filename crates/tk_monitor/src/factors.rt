@@ -5,7 +5,7 @@ ghost use Rattle.tk_monitor.specs.Factors.{AreFactors, factor_in, factors_over, 
 
 use std::alloc::Global;
 use std::marker::Model;
-use tk_base::{NoMemory, Obj, Pairs};
+use tk_base::{NoMemory, Obj, Pairs, PairsBuilder};
 
 /// The factors that a monitor was assigned. One that it was not is zero; it takes 4 bytes at most.
 #[derive(Debug, Drop)]
@@ -122,12 +122,12 @@ impl Factors {
     {
         // A field is read for what all factors keep.
         let _ = &self.slots;
-        let mut list = Vec::with_capacity(alloc, changes.len())?;
+        let mut list = PairsBuilder::with_capacity(alloc, changes.len())?;
         for i in 0..changes.len() {
             let (o, _) = changes.at(i);
-            list.push((o, self.keep(o)?))?;
+            list.push(o, self.keep(o)?)?;
         }
-        Ok(Pairs::new(list).unwrap())
+        Ok(list.finish().unwrap())
     }
 
     /// Replaces a factor that is kept, without memory, and answers the one before.

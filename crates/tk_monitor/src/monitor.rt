@@ -79,6 +79,18 @@ impl Monitor {
         }
     }
 
+    /// A look at the leaf that the next change of a feeder moves, of use for no answer: where many monitors raise in turn,
+    /// looks at all of them first wait for memory side by side.
+    pub fn touch(&self, f: Feeder) -> u64
+        requires { IsFeederOf self.now.setup f.0 }
+    {
+        let i = (f.0 - 1) as usize;
+        match next_change(self.parts.as_slice(), self.next.as_slice(), i) {
+            None => 0,
+            Some(change) => self.board.touch(change.obj),
+        }
+    }
+
     /// Whether some outsider's level is above the least level of a member, read at two roots.
     pub fn broken(&self) -> bool
         ensures { result ≡ is_broken self.now.setup self.now.trail }

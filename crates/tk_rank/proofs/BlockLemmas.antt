@@ -1,19 +1,21 @@
 -- Leaves in blocks: what stands in a block, and what a write leaves.
-use Rattle.std.proofs.Common.{◌≡◌, ◌≢◌, ◌⊎◌, ℕ, suc, zero, ◌+◌, ◌-◌, ◌*◌, ◌/◌, ◌<◌, ◌≤◌, min, ℤ, Bool, true, false, cond, not, List, [], ◌∷◌, ◌++◌, length, map, set, get_or, filter, Option, Some, None, refl, sym, ap, ap₂, ◌∙◌, subst, arith, inl, inr, get_or-set_other, get_or-set_same, length-set}
+use Rattle.std.proofs.Common.{◌≡◌, ◌≢◌, ◌⊎◌, ℕ, suc, zero, ◌+◌, ◌-◌, ◌*◌, ◌/◌, ◌<◌, ◌≤◌, min, ℤ, Bool, true, false, cond, not, eqb, ne_eqb, List, [], ◌∷◌, ◌++◌, length, map, set, get_or, filter, Option, Some, None, refl, sym, ap, ap₂, ◌∙◌, subst, arith, inl, inr, get_or-set_other, get_or-set_same, length-set}
 use Rattle.std.specs.Int.{int_max}
-use Rattle.std.specs.List.{range_with_len, cons_option}
+use Rattle.std.specs.List.{range_with_len, cons_option, AllWithin}
 use Rattle.std.proofs.Math.ListN.{get_or-eq_default}
-use Rattle.std.proofs.lemmas.Bool.{cases_eq, cases_lt}
+use Rattle.std.proofs.lemmas.Bool.{cases_Bool, cases_eq, cases_lt}
 use Rattle.std.proofs.lemmas.Int.{ints, clamps}
-use Rattle.std.proofs.lemmas.List.{append-nil, length-map}
+use Rattle.std.proofs.lemmas.List.{append-nil, get_or_default, length-map}
 use Rattle.std.proofs.lemmas.List.Elements.{filter-append, filter_map-append}
+use Rattle.std.proofs.lemmas.List.Folds.{list_any_none}
+use Rattle.tk_base.specs.Ascending.{IsAscending}
 use Rattle.tk_base.specs.Objects.{is_in, objects}
 use Rattle.tk_base.proofs.OptionLemmas.{some_is}
 use Rattle.tk_border.specs.Levels.{greatest_of, IsPassed}
-use Rattle.tk_border.proofs.PassedLemmas.{between}
+use Rattle.tk_border.proofs.PassedLemmas.{ahead_of}
 use Rattle.tk_border.proofs.RisingLemmas.{range-append}
 use Rattle.tk_rank.specs.Blocks.{AreBlocks, objects_in, blocks_of}
-use Rattle.tk_rank.specs.Tree.{greater, is_over, leaf_at, leaves_of, standing, those_over, width_of, IsTree}
+use Rattle.tk_rank.specs.Tree.{greater, is_over, leaf_at, leaves_of, standing, those_over, width_of, IsOther, IsTree}
 use Rattle.tk_rank.proofs.GreatestLemmas.{filter_nothing, greater_none, greater_assoc, greatest-cons, greatest-one, over_any, standing-append}
 use Rattle.tk_rank.proofs.TreeLemmas.{length-leaves}
 
@@ -316,18 +318,64 @@ outside_more p leaves block to order is =
     let here = range_with_len (64 * block + 1) (to - 64 * block) in
     sym (ap (λ list. greatest_of (standing leaves list)) (ap (filter p) (grown_block (length leaves) block to order is) ∙ filter-append p before here) ∙ standing-append leaves (filter p before) (filter p here))
 
--- a range that a walk along a set has passed is outside it as a whole
-filter-range_all : (p : ℕ → Bool) (a n : ℕ) → ((q : ℕ) → a ≤ q → q < a + n → p q ≡ true) → filter p (range_with_len a n) ≡ range_with_len a n
-filter-range_all p a zero all = refl
-filter-range_all p a (suc n) all =
-    ap (λ t. cond t (a ∷ filter p (range_with_len (a + 1) n)) (filter p (range_with_len (a + 1) n))) (all a (omega arith) (omega arith))
-    ∙ ap (λ rest. a ∷ rest) (filter-range_all p (a + 1) n (λ q low high. all q (omega arith) (omega arith)))
+-- leaving out leaves that do not have the greatest number keeps it
+still_greatest : (p : ℕ → Bool) (leaves : List (Option ℤ)) (before top : Option ℤ) (first n : ℕ) → ((o : ℕ) → first ≤ o → o < first + n → leaf_at leaves o ≡ top → p o ≡ true)
+    → greater before (greatest_of (standing leaves (range_with_len first n))) ≡ top → greater before (greatest_of (standing leaves (filter p (range_with_len first n)))) ≡ top
+still_greatest p leaves before top first zero kept is = is
+still_greatest p leaves before top first (suc n) kept is =
+    let here = leaf_at leaves first in
+    let all = greatest_of (standing leaves (range_with_len (first + 1) n)) in
+    let left = filter p (range_with_len (first + 1) n) in
+    let later = λ (o : ℕ) (low : first + 1 ≤ o) (high : o < first + 1 + n). kept o (omega arith) (omega arith) in
+    let parts : greater before (greater here all) ≡ top = ap (greater before) (sym (greatest-cons here (standing leaves (range_with_len (first + 1) n)))) ∙ is in
+    elim (cases_Bool (p first)) [
+      | inl pass ↦
+          ap (λ t. greater before (greatest_of (standing leaves (cond t (first ∷ left) left)))) pass
+          ∙ ap (greater before) (greatest-cons here (standing leaves left))
+          ∙ sym (greater_assoc before here (greatest_of (standing leaves left)))
+          ∙ still_greatest p leaves (greater before here) top (first + 1) n later (greater_assoc before here all ∙ parts)
+      | inr out ↦
+          let others : greater here (greater before all) ≡ top = sym (greater_assoc here before all) ∙ ap (λ a. greater a all) (greater_comm here before) ∙ greater_assoc before here all ∙ parts in
+          ap (λ t. greater before (greatest_of (standing leaves (cond t (first ∷ left) left)))) out
+          ∙ still_greatest p leaves before top (first + 1) n later (elim (picks here (greater before all)) [
+            | inl one ↦ let in_set = kept first (omega arith) (omega arith) (sym one ∙ others) in absurd (cc)
+            | inr rest ↦ sym rest ∙ others
+          ])
+    ]
 
-pub block_outside : (set : List ℕ) (place : ℕ) (leaves nodes : List (Option ℤ)) (block to : ℕ) → AreBlocks leaves nodes → 64 * block ≤ to → to ≡ min (length leaves) (64 * (block + 1)) → IsPassed set place (64 * block + 1) → IsPassed set place (to + 1) → get_or (leaves_of nodes) block None ≡ greatest_of (standing leaves (filter (λ o. not (is_in set o)) (range_with_len (64 * block + 1) (to - 64 * block))))
-block_outside set place leaves nodes block to blocks order is p q =
-    blocks.each block
-    ∙ sym (block_end leaves block to order is)
-    ∙ ap (λ list. greatest_of (standing leaves list)) (sym (filter-range_all (λ o. not (is_in set o)) (64 * block + 1) (to - 64 * block) (λ x low high. ap not (between set place (64 * block) (to + 1) x p q (omega arith) (omega arith)))))
+-- an object with a number that no place of a walk along a set has is outside the set
+walked_without : (set : List ℕ) (place next from to : ℕ) (leaves : List (Option ℤ)) (top : Option ℤ) (o : ℕ) → IsPassed set place (from + 1) → IsPassed set next (to + 1) → AllWithin (IsOther leaves top) set place next → from < o → o ≤ to → leaf_at leaves o ≡ top → is_in set o ≡ false
+walked_without set place next from to leaves top o before behind other low high has = list_any_none (λ q. eqb q o) set (λ k d within. ne_eqb (get_or set k d) o (λ e. elim (cases_lt k place) [
+  | inl early ↦ let old = before.passed k d (omega arith) early in omega arith
+  | inr late ↦ elim (cases_lt k next) [
+    | inl met ↦ other k d late met (ap (leaf_at leaves) e ∙ has)
+    | inr after ↦ let far = behind.ahead k d after within in omega arith
+  ]
+]))
+
+-- so the greatest of some leaves that no object of the set has is that of the leaves outside it
+pub outside_without : (set : List ℕ) (place next from to : ℕ) (leaves : List (Option ℤ)) (top : Option ℤ) → from ≤ to → IsPassed set place (from + 1) → IsPassed set next (to + 1) → AllWithin (IsOther leaves top) set place next
+    → top ≡ greatest_of (standing leaves (range_with_len (from + 1) (to - from))) → top ≡ greatest_of (standing leaves (filter (λ o. not (is_in set o)) (range_with_len (from + 1) (to - from))))
+outside_without set place next from to leaves top order before behind other is =
+    sym (still_greatest (λ o. not (is_in set o)) leaves None top (from + 1) (to - from)
+    (λ o low high has. ap not (walked_without set place next from to leaves top o before behind other (omega arith) (omega arith) has)) (sym is))
 
 pub nothing_yet : (p : ℕ → Bool) (leaves : List (Option ℤ)) (n : ℕ) → n ≡ 0 → None ≡ greatest_of (standing leaves (filter p (range_with_len 1 n)))
 nothing_yet p leaves n none = sym (ap (λ k. greatest_of (standing leaves (filter p (range_with_len 1 k)))) none ∙ no_greatest)
+
+-- ---- walks along a set
+
+-- what holds at each place of a stretch, and at one more
+pub within_more : (P : ℕ → Type 0) (xs : List ℕ) (from n : ℕ) → AllWithin P xs from n → n < length xs → P (get_or xs n 0) → AllWithin P xs from (n + 1)
+within_more P xs from n was within here k d low high = elim (cases_lt k n) [
+  | inl before ↦ was k d low before
+  | inr last ↦ let e : n ≡ k = omega arith in subst P (ap (λ i. get_or xs i 0) e ∙ get_or_default xs k 0 d (omega arith)) here
+]
+
+-- the objects passed have lesser numbers, and the one that is reached has not
+pub passed_to : (set : List ℕ) (place o : ℕ) → IsAscending set → place < length set → AllWithin (λ q. q < o) set 0 place → o ≤ get_or set place 0 → IsPassed set place o
+passed_to set place o up within before low = record {
+  within = omega arith;
+  passed = before;
+  ahead = ahead_of set place o up low;
+}

@@ -1,9 +1,10 @@
 -- The greatest of some numbers, in parts.
-use Rattle.std.proofs.Common.{◌≡◌, ℕ, ℤ, Bool, false, ◌||◌, cond, List, [], ◌∷◌, ◌++◌, filter, Option, Some, None, refl, sym, ap, ap₂, ◌∙◌, arith}
+use Rattle.std.proofs.Common.{◌≡◌, ℕ, ℤ, Bool, true, false, ◌||◌, cond, ltb, List, [], ◌∷◌, ◌++◌, length, map, filter, Option, Some, None, refl, sym, ap, ap₂, ◌∙◌, arith}
 use Rattle.std.specs.Int.{int_max}
 use Rattle.std.specs.List.{fold, cons_option, list_any}
+use Rattle.std.specs.Ordering.{int_cmp, is_lt}
 use Rattle.std.proofs.lemmas.Int.{ints, clamps}
-use Rattle.std.proofs.lemmas.Bool.{or_parts}
+use Rattle.std.proofs.lemmas.Bool.{lt-ltb, or_parts}
 use Rattle.std.proofs.lemmas.List.Sums.{fold-append}
 use Rattle.std.proofs.lemmas.List.Elements.{filter_map-append}
 use Rattle.tk_base.proofs.CompareLemmas.{lt-cmp, max_over}
@@ -74,3 +75,19 @@ filter_nothing p [] none = refl
 filter_nothing p (x ∷ xs) none =
     let both = or_parts (p x) (list_any p xs) none in
     ap (λ t. cond t (x ∷ filter p xs) (filter p xs)) both.0 ∙ filter_nothing p xs both.1
+
+-- ---- numbers above a level
+
+first_kept : (t : Bool) (o : ℕ) (os : List ℕ) → ltb 0 (length (cond t (o ∷ os) os)) ≡ (t || ltb 0 (length os))
+first_kept true o os = lt-ltb 0 (length (o ∷ os)) (omega arith)
+first_kept false o os = refl
+
+-- some are above a level where the greatest is
+pub some_over : (level : ℤ) (h : ℕ → ℤ) (os : List ℕ) → ltb 0 (length (filter (λ o. is_lt (int_cmp level (h o))) os)) ≡ is_over level (greatest_of (map h os))
+unfolding greatest_of
+some_over level h [] = refl
+some_over level h (o ∷ os) =
+    let here = is_lt (int_cmp level (h o)) in
+    first_kept here o (filter (λ q. is_lt (int_cmp level (h q))) os)
+    ∙ ap (λ t. here || t) (some_over level h os)
+    ∙ sym (ap (is_over level) (greatest-cons (Some (h o)) (map h os)) ∙ over_greater level (Some (h o)) (greatest_of (map h os)))

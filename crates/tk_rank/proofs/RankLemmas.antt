@@ -13,9 +13,10 @@ use Rattle.std.proofs.lemmas.List.Elements.{All-head, All-tail, All-set}
 use Rattle.std.proofs.Math.Bool.{and-false}
 use Rattle.tk_base.specs.Ascending.{IsAscending}
 use Rattle.tk_base.specs.Objects.{objects, is_in}
-use Rattle.tk_border.specs.Levels.{level_at, lowered, raised, least_of, greatest_of, least_member, outside, greatest_outside, above, AreMembers, AreObjects, AreSmall}
+use Rattle.tk_border.specs.Levels.{level_at, lowered, raised, least_of, greatest_of, least_member, outside, greatest_outside, above, broken, is_above, AreMembers, AreObjects, AreSmall}
 use Rattle.tk_border.proofs.LevelLemmas.{least_some, small_least, outsiders_ascend}
 use Rattle.tk_border.proofs.RisingLemmas.{Rises, rises, rises-filter, rises-objects, same_rising, is_in-filter, is_in-objects, is_in-low}
+use Rattle.tk_rank.proofs.GreatestLemmas.{some_over}
 use Rattle.tk_rank.proofs.SidesLemmas.{levels_read}
 use Rattle.tk_rank.specs.Tree.{leaf_at, standing, is_over, HasRoom, LeavesView}
 use Rattle.tk_rank.specs.Sides.{outsider_leaf, levels_of, AreMemberLeaves, AreOutsiderLeaves, AreSides, IsKept}
@@ -86,7 +87,7 @@ members_stand levels members m s =
     ∙ mapped_twice levels members)
     ∙ greatest-turned (map (level_at levels) members)
 
-some_value : {X : Type 0} (o : Option X) → IsSome o → (x : X) × (o ≡ Some x)
+pub some_value : {X : Type 0} (o : Option X) → IsSome o → (x : X) × (o ≡ Some x)
 some_value None there = absurd (cc)
 some_value (Some x) there = (x, refl)
 
@@ -278,3 +279,16 @@ pub root_there : (levels : List ℤ) (members : List ℕ) (room : ℕ) (m : Leav
 root_there levels members room m o root kept stands =
     let (x, least) = least_there levels members (length levels) kept.ranked.members in
     subst IsSome (sym (stands ∙ members_stand levels members m.leaves kept.sides.members ∙ ap (option_map (λ y. pos 0 -ℤ y)) least)) refl
+
+-- an outsider is broken where the greatest of them is above the least member
+pub broken_where : (levels : List ℤ) (members : List ℕ) (x : ℤ) → least_member levels members ≡ Some x → ltb 0 (length (broken levels members)) ≡ is_over x (greatest_outside levels members)
+broken_where levels members x least =
+    ap (λ most. ltb 0 (length (filter (λ o. is_above most (level_at levels o)) (outside (length levels) members)))) least
+    ∙ some_over x (level_at levels) (outside (length levels) members)
+
+-- which the two roots tell
+pub broken_at_roots : (levels : List ℤ) (members : List ℕ) (room : ℕ) (m : LeavesView) (o : List (Option ℤ)) (root top : Option ℤ) (x : ℤ) → IsKept levels members room m o → root ≡ greatest_of (standing m.leaves (objects (length m.leaves))) → root ≡ Some x → top ≡ greatest_of (standing o (objects (length o))) → is_over (pos 0 -ℤ x) top ≡ ltb 0 (length (broken levels members))
+broken_at_roots levels members room m o root top x kept stands is greatest =
+    let least = least_from_root levels members room m o root x kept stands is in
+    ap (is_over (pos 0 -ℤ x)) (greatest ∙ outsiders_stand levels members room m o kept)
+    ∙ sym (broken_where levels members (pos 0 -ℤ x) least.0)

@@ -1,5 +1,5 @@
 -- A tournament tree of numbers, some of its leaves empty. No public clause cites this file.
-use Rattle.std.specs.Prelude.{◌≡◌, ℕ, ◌+◌, ◌-◌, ◌/◌, ◌<◌, ◌≤◌, max, ℤ, Bool, false, List, [], ◌∷◌, length, drop, Option, Some, None, slice_index_or, filter, not}
+use Rattle.std.specs.Prelude.{◌≡◌, ◌≢◌, ℕ, ◌+◌, ◌-◌, ◌/◌, ◌<◌, ◌≤◌, max, ℤ, ◌+ℤ◌, Bool, false, List, [], ◌∷◌, length, drop, Option, Some, None, slice_index_or, slice_set, filter, not}
 use Rattle.std.specs.Int.{int_max, IsPowerOfTwo}
 use Rattle.std.specs.List.{filter_map}
 use Rattle.std.specs.Ordering.{int_cmp, is_lt}
@@ -73,6 +73,10 @@ others_in set some = filter (λ o. not (is_in set o)) some
 abbrev pub standing : List (Option ℤ) → List ℕ → List ℤ
 standing leaves list = filter_map (leaf_at leaves) list
 
+-- the leaf of an object has not this number
+abbrev pub IsOther : List (Option ℤ) → Option ℤ → ℕ → Type 0
+IsOther leaves number o = leaf_at leaves o ≢ number
+
 -- the objects whose number is above a level
 abbrev pub objects_over : ℤ → List (Option ℤ) → List ℕ
 objects_over level leaves = those_over level leaves (objects (length leaves))
@@ -89,3 +93,15 @@ greatest_leaf_outside leaves set = greatest_of (standing leaves (outside (length
 abbrev pub leaves_in : List (Option ℤ) → List (Option ℤ) → List (Option ℤ)
 leaves_in narrow [] = narrow
 leaves_in narrow (x ∷ wide) = x ∷ wide
+
+-- there was a number, and there is another by so much
+pub record Moves (by : ℤ) (old new : Option ℤ) : Type 0 where
+  pub number : ℤ
+  pub was : old ≡ Some number
+  pub is : new ≡ Some (number +ℤ by)
+
+-- there was a number at a place, which stands there moved
+pub record Shifts (place : ℕ) (by : ℤ) (old new : List (Option ℤ)) : Type 0 where
+  pub number : ℤ
+  pub was : slice_index_or old place None ≡ Some number
+  pub is : new ≡ slice_set old place (Some (number +ℤ by))

@@ -5,7 +5,7 @@ ghost use Rattle.tk_base.specs.Ascending.{numbers_of};
 ghost use Rattle.tk_rank.specs.Blocks.{AreBlocks, blocks_of};
 ghost use Rattle.tk_rank.specs.Tree.{greatest_leaf, greatest_leaf_outside, objects_over};
 
-use crate::leaves::{add_above, greatest, greatest_outside, is_reached};
+use crate::leaves::{add_above, greatest, greatest_outside};
 use crate::node::Node;
 use crate::nodes::{empty, leaf, put, root};
 use std::alloc::Global;
@@ -134,8 +134,8 @@ impl<N: Node> Blocks<N> {
     }
 
     /// The greatest number, read at the root.
-    pub fn greatest(&self) -> Option<i128>
-        ensures { result ≡ greatest_leaf self.now.leaves }
+    pub fn greatest(&self) -> N
+        ensures { N.number result ≡ greatest_leaf self.now.leaves }
     {
         root(self.nodes.as_slice())
     }
@@ -155,7 +155,8 @@ impl<N: Node> Blocks<N> {
         Ok(found)
     }
 
-    /// The greatest number outside a set, in the time of the blocks and of the leaves of those that the set reaches.
+    /// The greatest number outside a set, in the time of the blocks and of the set, and of the leaves of those blocks whose
+    /// greatest number an object of the set has.
     pub fn greatest_outside(&self, set: &ObjSet) -> Option<i128>
         ensures { result ≡ greatest_leaf_outside self.now.leaves set.now }
     {
@@ -167,13 +168,10 @@ impl<N: Node> Blocks<N> {
         for block in 0..count(leaves.len()) {
             let from = BLOCK * block;
             let to = end(leaves.len(), block);
-            if is_reached(set, place, from + 1, to + 1) {
-                let (number, next) = greatest_outside(leaves, from, to, set, place);
-                most = most.greater(number);
-                place = next;
-            } else {
-                most = most.greater(leaf(self.nodes.as_slice(), block));
-            }
+            let top = leaf(self.nodes.as_slice(), block);
+            let (number, next) = greatest_outside(leaves, from, to, top, set, place);
+            most = most.greater(number);
+            place = next;
         }
         most.get()
     }

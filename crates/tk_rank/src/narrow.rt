@@ -1,7 +1,8 @@
 //! The narrow form of a number at a leaf or a node.
 
-ghost use Rattle.std.specs.Prelude.{◌≡◌, ◌^◌, ◌≤◌, IfSome, IsNone, Some, unsigned_abs};
+ghost use Rattle.std.specs.Prelude.{◌≡◌, ◌^◌, ◌≤◌, ℤ, pos, ◌-ℤ◌, IfSome, IsNone, IsSome, Some, unsigned_abs};
 ghost use Rattle.tk_rank.specs.Node.{narrow_number, wide_number};
+ghost use Rattle.tk_rank.specs.Tree.{is_over, Moves};
 
 use crate::node::Node;
 use crate::wide::Wide;
@@ -25,6 +26,31 @@ impl Narrow {
         Some(Narrow {
             number: number as i64,
         })
+    }
+
+    /// The number moved, unless there is none or the amount or the sum takes more than 8 bytes.
+    pub fn moved(self, by: i128) -> Option<Narrow>
+        ensures { IfSome result (λ node. Moves by (narrow_number self) (narrow_number node)) }
+    {
+        let by = i64::try_from(by).ok()?;
+        let number = self.number.checked_add(by)?;
+        if self.number == i64::MIN || number == i64::MIN {
+            return None;
+        }
+        Some(Narrow { number })
+    }
+
+    /// Whether there is a number and it is above another one, of which the sign is turned.
+    pub fn is_over_turned(self, turned: Narrow) -> bool
+        requires { IsSome (narrow_number turned) }
+        ensures { (x : ℤ) → narrow_number turned ≡ Some x → result ≡ is_over (pos 0 -ℤ x) (narrow_number self) }
+    {
+        -turned.number < self.number
+    }
+
+    /// The size of what stands for it.
+    pub fn size(self) -> u64 {
+        self.number.unsigned_abs()
     }
 
     /// The same in 16 bytes.

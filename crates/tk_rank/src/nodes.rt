@@ -29,12 +29,12 @@ pub(crate) fn leaf<N: Node>(nodes: &[N], place: usize) -> N
     nodes[nodes.len() / 2 + place]
 }
 
-/// The greatest number, read at the root.
-pub(crate) fn root<N: Node>(nodes: &[N]) -> Option<i128>
+/// The greatest number, which stands at the root.
+pub(crate) fn root<N: Node>(nodes: &[N]) -> N
     requires { IsTree (map N.number nodes.now) }
-    ensures { result ≡ greatest_leaf (leaves_of (map N.number nodes.now)) }
+    ensures { N.number result ≡ greatest_leaf (leaves_of (map N.number nodes.now)) }
 {
-    nodes[1].get()
+    nodes[1]
 }
 
 /// The greater number of a node's two children.

@@ -1,8 +1,8 @@
 //! The rank of a node: levels that change, and the least member, greatest outsider and borders read from them.
 
-ghost use Rattle.std.specs.Prelude.{◌≡◌, ◌+◌, ◌-◌, ◌^◌, ◌<◌, ◌≤◌, ℤ, pos, ◌+ℤ◌, ◌≤ℤ◌, unsigned_abs, IsTrue, length, IfOk, Some, slice_set};
+ghost use Rattle.std.specs.Prelude.{◌≡◌, ◌+◌, ◌-◌, ◌^◌, ◌<◌, ◌≤◌, ℤ, pos, ◌+ℤ◌, ◌≤ℤ◌, unsigned_abs, IsTrue, length, nat_lt, IfOk, Some, slice_set};
 ghost use Rattle.tk_base.specs.Objects.{is_in};
-ghost use Rattle.tk_border.specs.Levels.{level_at, least_member, greatest_outside, above, border, own_border, holds, AreMembers, AreObjects, AreSmall};
+ghost use Rattle.tk_border.specs.Levels.{level_at, least_member, greatest_outside, above, broken, border, own_border, holds, AreMembers, AreObjects, AreSmall};
 ghost use Rattle.tk_rank.specs.Rank.{IsRanked};
 
 use crate::side::Side;
@@ -102,8 +102,22 @@ impl Rank {
         );
     }
 
-    /// Moves the level of an object, in the time of a set.
+    /// Moves the level of an object, in the time of a set. In 8 bytes an outsider's costs a look at its leaf and at the
+    /// greatest of its block, unless that changes.
     pub fn shift(&mut self, o: Obj, by: i128)
+        requires from_one { 0 < o.0 }
+        requires within { o.0 ≤ length self.old.levels }
+        requires size { unsigned_abs (level_at self.old.levels o.0 +ℤ by) < 2 ^ 114 }
+        ensures { self.new
+            ≡ record self.old { levels = slice_set self.old.levels (o.0 - 1) (level_at self.old.levels o.0 +ℤ by) } }
+    {
+        if !self.outsiders.shift(seat_of(o), by) {
+            self.shift_by_level(o, by);
+        }
+    }
+
+    /// The same by way of the level in 16 bytes, on either side.
+    fn shift_by_level(&mut self, o: Obj, by: i128)
         requires from_one { 0 < o.0 }
         requires within { o.0 ≤ length self.old.levels }
         requires size { unsigned_abs (level_at self.old.levels o.0 +ℤ by) < 2 ^ 114 }
@@ -114,6 +128,14 @@ impl Rank {
             Some(level) => self.outsiders.set(seat_of(o), level + by),
             None => self.shift_member(o, by),
         }
+    }
+
+    /// A look at the leaf of an outsider in 8 bytes, of use for no answer: it has the leaf near when its level is moved next.
+    pub fn touch(&self, o: Obj) -> u64
+        requires from_one { 0 < o.0 }
+        requires within { o.0 ≤ length self.now.levels }
+    {
+        self.outsiders.touch(seat_of(o))
     }
 
     fn shift_member(&mut self, o: Obj, by: i128)
@@ -167,6 +189,29 @@ impl Rank {
         self.outsiders.greatest()
     }
 
+    /// Whether some outsider is above the least member, read at two roots.
+    pub fn is_broken(&self) -> bool
+        ensures { result ≡ nat_lt 0 (length (broken self.now.levels self.now.members)) }
+    {
+        if let Some(turned) = self.members.narrow_greatest() {
+            if let Some(greatest) = self.outsiders.narrow_greatest() {
+                return greatest.is_over_turned(turned);
+            }
+        }
+        self.is_broken_by_level()
+    }
+
+    /// The same by way of levels in 16 bytes.
+    fn is_broken_by_level(&self) -> bool
+        ensures { result ≡ nat_lt 0 (length (broken self.now.levels self.now.members)) }
+    {
+        let least = self.least_member();
+        match self.greatest_outsider() {
+            None => false,
+            Some(greatest) => least < greatest,
+        }
+    }
+
     /// The outsiders above a level, in the time of all blocks and of the leaves of those that have one.
     pub fn above(&self, alloc: Global, level: i128) -> Result<ObjSet, NoMemory>
         ensures { IfOk result (λ s. s ≡ above self.now.levels self.now.members level) }
@@ -182,8 +227,8 @@ impl Rank {
         holds_all(self.list.as_slice(), r)
     }
 
-    /// The greatest level outside a set that holds the members, in the time of all blocks and of the leaves of those that
-    /// have an object of it.
+    /// The greatest level outside a set that holds the members, in the time of all blocks and of the set, and of the leaves
+    /// of those blocks whose greatest level an object of the set has.
     pub fn greatest_outside(&self, r: &ObjSet) -> Option<i128>
         requires { IsTrue (holds r.now self.now.members) }
         ensures { result ≡ greatest_outside self.now.levels r.now }

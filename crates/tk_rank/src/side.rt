@@ -1,8 +1,9 @@
 //! One side of a rank, which turns wide at the first number that needs it.
 
-ghost use Rattle.std.specs.Prelude.{◌≡◌, ℕ, ◌^◌, ◌<◌, ◌≤◌, length, IfOk, slice_index_or, slice_set, unsigned_abs, Some, None};
+ghost use Rattle.std.specs.Prelude.{◌≡◌, ℕ, ◌^◌, ◌<◌, ◌≤◌, length, IfOk, IfSome, slice_index_or, slice_set, unsigned_abs, true, false, Some, None};
 ghost use Rattle.tk_base.specs.Ascending.{numbers_of};
-ghost use Rattle.tk_rank.specs.Tree.{greatest_leaf, greatest_leaf_outside, objects_over, HasRoom};
+ghost use Rattle.tk_rank.specs.Node.{narrow_number};
+ghost use Rattle.tk_rank.specs.Tree.{greatest_leaf, greatest_leaf_outside, objects_over, HasRoom, Shifts};
 
 use crate::blocks::Blocks;
 use crate::narrow::Narrow;
@@ -100,6 +101,36 @@ impl Side {
         self.wide.set(place, Wide::of(number));
     }
 
+    /// Moves the number at a place within 8 bytes, or tells that it does not and leaves all as it is.
+    pub fn shift(&mut self, place: usize, by: i128) -> bool
+        requires { place < length self.old.leaves }
+        ensures moved { result ≡ true → Shifts place by self.old.leaves self.new.leaves }
+        ensures still { result ≡ false → self.new.leaves ≡ self.old.leaves }
+        ensures room { self.new.room ≡ self.old.room }
+    {
+        if self.wide.len() != 0 {
+            return false;
+        }
+        match self.narrow.leaf(place).moved(by) {
+            Some(leaf) => {
+                self.narrow.set(place, leaf);
+                true
+            }
+            None => false,
+        }
+    }
+
+    /// A look at a place, as long as its number has 8 bytes.
+    pub fn touch(&self, place: usize) -> u64
+        requires { place < length self.now.leaves }
+    {
+        if self.wide.len() == 0 {
+            self.narrow.leaf(place).size()
+        } else {
+            0
+        }
+    }
+
     /// Takes the number away from a place.
     pub fn remove(&mut self, place: usize)
         requires { place < length self.old.leaves }
@@ -118,9 +149,20 @@ impl Side {
         ensures { result ≡ greatest_leaf self.now.leaves }
     {
         if self.wide.len() == 0 {
-            self.narrow.greatest()
+            self.narrow.greatest().get()
         } else {
-            self.wide.greatest()
+            self.wide.greatest().get()
+        }
+    }
+
+    /// The greatest number in 8 bytes, as long as each fits in so many.
+    pub fn narrow_greatest(&self) -> Option<Narrow>
+        ensures { IfSome result (λ top. narrow_number top ≡ greatest_leaf self.now.leaves) }
+    {
+        if self.wide.len() == 0 {
+            Some(self.narrow.greatest())
+        } else {
+            None
         }
     }
 

@@ -20,7 +20,7 @@ use Rattle.tk_recent.specs.Run.{Run, given, run, tick_given, told_in, told_to}
 use Rattle.tk_recent.proofs.SumsLemmas.{length-sums_of, opposite_none, sum_for-opposite, sums_more, sums_none}
 
 -- what takes a tick back
-abbrev undone : ℕ → List (ℕ × ℤ) → List (ℕ × ℤ)
+abbrev pub undone : ℕ → List (ℕ × ℤ) → List (ℕ × ℤ)
 undone n changes = opposite (sums_of n changes)
 
 -- what is told of one tick more

@@ -1,8 +1,9 @@
 -- An input that the files tell is run.
-use Rattle.std.proofs.Common.{◌≡◌, ℕ, true, false, List, Some, Result, Err, is_ok, refl, sym, ap, subst, inl, inr}
+use Rattle.std.proofs.Common.{◌≡◌, ℕ, true, List, Some, Result, Err, is_ok, refl, sym, ap, subst, inl, inr}
 use Rattle.tk_words.specs.Manual.{manual_text, version_text}
 use Rattle.tk_words.specs.Words.{Asked, words_of}
 use Rattle.tk_words.specs.Words.Asked.{Checks, Coordinates, Generates, Helps, Lives, Monitors, Queries, Replays, Restarts, Shows, Traces, Versions}
+use Rattle.tk_load.proofs.FaultLemmas.{none_is_meant}
 use Rattle.tk_load.specs.Faults.{Fault}
 use Rattle.tk_commands.specs.Generated.{generated_of}
 use Rattle.tk_load.specs.Input.{input_of}
@@ -25,14 +26,10 @@ use Rattle.tk_run.specs.Sessions.{AreStoriesOf, sessions_text}
 use Rattle.tk_load.specs.Surroundings.{Output, Surroundings}
 use Rattle.tk_run.proofs.EndsLemmas.{not_refused}
 
--- no fault is told of what is meant
-no_fault : {V : Type 0} (meant : Result V Fault) (fault : Fault) → is_ok meant ≡ true → meant ≡ Err fault → ⊥
-no_fault {V} meant fault ok is = let bad : false ≡ true = subst (λ (m : Result V Fault). is_ok m ≡ true) is ok in cc (bad)
-
 meant_is_run : {V : Type 0} (meant : Result V Fault) (status : Status) → is_ok meant ≡ true → Tells status meant → IsDone status
-meant_is_run meant (s.ReadFault file) ok tells = absurd (no_fault meant _ ok tells)
-meant_is_run meant (s.BadInput file line kind) ok tells = absurd (no_fault meant _ ok tells)
-meant_is_run meant (s.TooGreat mon obj) ok tells = absurd (no_fault meant _ ok tells)
+meant_is_run meant (s.ReadFault file) ok tells = absurd (none_is_meant meant _ ok tells)
+meant_is_run meant (s.BadInput file line kind) ok tells = absurd (none_is_meant meant _ ok tells)
+meant_is_run meant (s.TooGreat mon obj) ok tells = absurd (none_is_meant meant _ ok tells)
 meant_is_run meant s.NoMemory ok tells = tt
 meant_is_run meant s.Done ok tells = absurd tells
 meant_is_run meant s.Usage ok tells = absurd tells

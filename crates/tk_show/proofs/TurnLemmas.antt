@@ -1,16 +1,13 @@
 -- Turns of a journal, told one by one.
-use Rattle.std.proofs.Common.{◌≡◌, ℕ, ◌+◌, ◌<◌, ◌≤◌, true, false, List, [], ◌∷◌, ◌++◌, length, drop, get_or, Bool, cond, Option, Some, refl, ap, sym, ◌∙◌, append_assoc, append-nil, arith}
+use Rattle.std.proofs.Common.{◌≡◌, ℕ, ◌+◌, ◌<◌, ◌≤◌, true, false, List, [], ◌++◌, length, drop, get_or, Bool, cond, Option, Some, ap, sym, ◌∙◌, append_assoc, append-nil}
 use Rattle.std.specs.Prelude.{slice_get}
-use Rattle.std.proofs.lemmas.List.{drop_more, drop_all}
+use Rattle.std.proofs.lemmas.List.{drop_all}
 use Rattle.tk_journal.specs.Legal.{is_input}
 use Rattle.tk_journal.specs.declared.noted.Noted.{Noted}
 use Rattle.tk_journal.specs.declared.turn.Turn.{Turn}
+use Rattle.tk_world.proofs.SerializingLemmas.{left_at}
 use Rattle.tk_show.specs.Turned.{batch_length, batch_text, input_text, noted_text, turn_text, turned_after, turned_text, turns_after}
 use Rattle.tk_show.specs.declared.turned.Turned.{Turned}
-
--- what is left begins with the next entry
-pub left_at : (journal : List Noted) (i : ℕ) (e : Noted) → i < length journal → e ≡ get_or journal i e → drop i journal ≡ e ∷ drop (i + 1) journal
-left_at journal i e within at = drop_more journal i e within ∙ ap (λ (x : Noted). x ∷ drop (i + 1) journal) (sym at)
 
 -- nothing stands before an input
 pub none_before : (names : List (List ℕ)) (journal : List Noted) (i : ℕ) (e : Noted) → i < length journal → e ≡ get_or journal i e → is_input e ≡ true

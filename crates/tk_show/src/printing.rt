@@ -16,25 +16,10 @@ use crate::telling::Telling;
 use crate::words::{push_name, push_named};
 use std::alloc::{AllocError, Global};
 use tk_base::{NoMemory, Obj, Settings};
-use tk_input::{Catalog, Event, PutFailed, Sink};
+use tk_input::{Catalog, Event, Sink};
 use tk_journal::Noted;
-use tk_ledger::PrintFault;
+use tk_ledger::{PrintFault, put_line};
 use tk_story::Story;
-
-/// Puts a line, and drops it by name: each place that drops one by itself is dear to prove.
-fn put_line<O: Sink>(line: Vec<u8>, out: &mut O) -> Result<(), PrintFault>
-    ensures ok { OnOk result (Grows (O.written out.old) (O.written out.new) line.items) }
-    ensures err { OnErr result (GrowsByFront (O.written out.old) (O.written out.new) line.items) }
-    ensures failed { IsErrOf result PrintFault.WriteFailed → HasRisen (O.fault_count out.old) (O.fault_count out.new) }
-    ensures counted { O.fault_count out.new ≡ print_faults result (O.fault_count out.old) }
-{
-    let put = out.put(line.as_slice());
-    drop(line);
-    match put {
-        Ok(()) => Ok(()),
-        Err(PutFailed) => Err(PrintFault::WriteFailed),
-    }
-}
 
 /// The names of the catalogue.
 fn push_catalog(line: &mut Vec<u8>, names: &Catalog) -> Result<(), AllocError>

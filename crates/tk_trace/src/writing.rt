@@ -39,8 +39,8 @@ fn text_of(alloc: Global, story: &Story, names: &Catalog) -> Result<Vec<u8>, NoM
     put_setup(&mut text, settings)?;
     put_names(&mut text, names)?;
     put_logs(alloc, &mut text, story.logs())?;
-    put_journal(alloc, &mut text, settings.monitors(), story.journal())?;
-    put_trails(alloc, &mut text, story)?;
+    put_journal(&mut text, settings.monitors(), story.journal())?;
+    put_trails(&mut text, story)?;
     Ok(text)
 }
 

@@ -1,5 +1,5 @@
 -- Places of a trail, and what one more entry does to them.
-use Rattle.std.proofs.Common.{◌≡◌, ℕ, suc, ◌≤◌, ◌+◌, ◌-◌, ◌==◌, cond, List, [], ◌∷◌, ◌++◌, length, map, set, refl, sym, ap, ◌∙◌, arith, eq-eqb, ne_eqb}
+use Rattle.std.proofs.Common.{◌≡◌, ℕ, suc, ◌≤◌, ◌+◌, ◌-◌, ◌==◌, cond, List, [], ◌∷◌, ◌++◌, length, map, set, Option, Some, None, refl, sym, ap, ◌∙◌, arith, eq-eqb, ne_eqb}
 use Rattle.std.specs.List.{enumerate_from}
 use Rattle.std.proofs.lemmas.List.{length-map}
 use Rattle.std.proofs.lemmas.List.FromFn.{length-enumerate_from}
@@ -8,7 +8,7 @@ use Rattle.tk_frames.specs.declared.frame.Frame.{Frame}
 use Rattle.tk_base.specs.declared.ids.Feeder.{Feeder}
 use Rattle.tk_trail.specs.Setup.{MonitorSetup}
 use Rattle.tk_trail.specs.Readings.{is_raise_of, raised_of, places_at}
-use Rattle.tk_trail.specs.Legal.{place_of}
+use Rattle.tk_trail.specs.Legal.{place_of, with_answer}
 use Rattle.tk_trail.specs.declared.entry.Entry.{Entry}
 use Rattle.tk_trail.specs.declared.entry.Entry.TheVariants.{Raised, Took, Sent}
 use Rattle.tk_trail.proofs.MappedLemmas.{placed_same, placed_one}
@@ -31,6 +31,11 @@ places_at-took setup trail frame = placed_same (λ g. raised_of g trail) (λ g. 
 pub places_at-sent : (setup : MonitorSetup) (trail : List Entry) (frame : Frame) → places_at setup (trail ++ Sent frame ∷ []) ≡ places_at setup trail
 unfolding places_at
 places_at-sent setup trail frame = placed_same (λ g. raised_of g trail) (λ g. raised_of g (trail ++ Sent frame ∷ [])) 1 setup.from (λ g low. omega (arith, raised_of-push g trail (Sent frame)))
+
+-- nor does an answer
+pub answered_places : (setup : MonitorSetup) (trail : List Entry) (answer : Option Frame) → places_at setup (with_answer trail answer) ≡ places_at setup trail
+answered_places setup trail None = refl
+answered_places setup trail (Some frame) = places_at-sent setup trail frame
 
 -- a raise moves the place of its feeder by one
 pub places_at-raised : (setup : MonitorSetup) (trail : List Entry) (feeder : Feeder) → 1 ≤ feeder.0 → places_at setup (trail ++ Raised feeder ∷ []) ≡ set (places_at setup trail) (feeder.0 - 1) (suc (place_of setup trail feeder.0))

@@ -15,6 +15,7 @@ use Rattle.tk_window.specs.Window.{window_sum}
 use Rattle.tk_window.proofs.SumLemmas.{sum_for-append}
 use Rattle.tk_recent.specs.Kept.{Kept, fresh, noted, opposite, staying, sum_with, sums_of, with_last}
 use Rattle.tk_recent.specs.Run.{Run}
+use Rattle.tk_recent.proofs.RunLemmas.{undone}
 use Rattle.tk_recent.proofs.SumsLemmas.{length-sums_of, sum_for-opposite, sums_at, sums_more, sums_none}
 use Rattle.tk_watch.specs.Laws.{WindowsHoldTheLastTicks, ticks_in}
 use Rattle.tk_watch.specs.Windows.{IsItemIn, after_tick, held, run_on, taking}
@@ -61,9 +62,6 @@ reads (i.Tick ∷ items) r =
     ∙ reads items (reading r i.Tick)
 
 -- ---- what is kept of them
-
-abbrev undone : ℕ → List (ℕ × ℤ) → List (ℕ × ℤ)
-undone n changes = opposite (sums_of n changes)
 
 -- what is kept behind these ticks
 record Stands (n wide : ℕ) (r : Read) (k : Kept) : Type 0 where

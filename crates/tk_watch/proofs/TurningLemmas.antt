@@ -1,16 +1,15 @@
 -- A look at a connection.
 use Rattle.std.proofs.Common.{◌≡◌, ℕ, ◌-◌, ◌<◌, ◌≤◌, List, [], ◌∷◌, ◌++◌, length, get_or, inl, inr, Option, Some, None, refl, sym, ap, ◌∙◌, subst, arith}
 use Rattle.std.specs.Prelude.{IfSome, slice_get}
-use Rattle.tk_frames.specs.declared.frame.Frame.{Frame}
 use Rattle.tk_monitor.specs.Monitored.{MonitorView}
 use Rattle.tk_monitor.specs.Stepped.{checking, taking}
 use Rattle.tk_trail.specs.Frames.{answer_to, due_at}
-use Rattle.tk_trail.specs.Legal.{place_of, with_answer}
+use Rattle.tk_trail.specs.Legal.{place_of}
 use Rattle.tk_trail.specs.Readings.{is_stopped, places_at}
 use Rattle.tk_trail.specs.Setup.{IsSetup, MonitorSetup}
 use Rattle.tk_trail.specs.declared.entry.Entry.{Entry}
 use Rattle.tk_trail.specs.declared.entry.Entry.TheVariants.{Took}
-use Rattle.tk_trail.proofs.PlacesLemmas.{places_at-sent, places_at-took}
+use Rattle.tk_trail.proofs.PlacesLemmas.{answered_places, places_at-took}
 use Rattle.tk_compact.specs.Room.{IsWaiting, IsWeighed}
 use Rattle.tk_port.specs.Port.{IsPort, PortView}
 use Rattle.tk_port.specs.Turn.{Checks, Reaches, Stays, Takes}
@@ -25,10 +24,6 @@ use Rattle.tk_watch.specs.declared.turned.Turned.{Turned}
 use Rattle.tk_watch.specs.declared.turned.Turned.TheVariants as t
 
 -- ---- places
-
-answered_places : (setup : MonitorSetup) (trail : List Entry) (answer : Option Frame) → places_at setup (with_answer trail answer) ≡ places_at setup trail
-answered_places setup trail None = refl
-answered_places setup trail (Some frame) = places_at-sent setup trail frame
 
 -- no frame and no check moves a place
 pub reaches_places : (a b : MonitorView) → Reaches a b → places_at b.setup b.trail ≡ places_at a.setup a.trail

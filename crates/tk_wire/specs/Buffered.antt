@@ -33,7 +33,7 @@ IsFull traffic = length traffic.held ≡ traffic.room
 
 -- what a pull does to the bytes and to the wire: NotYet says that nothing waits there
 abbrev pub Pulls : Pulled → Bool → List ℕ → List ℕ → Traffic → Traffic → Type 0
-Pulls (pulled.Got n) tells old new before after = IsPiece n 65536 × Gains n tells old new before after
+Pulls (pulled.Got n) tells old new before after = IsPiece n 4096 × Gains n tells old new before after
 Pulls pulled.NotYet tells old new before after = (new ≡ old) × (tells ≡ true → (before.waiting ≡ []) × (after ≡ before))
 Pulls pulled.End tells old new before after = (new ≡ old) × (tells ≡ true → after ≡ before)
 Pulls pulled.Failed tells old new before after = (new ≡ old) × (tells ≡ true → after ≡ before)

@@ -12,7 +12,7 @@ pub record StoreView : Type 0 where
 
 -- what a take does to the bytes and to the wire
 abbrev pub Fills : Took → Bool → List ℕ → List ℕ → Traffic → Traffic → Type 0
-Fills (t.Bytes n) tells old new before after = IsPiece n 65536 × Gains n tells old new before after
+Fills (t.Bytes n) tells old new before after = IsPiece n 4096 × Gains n tells old new before after
 Fills t.NotYet tells old new before after = (new ≡ old) × (tells ≡ true → (before.waiting ≡ []) × (after ≡ before))
 Fills t.End tells old new before after = (new ≡ old) × (tells ≡ true → after ≡ before)
 Fills t.Failed tells old new before after = (new ≡ old) × (tells ≡ true → after ≡ before)

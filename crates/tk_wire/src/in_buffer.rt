@@ -4,7 +4,7 @@ ghost use Rattle.tk_frames.specs.Answer.{Answers, HasKind};
 ghost use Rattle.tk_frames.specs.Spelling.{IsVersion};
 ghost use Rattle.tk_wire.specs.Buffered.{Pulls, counts_pulled, rest_of};
 
-use crate::store::{FIRST, PIECE, Store};
+use crate::store::{PIECE, Store};
 use crate::wire::{Took, Wire};
 use std::alloc::Global;
 use std::marker::Model;
@@ -14,7 +14,7 @@ use tk_frames::{Next, next};
 /// What a pull answers.
 #[derive(Clone, Copy, Debug, PartialEq, Eq)]
 pub enum Pulled {
-    /// So many bytes came, 1 to 65,536.
+    /// So many bytes came, 1 to 4,096.
     Got(usize),
     NotYet,
     /// Nothing will come any more.
@@ -29,20 +29,17 @@ pub struct InBuffer {
     alloc: Global,
     store: Store,
     version: u8,
-    // How many bytes one take brings at most.
-    piece: usize,
 }
 
 impl Model for InBuffer {
     ghost use Rattle.tk_frames.specs.Spelling.{IsVersion};
     ghost use Rattle.tk_wire.specs.Buffered.{Buffer};
-    ghost use Rattle.tk_wire.specs.Meanings.{IsPiece};
 
     ghost Value = { Buffer };
 
     ghost view = { λ b. record { bytes = b.store.held; version = b.version } };
 
-    ghost invariant = { λ b. IsVersion b.version × IsPiece b.piece 65536 };
+    ghost invariant = { λ b. IsVersion b.version };
 }
 
 impl InBuffer {
@@ -54,7 +51,6 @@ impl InBuffer {
             alloc,
             store: Store::new(alloc),
             version: 1,
-            piece: FIRST,
         }
     }
 
@@ -64,13 +60,6 @@ impl InBuffer {
         ensures { self.new ≡ record self.old { version = version } }
     {
         self.version = version;
-    }
-
-    /// From now on it pulls up to 65,536 bytes at once, for which it takes the memory at the next pull.
-    pub fn widen(&mut self)
-        ensures { self.new ≡ self.old }
-    {
-        self.piece = PIECE;
     }
 
     /// The bytes that are not read as frames yet.
@@ -88,10 +77,10 @@ impl InBuffer {
         ensures memory { result ≡ Pulled.NoMemory → wire.new ≡ wire.old }
         ensures version { self.new.version ≡ self.old.version }
     {
-        if self.store.make_room(self.piece).is_err() {
+        if self.store.make_room(PIECE).is_err() {
             return Pulled::NoMemory;
         }
-        match self.store.fill(wire, self.piece) {
+        match self.store.fill(wire, PIECE) {
             Took::Bytes(count) => Pulled::Got(count),
             Took::NotYet => Pulled::NotYet,
             Took::End => Pulled::End,

@@ -23,7 +23,6 @@ pub enum Pushed {
 /// Bytes of frames that are not given to a wire yet.
 #[derive(Drop)]
 pub struct OutBuffer {
-    alloc: Global,
     bytes: Vec<u8>,
     start: usize,
     version: u8,
@@ -63,7 +62,6 @@ impl OutBuffer {
         ensures { result ≡ record { bytes = []; version = 1 } }
     {
         OutBuffer {
-            alloc,
             bytes: Vec::new(alloc),
             start: 0,
             version: 1,
@@ -97,7 +95,7 @@ impl OutBuffer {
         ensures version { self.new.version ≡ self.old.version }
     {
         self.start = compact(&mut self.bytes, self.start);
-        encode(self.alloc, frame, self.version, &mut self.bytes)
+        encode(frame, self.version, &mut self.bytes)
     }
 
     /// Gives to the wire until no byte is left, without memory. NotYet says that the wire has no room.

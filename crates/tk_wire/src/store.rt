@@ -7,11 +7,8 @@ use std::alloc::Global;
 use std::marker::Model;
 use tk_base::NoMemory;
 
-/// The most bytes of one take.
-pub const PIECE: usize = 65_536;
-
-/// The most bytes of one take of a connection that is not known yet.
-pub const FIRST: usize = 4_096;
+/// The most bytes of one take, so that a connection with little to say costs little.
+pub const PIECE: usize = 4_096;
 
 /// Bytes in their order, and room behind them.
 #[derive(Drop)]
@@ -86,7 +83,7 @@ impl Store {
     /// Makes room for so many bytes. What stands before the bytes is only reclaimed where it is no shorter than
     /// they are, so each byte that was removed pays for one that moves.
     pub fn make_room(&mut self, room: usize) -> Result<(), NoMemory>
-        requires { room ≤ 65536 }
+        requires { room ≤ 4096 }
         ensures room { OnOk result (room ≤ self.new.room) }
         ensures kept { self.new.held ≡ self.old.held }
     {
@@ -106,7 +103,7 @@ impl Store {
 
     /// One take of at most so many bytes.
     pub fn fill<W: Wire>(&mut self, wire: &mut W, size: usize) -> Took
-        requires size { IsPiece size 65536 }
+        requires size { IsPiece size 4096 }
         requires room { size ≤ self.old.room }
         ensures told { Fills result W.tells self.old.held self.new.held (W.traffic wire.old) (W.traffic wire.new) }
         ensures counted { W.counts wire.new ≡ counts_taken result (W.counts wire.old) }

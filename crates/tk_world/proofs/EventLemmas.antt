@@ -1,5 +1,5 @@
 -- What each event leaves of a world.
-use Rattle.std.proofs.Common.{◌≡◌, ℕ, ◌+◌, ◌-◌, ◌≤◌, ◌<◌, ◌&&◌, not, true, false, List, [], ◌∷◌, ◌++◌, length, set, get_or, Option, Some, None, refl, sym, ap, ap₂, ◌∙◌, subst, arith}
+use Rattle.std.proofs.Common.{◌≡◌, ℕ, ◌+◌, ◌-◌, ◌≤◌, ◌<◌, ◌&&◌, not, true, false, List, [], ◌∷◌, ◌++◌, length, set, get_or, Some, None, refl, sym, ap, ap₂, ◌∙◌, subst, arith}
 use Rattle.std.specs.Prelude.{sum_by, slice_get, nat_le, nat_lt, if◌then◌else◌}
 use Rattle.std.specs.Option.{option_map}
 use Rattle.std.proofs.Math.Bool.{and-false}
@@ -21,13 +21,13 @@ use Rattle.tk_monitor.specs.Kept.{left_in}
 use Rattle.tk_monitor.proofs.KeptLemmas.{none_when}
 use Rattle.tk_monitor.proofs.PartsLemmas.{left_less}
 use Rattle.tk_trail.specs.Frames.{answer_to, due_at, end_is_due, may_report, report_is_due}
-use Rattle.tk_trail.specs.Legal.{HasNext, after_take, part_length, place_of, with_answer}
+use Rattle.tk_trail.specs.Legal.{HasNext, after_take, part_length, place_of}
 use Rattle.tk_trail.specs.Readings.{at_ends, is_broken, is_end_told, places_at, sent_by, taken_by}
 use Rattle.tk_trail.specs.Refusal.{refusal_of}
 use Rattle.tk_trail.specs.Setup.{MonitorSetup}
 use Rattle.tk_trail.specs.declared.entry.Entry.{Entry}
 use Rattle.tk_trail.specs.declared.entry.Entry.TheVariants.{Raised, Took, Sent}
-use Rattle.tk_trail.proofs.PlacesLemmas.{places_at-raised, places_at-sent, places_at-took}
+use Rattle.tk_trail.proofs.PlacesLemmas.{answered_places, places_at-raised, places_at-sent, places_at-took}
 use Rattle.tk_trail.proofs.ReadingsLemmas.{sent_by-raised, taken_by-raised, taken_by-sent, taken_by-took, answer_taken}
 use Rattle.tk_trail.proofs.LegalLemmas.{legal_places}
 use Rattle.tk_story.specs.Story.{IsStory, StoryView, setup_of, trail_of}
@@ -164,10 +164,6 @@ check_goes S L F j seats raises work mon seat frame h m at busy due =
     )
 
 -- ---- a frame of the coordinator
-
-pub answered_places : (setup : MonitorSetup) (trail : List Entry) (answer : Option Frame) → places_at setup (with_answer trail answer) ≡ places_at setup trail
-answered_places setup trail None = refl
-answered_places setup trail (Some frame) = places_at-sent setup trail frame
 
 -- the seat of a monitor that took one frame more
 abbrev pub with_taken : Seat → List Entry → Seat

@@ -25,6 +25,9 @@ use tk_input::{Event, Logs, Retuning};
 use tk_monitor::{Checked, Raised};
 use tk_story::Story;
 
+/// So many levels, of 8 bytes, do not all stay near the processor.
+const FAR: u64 = 262_144;
+
 /// A coordinator and its monitors in memory, moved by events. Contracts see the story so far, and the
 /// events that took place. Without a type of its nodes it hands their frames over as they are.
 #[derive(Drop)]
@@ -35,6 +38,8 @@ pub struct World<N: Nodes = Direct> {
     diary: Diary,
     /// The monitors at which a check or a delivery may be enabled.
     work: Work,
+    /// What the last looks ahead saw, kept so that they are made.
+    touched: u64,
 }
 
 impl<N: Nodes> Model for World<N> {
@@ -90,6 +95,7 @@ impl<N: Nodes + Drop> World<N> {
             nodes,
             diary,
             work,
+            touched: 0,
         })
     }
 }
@@ -140,6 +146,30 @@ impl<N: Nodes> World<N> {
                 Moved::Yes
             }
         }
+    }
+
+    /// A look at the leaf that the next change of a feeder moves.
+    fn touch_one(&self, mon: Mon, f: Feeder) -> u64 {
+        if !self.has_feeder(mon, f) {
+            return 0;
+        }
+        self.nodes.monitor(mon).touch(f)
+    }
+
+    /// Looks at the leaves that the next changes of some parts move, so that they come from memory side by side and not in
+    /// turn, where they are too many to be near. Nothing changes.
+    pub fn touch(&mut self, parts: &[(Mon, Feeder)])
+        ensures { self.new ≡ self.old }
+    {
+        let settings = self.nodes.coordinator().settings();
+        if u64::from(settings.objects()) * u64::from(settings.monitors()) < FAR {
+            return;
+        }
+        let mut seen = 0;
+        for part in parts {
+            seen ^= self.touch_one(part.0, part.1);
+        }
+        self.touched = seen;
     }
 
     fn check(&mut self, mon: Mon) -> Result<Moved, NoMemory>

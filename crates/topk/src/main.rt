@@ -18,7 +18,7 @@ use std::thread::Threads;
 use std::time::Clock;
 use std::{env, io, rt};
 use tk_input::{StdSink, TrueFiles};
-use tk_live::{Outcome, live, run_number};
+use tk_live::{LiveOutcome, live, run_number};
 use tk_net::LoopNet;
 use tk_process::process;
 use tk_run::{Status, fault_line, run};
@@ -48,7 +48,7 @@ fn run_live<R: AllocGlobal + RandomSource + Print + rt::Files + rt::Net + Thread
     let mut files = TrueFiles::new(alloc, rt);
     let mut out = StdSink::new(rt);
     let run = run_number(rt);
-    let Outcome {
+    let LiveOutcome {
         status,
         story,
         ends,

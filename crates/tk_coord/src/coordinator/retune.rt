@@ -13,7 +13,7 @@ use crate::coordinator::Coordinator;
 use crate::coordinator::room::make_room;
 use crate::outcomes::open_wide;
 use crate::phase::Phase;
-use crate::step::{Outcome, retune_turn};
+use crate::step::{TurnOutcome, retune_turn};
 use tk_base::{NoMemory, SettingFault, Settings};
 use tk_journal::{KeptEpsilon, Noted, RetuneRefusal};
 
@@ -33,7 +33,7 @@ fn retuned(settings: &Settings, k: u64, epsilon: u128) -> Result<Settings, Retun
 
 impl Coordinator {
     /// A wide round opens.
-    fn wide(&self) -> Result<Outcome, NoMemory>
+    fn wide(&self) -> Result<TurnOutcome, NoMemory>
         ensures { IfOk result (OpensOver self.now.settings self.now.journal) }
     {
         let grounds = self.grounds(self.rounds()?);

@@ -30,7 +30,7 @@ use crate::peer::waits_for_no_other;
 use crate::phase::Phase;
 use crate::publishing::{Answers, is_other, others_settled, publishing};
 use crate::refusals::{Shown, refusal_of, shown_of};
-use crate::step::{Outcome, Reply, Statement, Step, short_kind};
+use crate::step::{Reply, Statement, Step, TurnOutcome, short_kind};
 use tk_alloc::Reported;
 use tk_base::{Mon, NoMemory};
 use tk_frames::Frame;
@@ -162,7 +162,7 @@ impl Coordinator {
     }
 
     /// What ends a turn in which every monitor has settled.
-    fn closes(&self, answers: Answers) -> Result<Outcome, NoMemory>
+    fn closes(&self, answers: Answers) -> Result<TurnOutcome, NoMemory>
         ensures { IfOk result (Closes self.now.settings self.now.journal (said_in answers.entry)) }
     {
         let (entries, stopped) = publishing(
@@ -173,7 +173,7 @@ impl Coordinator {
             self.has_news(),
             self.journal.published() as u64 + 1,
         )?;
-        Ok(Outcome {
+        Ok(TurnOutcome {
             entries,
             reply: Reply::Nothing,
             phase: Phase {
@@ -292,7 +292,7 @@ impl Coordinator {
                 return Err((CoordRefusal::NoMemory, frame));
             }
         };
-        let Outcome {
+        let TurnOutcome {
             entries,
             reply,
             phase,

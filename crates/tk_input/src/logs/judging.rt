@@ -1,6 +1,7 @@
 //! The tests that rows of parts must pass, in their order.
 
-ghost use Rattle.std.specs.Prelude.{◌≡◌, ◌<◌, ◌≤◌, ◌^◌, IfOk, IfErr, IsErrOf, OnOk, All, Ok, length, nat_lt, option_map, position, sum_by, ◌==◌};
+ghost use Rattle.std.specs.Prelude.{◌≡◌, ◌<◌, ◌≤◌, ◌^◌, IfOk, IfErr, IsErrOf, IsTrue, OnOk, All, Ok, length, nat_lt, option_map, position, sum_by, ◌==◌};
+ghost use Rattle.tk_input.specs.Changes.{AreSmall};
 ghost use Rattle.tk_input.specs.Judged.{AreCounted, Refuses, first_crowded, first_gap, great_in, great_object, judged, set_of};
 ghost use Rattle.tk_input.specs.Logs.{AreGathered, IsObject, updates_of as updates_at};
 ghost use Rattle.tk_input.specs.Rows.{logs_in};
@@ -69,10 +70,26 @@ fn updates_of(rows: &[Vec<Part>]) -> usize
     updates
 }
 
+fn are_narrow(row: &[Part]) -> bool
+    ensures { IsTrue result → All AreSmall row.now }
+{
+    for part in row {
+        if !part.changes().are_narrow() {
+            return false;
+        }
+    }
+    true
+}
+
 fn first_great(alloc: Global, row: &[Part], objects: u32) -> Result<Option<Obj>, NoMemory>
-    requires { All (λ part. All (λ c. IsObject objects c.0) part) row.now }
+    requires objects { All (λ part. All (λ c. IsObject objects c.0) part) row.now }
+    requires updates { updates_at row.now ≤ 4000000 }
     ensures { IfOk result (λ great. option_map (λ o. o.0) great ≡ great_object objects row.now) }
 {
+    // So few amounts of 4 bytes each cannot pass the limit.
+    if are_narrow(row) {
+        return Ok(None);
+    }
     let weights = weights_of(alloc, row, objects)?;
     match first_heavy(weights.as_slice()) {
         Some(place) => Ok(Some(Obj(place as u32 + 1))),
@@ -83,6 +100,7 @@ fn first_great(alloc: Global, row: &[Part], objects: u32) -> Result<Option<Obj>,
 fn great_of(alloc: Global, rows: &[Vec<Part>], objects: u32) -> Result<Option<LogsFault>, NoMemory>
     requires monitors { length rows.now ≤ 64 }
     requires objects { All (λ parts. All (λ part. All (λ c. IsObject objects c.0) part) parts) (logs_in rows.now) }
+    requires updates { sum_by updates_at (logs_in rows.now) ≤ 4000000 }
     ensures { IfOk result (λ great. great ≡ great_in (set_of (logs_in rows.now) objects)) }
 {
     for (place, row) in rows.iter().enumerate() {
@@ -96,7 +114,7 @@ fn great_of(alloc: Global, rows: &[Vec<Part>], objects: u32) -> Result<Option<Lo
     Ok(None)
 }
 
-/// Refuses rows by the first test that fails; takes room for one number per object.
+/// Refuses rows by the first test that fails; takes room for one number per object where a change takes 32 bytes.
 pub fn judge(alloc: Global, rows: &[Vec<Part>], objects: u32) -> Result<(), LogsFault>
     requires monitors { length rows.now ≤ 64 }
     requires objects { All (λ parts. All (λ part. All (λ c. IsObject objects c.0) part) parts) (logs_in rows.now) }

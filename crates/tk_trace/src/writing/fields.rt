@@ -8,7 +8,6 @@ ghost use Rattle.tk_frames.specs.Size.{IsShort};
 ghost use Rattle.tk_frames.specs.Spelling.{ArePlaces, IsSet, flag as flag_of, places as places_of, set as set_of, signed, spelling};
 ghost use Rattle.tk_trace.specs.Spelling.{IsEpsilon, IsFrame, bounds as bounds_of, number};
 
-use std::alloc::Global;
 use tk_base::{NoMemory, ObjSet, Places};
 use tk_frames::{EncodeFault, Frame, encode};
 
@@ -126,13 +125,13 @@ pub fn places(out: &mut Vec<u8>, places: &Places) -> Result<(), NoMemory>
 }
 
 /// Appends a frame.
-pub fn frame(alloc: Global, out: &mut Vec<u8>, frame: &Frame) -> Result<(), NoMemory>
+pub fn frame(out: &mut Vec<u8>, frame: &Frame) -> Result<(), NoMemory>
     requires short { IsShort frame.now }
     requires hello { IsBadHello frame.now → ⊥ }
     ensures bytes { OnOk result (out.new.items ≡ out.old.items ++ spelling 1 frame.now) }
     ensures within { OnOk result (IsFrame frame.now) }
 {
-    match encode(alloc, frame, 1, out) {
+    match encode(frame, 1, out) {
         Ok(()) => Ok(()),
         Err(EncodeFault::NoMemory) => Err(NoMemory),
         Err(EncodeFault::BadHello) => unreachable!(),

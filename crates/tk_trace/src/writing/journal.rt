@@ -7,7 +7,6 @@ ghost use Rattle.tk_trace.specs.Spelling.{IsNoted, IsPublication, journal as jou
 ghost use Rattle.tk_trace.specs.Writing.{CanBeNoted, CanBePublished};
 
 use super::fields::{bounds, flag, frame, number_u32, number_u64, places, set};
-use std::alloc::Global;
 use tk_base::{Cut, NoMemory};
 use tk_journal::{Noted, Publication};
 
@@ -34,7 +33,7 @@ fn publication(out: &mut Vec<u8>, p: &Publication) -> Result<(), NoMemory>
     cut(out, &p.cut)
 }
 
-fn noted(alloc: Global, out: &mut Vec<u8>, monitors: u32, entry: &Noted) -> Result<(), NoMemory>
+fn noted(out: &mut Vec<u8>, monitors: u32, entry: &Noted) -> Result<(), NoMemory>
     requires { CanBeNoted monitors entry.now }
     ensures bytes { OnOk result (out.new.items ≡ out.old.items ++ noted_of entry.now) }
     ensures within { OnOk result (IsNoted monitors entry.now) }
@@ -43,12 +42,12 @@ fn noted(alloc: Global, out: &mut Vec<u8>, monitors: u32, entry: &Noted) -> Resu
         Noted::Got(mon, kept) => {
             out.push(1)?;
             number_u32(out, mon.0)?;
-            frame(alloc, out, kept.get())
+            frame(out, kept.get())
         }
         Noted::Sent(mon, kept) => {
             out.push(2)?;
             number_u32(out, mon.0)?;
-            frame(alloc, out, kept.get())
+            frame(out, kept.get())
         }
         Noted::Published(kept) => {
             out.push(3)?;
@@ -61,34 +60,24 @@ fn noted(alloc: Global, out: &mut Vec<u8>, monitors: u32, entry: &Noted) -> Resu
     }
 }
 
-fn entries(
-    alloc: Global,
-    out: &mut Vec<u8>,
-    monitors: u32,
-    entries: &[Noted],
-) -> Result<(), NoMemory>
+fn entries(out: &mut Vec<u8>, monitors: u32, entries: &[Noted]) -> Result<(), NoMemory>
     requires { All (CanBeNoted monitors) entries.now }
     ensures bytes { OnOk result (out.new.items ≡ out.old.items ++ flat_map noted_of entries.now) }
     ensures within { OnOk result (All (IsNoted monitors) entries.now) }
 {
     for entry in entries {
-        noted(alloc, out, monitors, entry)?;
+        noted(out, monitors, entry)?;
     }
     Ok(())
 }
 
 /// Appends the journal.
-pub fn put_journal(
-    alloc: Global,
-    out: &mut Vec<u8>,
-    monitors: u32,
-    journal: &[Noted],
-) -> Result<(), NoMemory>
+pub fn put_journal(out: &mut Vec<u8>, monitors: u32, journal: &[Noted]) -> Result<(), NoMemory>
     requires { All (CanBeNoted monitors) journal.now }
     ensures bytes { OnOk result (out.new.items ≡ out.old.items ++ journal_of journal.now) }
     ensures few { length journal.now < 2 ^ 64 }
     ensures within { OnOk result (All (IsNoted monitors) journal.now) }
 {
     number_u64(out, journal.len() as u64)?;
-    entries(alloc, out, monitors, journal)
+    entries(out, monitors, journal)
 }

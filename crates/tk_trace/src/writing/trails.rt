@@ -7,12 +7,11 @@ ghost use Rattle.tk_trace.specs.Spelling.{IsEntry, IsTrail, entry as entry_of, t
 ghost use Rattle.tk_trace.specs.Writing.{CanBeEntered};
 
 use super::fields::{frame, number_u8, number_u64};
-use std::alloc::Global;
 use tk_base::{Mon, NoMemory};
 use tk_story::Story;
 use tk_trail::Entry;
 
-fn entry(alloc: Global, out: &mut Vec<u8>, feeders: u32, entry: &Entry) -> Result<(), NoMemory>
+fn entry(out: &mut Vec<u8>, feeders: u32, entry: &Entry) -> Result<(), NoMemory>
     requires few { feeders ≤ 8 }
     requires entry { CanBeEntered feeders entry.now }
     ensures bytes { OnOk result (out.new.items ≡ out.old.items ++ entry_of entry.now) }
@@ -25,38 +24,28 @@ fn entry(alloc: Global, out: &mut Vec<u8>, feeders: u32, entry: &Entry) -> Resul
         }
         Entry::Took(kept) => {
             out.push(2)?;
-            frame(alloc, out, kept.get())
+            frame(out, kept.get())
         }
         Entry::Sent(kept) => {
             out.push(3)?;
-            frame(alloc, out, kept.get())
+            frame(out, kept.get())
         }
     }
 }
 
-fn entries(
-    alloc: Global,
-    out: &mut Vec<u8>,
-    feeders: u32,
-    entries: &[Entry],
-) -> Result<(), NoMemory>
+fn entries(out: &mut Vec<u8>, feeders: u32, entries: &[Entry]) -> Result<(), NoMemory>
     requires few { feeders ≤ 8 }
     requires entries { All (CanBeEntered feeders) entries.now }
     ensures bytes { OnOk result (out.new.items ≡ out.old.items ++ flat_map entry_of entries.now) }
     ensures within { OnOk result (All (IsEntry feeders) entries.now) }
 {
     for item in entries {
-        entry(alloc, out, feeders, item)?;
+        entry(out, feeders, item)?;
     }
     Ok(())
 }
 
-fn put_trail(
-    alloc: Global,
-    out: &mut Vec<u8>,
-    feeders: u32,
-    trail: &[Entry],
-) -> Result<(), NoMemory>
+fn put_trail(out: &mut Vec<u8>, feeders: u32, trail: &[Entry]) -> Result<(), NoMemory>
     requires few { feeders ≤ 8 }
     requires entries { All (CanBeEntered feeders) trail.now }
     ensures bytes { OnOk result (out.new.items ≡ out.old.items ++ trail_of trail.now) }
@@ -64,18 +53,18 @@ fn put_trail(
     ensures within { OnOk result (All (IsEntry feeders) trail.now) }
 {
     number_u64(out, trail.len() as u64)?;
-    entries(alloc, out, feeders, trail)
+    entries(out, feeders, trail)
 }
 
 /// The trail of each monitor of a story.
-pub fn put_trails(alloc: Global, out: &mut Vec<u8>, story: &Story) -> Result<(), NoMemory>
+pub fn put_trails(out: &mut Vec<u8>, story: &Story) -> Result<(), NoMemory>
     requires { IsStory story.now.story }
     ensures bytes { OnOk result (out.new.items ≡ out.old.items ++ flat_map trail_of story.now.story.trails) }
     ensures within { OnOk result (AllZip IsTrail story.now.story.logs.logs story.now.story.trails) }
 {
     for i in 0..story.settings().monitors() {
         let mon = Mon(i + 1);
-        put_trail(alloc, out, story.logs().feeders(mon), story.trail(mon))?;
+        put_trail(out, story.logs().feeders(mon), story.trail(mon))?;
     }
     Ok(())
 }

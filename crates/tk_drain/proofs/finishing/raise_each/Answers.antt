@@ -1,8 +1,10 @@
-use Rattle.std.proofs.Common.{◌≡◌, ℕ, ◌+◌, ◌<◌, ◌≤◌, ◌∙◌, ap, arith, drop, length, refl, subst, sym, take, List}
+use Rattle.std.proofs.Common.{◌≡◌, [], ℕ, ◌+◌, ◌<◌, ◌≤◌, ◌∙◌, ap, arith, drop, length, refl, subst, sym, take, List}
 use Rattle.std.proofs.lemmas.Grind.{drop_more_same}
 use Rattle.std.proofs.lemmas.List.{drop-set-lt, length-set, take_all, take_more_set}
 use Rattle.tk_base.specs.declared.ids.Feeder.{Feeder}
 use Rattle.tk_base.specs.declared.ids.Mon.{Mon}
+use Rattle.tk_story.specs.Kept.{KeptStory}
+use Rattle.tk_story.specs.Story.{IsStory}
 use Rattle.tk_world.specs.Events.{raise_at}
 use Rattle.tk_drain.specs.Passing.{MayRaise, Passes, raises}
 use Rattle.tk_world.specs.declared.moved.Moved.{Moved}
@@ -13,7 +15,15 @@ use Rattle.tk_drain.proofs.finishing.raise_each.Goals as goal
 use Rattle.tk_drain.proofs.finishing.raise_each.Goals.{in-Yes, in-Idle}
 
 pub loop-i-init : goal.loop-i-init
-loop-i-init g c = record { story = c.requires; passes = passes_none c.args.world.now; ahead = refl; behind = omega arith; size = refl }
+loop-i-init g c =
+    let touched = sym c.touch.ensures in
+    record {
+      story = subst (λ (w : KeptStory). IsStory w.story) touched c.requires;
+      passes = subst (λ (w : KeptStory). Passes [] [] c.args.world.now w) touched (passes_none c.args.world.now);
+      ahead = refl;
+      behind = omega arith;
+      size = refl;
+    }
 
 pub returns-in_err-raise_one-clause-err : goal.returns-in_err-raise_one-clause-err
 returns-in_err-raise_one-clause-err g c =

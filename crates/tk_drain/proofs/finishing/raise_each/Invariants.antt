@@ -7,7 +7,7 @@ use Rattle.tk_drain.proofs.finishing.raise_each.Given as goal
 abbrev pub invariant-loop-i : goal.invariant-loop-i
 invariant-loop-i g l = record {
   story : IsStory l.world.story;
-  passes : Passes (raises (take l.i l.initial.parts.items)) (raises (take l.kept l.parts.items)) l.initial.world l.world;
+  passes : Passes (raises (take l.i l.initial.parts.items)) (raises (take l.kept l.parts.items)) l.fn.world l.world;
   ahead : drop l.i l.parts.items ≡ drop l.i l.initial.parts.items;
   behind : l.kept ≤ l.i;
   size : length l.parts.items ≡ length l.initial.parts.items;

@@ -1,4 +1,4 @@
-use Rattle.std.proofs.Common.{◌≡◌, ◌∷◌, ◌++◌, ℕ, List, map, take, drop, sym, ap, ap₂, ◌∙◌}
+use Rattle.std.proofs.Common.{◌≡◌, ◌∷◌, ◌++◌, List, map, take, drop, sym, ap, ap₂, ◌∙◌}
 use Rattle.std.proofs.lemmas.List.{map-append, take-map, drop-map}
 use Rattle.tk_base.specs.declared.narrow_pair.NarrowPair.{NarrowPair}
 use Rattle.tk_base.specs.Pairs.{narrow_pair_of}

@@ -5,7 +5,7 @@ use Rattle.tk_story.specs.Story.{IsStory}
 use Rattle.tk_live.specs.Joining.{ledger_lines}
 use Rattle.tk_live.specs.Lived.{Concludes, TellsEnds}
 use Rattle.tk_load.specs.Surroundings.{faults_told}
-use Rattle.tk_live.specs.declared.outcome.Outcome.{Outcome}
+use Rattle.tk_live.specs.declared.outcome.LiveOutcome.{LiveOutcome}
 use Rattle.tk_load.specs.declared.status.Status.TheVariants as st
 use Rattle.tk_live.specs.Traffic.{traffic_of}
 use Rattle.tk_live.proofs.CountLemmas.{printed_told}
@@ -37,15 +37,15 @@ returns-clause-concludes g c = λ input version was taken taken' of_input comple
     (printed_front printed mid now (ledger_lines kept.story) c.print-printed.ensures.ok c.print-printed.ensures.err) (subst (λ x. TellsEnds x None) (sym is) (printed_tells printed)))
 
 pub returns-in-Err-clause-counted : goal.returns-in-Err-clause-counted
-returns-in-Err-clause-counted g c = ap (λ (l : Outcome). faults_told l.status (g.O.Sink.fault_count c.args.out.now)) (sym c.told.ensures)
+returns-in-Err-clause-counted g c = ap (λ (l : LiveOutcome). faults_told l.status (g.O.Sink.fault_count c.args.out.now)) (sym c.told.ensures)
 
 pub returns-clause-unlinked : goal.returns-clause-unlinked
 returns-clause-unlinked g c = λ is.
-    let told = ap (λ (l : Outcome). l.status) c.told-2.ensures ∙ c.told_of.ensures in
+    let told = ap (λ (l : LiveOutcome). l.status) c.told-2.ensures ∙ c.told_of.ensures in
     printed_linked c.print-printed.result (sym told ∙ is)
 
 pub returns-clause-counted : goal.returns-clause-counted
 returns-clause-counted g c =
-    let told = ap (λ (l : Outcome). l.status) c.told-2.ensures ∙ c.told_of.ensures in
+    let told = ap (λ (l : LiveOutcome). l.status) c.told-2.ensures ∙ c.told_of.ensures in
     let before = g.O.Sink.fault_count c.args.out.now in
     c.print-printed.ensures.counted ∙ (printed_told c.print-printed.result before ∙ ap (λ x. faults_told x before) (sym told))

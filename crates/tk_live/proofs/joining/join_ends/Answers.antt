@@ -2,7 +2,7 @@ use Rattle.std.proofs.Common.{◌≡◌, sym, ap, ◌∙◌}
 use Rattle.tk_story.specs.Ends.{joined, kept_by}
 use Rattle.tk_live.specs.Joined.{joined_as}
 use Rattle.tk_load.specs.Surroundings.{faults_told}
-use Rattle.tk_live.specs.declared.outcome.Outcome.{Outcome}
+use Rattle.tk_live.specs.declared.outcome.LiveOutcome.{LiveOutcome}
 use Rattle.tk_live.proofs.CountLemmas.{joined_spared}
 use Rattle.tk_live.proofs.TellLemmas.{complete_story, concludes_joined, kept_as, of_run, of_story}
 use Rattle.tk_live.proofs.joining.join_ends.Goals as goal
@@ -26,6 +26,6 @@ returns-in-Err-clause-concludes g c = λ input version was taken taken' from com
 
 pub returns-in-Err-clause-counted : goal.returns-in-Err-clause-counted
 returns-in-Err-clause-counted g c =
-    let told = ap (λ (l : Outcome). l.status) c.kept.ensures ∙ c.of_join.ensures in
+    let told = ap (λ (l : LiveOutcome). l.status) c.kept.ensures ∙ c.of_join.ensures in
     let before = g.O.Sink.fault_count c.args.out.now in
     joined_spared c.in-Err.fault before ∙ ap (λ x. faults_told x before) (sym told)

@@ -6,7 +6,7 @@ use Rattle.tk_load.specs.Surroundings.{faults_told}
 use Rattle.tk_story.specs.Ends.{made_for}
 use Rattle.tk_story.specs.declared.ends.mon_end.MonEnd.{MonEnd}
 use Rattle.tk_live.specs.Odd.{IsSomeOdd}
-use Rattle.tk_live.specs.declared.outcome.Outcome.{Outcome}
+use Rattle.tk_live.specs.declared.outcome.LiveOutcome.{LiveOutcome}
 use Rattle.tk_live.proofs.CompleteLemmas.{count_made, odd_never}
 use Rattle.tk_live.proofs.TellLemmas.{concludes_fault}
 use Rattle.tk_live.proofs.ToldLemmas.{join_means, joined_counted, linked_means, nothing_odd, told_counted, told_fault}
@@ -26,7 +26,7 @@ returns-in-Some-clause-concludes g c = λ version was taken taken' front complet
 pub returns-in-Some-clause-failed : goal.returns-in-Some-clause-failed
 returns-in-Some-clause-failed g c = λ e.
     let left = c.args.left in
-    let told = ap (λ (l : Outcome). l.status) c.kept.ensures in
+    let told = ap (λ (l : LiveOutcome). l.status) c.kept.ensures in
     let means = linked_means left.parting left.why c.is_odd-odd.result c.has_risen-risen.result (sym c.unjoined.ensures ∙ c.in-Some.is ∙ ap Some (sym told ∙ e)) in
     subst (HasRisen c.args.faults) c.faults.ensures (c.has_risen-risen.ensures means.1.1)
 
@@ -34,7 +34,7 @@ pub returns-in-Some-clause-counted : goal.returns-in-Some-clause-counted
 returns-in-Some-clause-counted g c = λ was is.
     let left = c.args.left in
     let told = told_counted left.parting left.why c.is_odd-odd.result c.has_risen-risen.result c.in-Some.status (sym c.unjoined.ensures ∙ c.in-Some.is) was in
-    is ∙ (told ∙ ap (λ (l : Outcome). faults_told l.status was) (sym c.kept.ensures))
+    is ∙ (told ∙ ap (λ (l : LiveOutcome). faults_told l.status was) (sym c.kept.ensures))
 
 -- the ends are joined
 pub returns-in-None-clause-counted : goal.returns-in-None-clause-counted

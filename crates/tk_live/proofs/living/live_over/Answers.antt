@@ -2,7 +2,7 @@ use Rattle.std.proofs.Common.{◌≡◌, None, ap, sym, subst, ◌∙◌}
 use Rattle.tk_input.specs.Files.{HasRisen}
 use Rattle.tk_live.specs.Lived.{Concludes}
 use Rattle.tk_live.specs.Traffic.{traffic_of}
-use Rattle.tk_live.specs.declared.outcome.Outcome.{Outcome}
+use Rattle.tk_live.specs.declared.outcome.LiveOutcome.{LiveOutcome}
 use Rattle.tk_live.proofs.CountLemmas.{unstarted_spared}
 use Rattle.tk_live.proofs.TellLemmas.{concludes_unstarted}
 use Rattle.tk_live.proofs.ToldLemmas.{net_is, net_linked}
@@ -25,7 +25,7 @@ returns-in-Err-clause-ends g c =
 
 pub returns-in-Err-clause-failed : goal.returns-in-Err-clause-failed
 returns-in-Err-clause-failed g c = λ is.
-    let told = ap (λ (l : Outcome). l.status) c.unstarted-in-Err.ensures ∙ c.of_net.ensures in
+    let told = ap (λ (l : LiveOutcome). l.status) c.unstarted-in-Err.ensures ∙ c.of_net.ensures in
     subst (λ n. HasRisen n (g.N.Net.state c.make_stage.new.net).faults) c.faults-faults.ensures
     (subst (HasRisen c.faults-faults.result) c.faults.ensures (c.has_risen.ensures (net_linked c.in-Err.fault c.has_risen.result (sym told ∙ is))))
 

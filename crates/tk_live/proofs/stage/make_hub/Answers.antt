@@ -4,7 +4,7 @@ use Rattle.tk_coord.specs.Coordinator.{CoordinatorView}
 use Rattle.tk_journal.specs.Legal.{inputs_of, start}
 use Rattle.tk_journal.specs.Publishing.{publications}
 use Rattle.tk_journal.specs.Readings.{is_stopped}
-use Rattle.tk_live.proofs.StageLemmas.{opened_unpublished, opened_unstopped}
+use Rattle.tk_coord.proofs.BatchLemmas.{opened_unpublished, opened_running}
 use Rattle.tk_live.proofs.stage.make_hub.Goals as goal
 
 pub new-requires-2 : goal.new-requires-2
@@ -16,4 +16,4 @@ returns-in-Ok-new-clause-unwritten g c =
 
 pub returns-in-Ok-new-clause-unstopped : goal.returns-in-Ok-new-clause-unstopped
 returns-in-Ok-new-clause-unstopped g c =
-    ap (λ (k : CoordinatorView). is_stopped k.journal) c.in-Ok-new.ensures.coordinator ∙ ap is_stopped c.in-Ok.ensures.journal ∙ opened_unstopped (start c.args.plan.now.input.settings)
+    ap (λ (k : CoordinatorView). is_stopped k.journal) c.in-Ok-new.ensures.coordinator ∙ ap is_stopped c.in-Ok.ensures.journal ∙ opened_running (start c.args.plan.now.input.settings)

@@ -1,7 +1,11 @@
 use Rattle.std.proofs.Common.{◌^◌, ℕ, List, ap, sym, ◌∙◌}
 use Rattle.std.specs.Prelude.{nat_lt, position}
 use Rattle.tk_input.proofs.GreatLemmas.{great_found, great_missing}
+use Rattle.tk_input.proofs.SmallLemmas.{small_pass}
 use Rattle.tk_input.proofs.logs.judging.first_great.Goals as goal
+
+pub returns-then-are_narrow : goal.returns-then-are_narrow
+returns-then-are_narrow c = sym (small_pass c.args.objects c.args.row.now (c.are_narrow.ensures c.if-are_narrow.true) c.requires.updates)
 
 pub returns-in-Some : goal.returns-in-Some
 returns-in-Some c =

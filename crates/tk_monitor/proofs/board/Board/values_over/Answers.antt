@@ -2,10 +2,9 @@ use Rattle.std.proofs.Common.{◌≡◌, ℕ, ◌++◌, ◌∷◌, [], ◌<◌, 
 use Rattle.std.specs.Prelude.{ℤ, FitsSigned}
 use Rattle.std.specs.Int.{w128}
 use Rattle.std.proofs.lemmas.Int.{ints, to_z-of_z}
-use Rattle.std.proofs.lemmas.List.{map-append, take_all}
+use Rattle.std.proofs.lemmas.List.{take_all}
 use Rattle.tk_base.specs.Ascending.{IsAscending}
-use Rattle.tk_base.specs.Pairs.{pairs_of, objects_of}
-use Rattle.tk_base.specs.declared.ids.Obj.{Obj}
+use Rattle.tk_base.specs.Pairs.{objects_of}
 use Rattle.tk_base.proofs.AscendingLemmas.{ascending_positive}
 use Rattle.tk_border.specs.Levels.{level_at}
 use Rattle.tk_monitor.specs.Board.{values_in}
@@ -27,8 +26,7 @@ loop-i-preserved c =
     let asked = c.args.asked.now in
     let o = c.at-o.result.0 in
     let at : o ≡ get_or asked c.loop-i.i 0 = c.at-o.ensures.value in
-    ap pairs_of c.in_ok-push.ensures.items
-    ∙ map-append (λ (p : Obj × ℤ). (p.0.0, p.1)) c.loop-i.list.items _
+    c.in_ok-push.ensures.ok
     ∙ ap (λ (front : List (ℕ × ℤ)). front ++ (o, to_z w128 (of_z w128 c.value.result)) ∷ []) c.loop-i.invariant
     ∙ ap (λ (z : ℤ). values_in values (take c.loop-i.i asked) ++ (o, z) ∷ []) (to_z-of_z w128 c.value.result fits ∙ c.value.ensures)
     ∙ ap (λ (q : ℕ). values_in values (take c.loop-i.i asked) ++ (q, level_at values q) ∷ []) at
@@ -37,8 +35,8 @@ loop-i-preserved c =
 pub unwrap-requires : goal.unwrap-requires
 unwrap-requires c =
     let asked = c.args.asked.now in
-    let listed : objects_of (pairs_of c.loop-i.list.items) ≡ asked =
+    let listed : objects_of c.loop-i.list ≡ asked =
     ap objects_of c.loop-i.invariant
     ∙ objects-values c.args.self.now.values (take c.loop-i.i asked)
     ∙ take_all c.loop-i.i asked (omega (arith, c.len-i-end.ensures.value)) in
-    c.new.ensures.ascends.1 (subst IsAscending (sym listed) c.len-i-end.ensures.ascends)
+    c.finish.ensures.ascends.1 (subst IsAscending (sym listed) c.len-i-end.ensures.ascends)

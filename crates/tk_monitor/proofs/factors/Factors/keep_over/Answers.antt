@@ -3,10 +3,9 @@ use Rattle.std.specs.Prelude.{ℤ, Option, FitsSigned, All, unsigned_abs, ◌^�
 use Rattle.std.specs.Int.{w128}
 use Rattle.std.proofs.lemmas.Bool.{cases_lt}
 use Rattle.std.proofs.lemmas.Int.{ints, to_z-of_z}
-use Rattle.std.proofs.lemmas.List.{map-append, take_all}
+use Rattle.std.proofs.lemmas.List.{take_all}
 use Rattle.tk_base.specs.Ascending.{IsAscending}
-use Rattle.tk_base.specs.Pairs.{pairs_of, objects_of}
-use Rattle.tk_base.specs.declared.ids.Obj.{Obj}
+use Rattle.tk_base.specs.Pairs.{objects_of}
 use Rattle.tk_monitor.specs.Factors.{factor_in, factors_over, HasFactor}
 use Rattle.tk_monitor.proofs.FactorsLemmas.{factor_small, factors_more, objects-factors, factors_over-small, got_pair}
 use Rattle.tk_monitor.proofs.factors.Factors.keep_over.Goals as goal
@@ -22,8 +21,7 @@ loop-i-preserved c =
     let fits : FitsSigned w128 factor = omega (arith, ints, c.in_ok-keep.ensures.size) in
     record {
       listed =
-          ap pairs_of c.in_ok-push.ensures.items
-          ∙ map-append (λ (p : Obj × ℤ). (p.0.0, p.1)) c.loop-i.list.items _
+          c.in_ok-push.ensures.ok
           ∙ ap (λ (front : List (ℕ × ℤ)). front ++ (o, to_z w128 (of_z w128 factor)) ∷ []) c.loop-i.invariant.listed
           ∙ ap (λ (z : ℤ). factors_over old (take i changes) ++ (o, z) ∷ []) (to_z-of_z w128 factor fits ∙ c.in_ok-keep.ensures.value ∙ c.loop-i.invariant.same o)
           ∙ sym (factors_more old changes i change c.at.ensures.value);
@@ -42,10 +40,10 @@ pub unwrap-requires : goal.unwrap-requires
 unwrap-requires c =
     let old = c.args.self.now in
     let changes = c.args.changes.now in
-    let listed : objects_of (pairs_of c.loop-i.list.items) ≡ objects_of changes =
+    let listed : objects_of c.loop-i.list ≡ objects_of changes =
     ap objects_of c.loop-i.invariant.listed ∙ objects-factors old (take c.loop-i.i changes)
     ∙ ap objects_of (take_all c.loop-i.i changes (omega (arith, c.len-i-end.ensures.value))) in
-    c.new.ensures.ascends.1 (subst IsAscending (sym listed) c.len-i-end.ensures.ascends)
+    c.finish.ensures.ascends.1 (subst IsAscending (sym listed) c.len-i-end.ensures.ascends)
 
 pub returns-clause-kept : goal.returns-clause-kept
 returns-clause-kept c k d within = c.loop-i.invariant.kept k d (omega (arith, within, c.len-i-end.ensures.value, c.loop-i-test.false))
@@ -54,7 +52,7 @@ pub returns-clause-sizes : goal.returns-clause-sizes
 returns-clause-sizes c =
     let old = c.args.self.now in
     let changes = c.args.changes.now in
-    let made : c.unwrap.result ≡ pairs_of c.loop-i.list.items = rw c.unwrap.ensures at c.new.ensures.ok in
+    let made : c.unwrap.result ≡ c.loop-i.list = rw c.unwrap.ensures at c.finish.ensures.ok in
     let all : take c.loop-i.i changes ≡ changes = take_all c.loop-i.i changes (omega (arith, c.len-i-end.ensures.value)) in
     let small : (o : ℕ) → unsigned_abs (factor_in old o) ≤ 2 ^ 112 = λ o. subst (λ (kept : List (Option ℤ)). unsigned_abs (factor_in kept o) ≤ 2 ^ 112) c.self.view_is (factor_small c.self.inside.slots.items c.self.inside.list.items o c.self.invariant) in
     subst (λ (ps : List (ℕ × ℤ)). All (λ p. unsigned_abs p.1 ≤ 2 ^ 112) ps) (sym (made ∙ c.loop-i.invariant.listed ∙ ap (factors_over old) all)) (factors_over-small old changes (2 ^ 112) small)
